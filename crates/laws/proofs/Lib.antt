@@ -1,0 +1,4 @@
+pub mod Pick
+pub mod Rows
+pub mod Octets
+pub mod Lists

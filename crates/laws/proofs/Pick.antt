@@ -1,0 +1,37 @@
+-- What answers a `return` of code against a definition made of `pick`s: rules for `search`.
+-- Assumes nothing.
+use mathlib.Core.Path.{_≡_, refl, sym, _∙_}
+use mathlib.Core.Bool.{Bool, true, false, not}
+use borrow.Author.Tests.{lt-ltb, le-ltb, le-leb, lt-leb, eq-eqb, ne-eqb}
+use Rattle.laws.specs.Pick.{pick}
+
+pub pick-t : (A : Type 0) (test : Bool) (x a b : A) → test ≡ true → x ≡ a → x ≡ pick test a b
+unfolding pick
+pick-t A test x a b e p = rw e p
+
+pub pick-f : (A : Type 0) (test : Bool) (x a b : A) → test ≡ false → x ≡ b → x ≡ pick test a b
+unfolding pick
+pick-f A test x a b e p = rw e p
+
+-- what a call returned, and what the branch on it says
+pub told : (r test value : Bool) → r ≡ test → r ≡ value → test ≡ value
+told r test value e f = sym e ∙ f
+
+-- a choice has what both sides have
+pub either : {A : Type 0} (P : A → Type 0) (test : Bool) {x y : A} → P x → P y → P (pick test x y)
+unfolding pick
+either P true p q = p
+either P false p q = q
+
+-- a choice seen through a function, and one by the opposite test
+pub pick-map : {A B : Type 0} (f : A → B) (test : Bool) {x y : A} {x′ y′ : B} → x′ ≡ f x → y′ ≡ f y → pick test x′ y′ ≡ f (pick test x y)
+unfolding pick
+pick-map f true p q = p
+pick-map f false p q = q
+
+pub pick-not : {A : Type 0} (test : Bool) (x y : A) → pick (not test) x y ≡ pick test y x
+unfolding pick
+pick-not true x y = refl
+pick-not false x y = refl
+
+pub ruleset steps = (pick-t, pick-f, lt-ltb, le-ltb, le-leb, lt-leb, eq-eqb, ne-eqb)

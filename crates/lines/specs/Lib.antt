@@ -1,0 +1,4 @@
+pub mod Line
+pub mod Moves
+pub mod Follower
+pub mod Traces

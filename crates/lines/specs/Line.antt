@@ -1,0 +1,46 @@
+-- "Lines and moves": the five lines, their part in a setting and their owners.
+use Prim.Native.Nat.{ℕ, _/_, _%_}
+use mathlib.Core.Path.{_≡_}
+use mathlib.Core.Bool.{Bool, Bool·beq}
+use mathlib.Core.List.{List, [], _∷_}
+use lib.Dec.{eqb}
+use Rattle.laws.specs.Pick.{pick}
+use Rattle.lines.specs.declared.line.Line.{Line}
+use Rattle.lines.specs.declared.line.Line.the-variants.{SelectOut, SlaveIn, MasterOut, SyncIn, SyncOut}
+use Rattle.lines.specs.declared.line.Side.{Side}
+use Rattle.lines.specs.declared.line.Side.the-variants.{Controller, Drive}
+
+-- "A setting is the sum of SELECT OUT 16, SLAVE IN 8, MASTER OUT 4, SYNC IN 2, SYNC OUT 1 (our numbering)."
+abbrev pub weightOf : Line → ℕ
+weightOf SelectOut = 16
+weightOf SlaveIn = 8
+weightOf MasterOut = 4
+weightOf SyncIn = 2
+weightOf SyncOut = 1
+
+-- "SLAVE IN and SYNC IN are the drive's, the others the controller's."
+abbrev pub ownerOf : Line → Side
+ownerOf SelectOut = Controller
+ownerOf SlaveIn = Drive
+ownerOf MasterOut = Controller
+ownerOf SyncIn = Drive
+ownerOf SyncOut = Controller
+
+abbrev pub allLines : List Line
+allLines = SelectOut ∷ SlaveIn ∷ MasterOut ∷ SyncIn ∷ SyncOut ∷ []
+
+abbrev pub isUp : Line → ℕ → Bool
+isUp line setting = eqb (setting / weightOf line % 2) 1
+
+-- The owners of those of the lines that differ between two settings.
+abbrev pub movedOwners : List Line → ℕ → ℕ → List Side
+movedOwners [] old new = []
+movedOwners (line ∷ lines) old new =
+    pick (Bool·beq (isUp line old) (isUp line new)) (movedOwners lines old new) (ownerOf line ∷ movedOwners lines old new)
+
+-- The promises of `weight` and `owner`.
+pub record WeightSaid (line : Line) (r : ℕ) : Type 0 where
+  pub answer : r ≡ weightOf line
+
+pub record OwnerSaid (line : Line) (r : Side) : Type 0 where
+  pub answer : r ≡ ownerOf line

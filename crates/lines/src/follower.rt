@@ -1,0 +1,175 @@
+// The follower of one port's lines, by value: a step for each setting that is seen.
+use crate::line;
+use crate::table::entry;
+ghost use Prim.Native.Nat.{_<_};
+ghost use mathlib.Core.Path.{_≡_};
+ghost use Rattle.lines.specs.Follower.{isReached, lacksHistory, remembers, undefinedAt, whileLost, moved, Started, Stepped};
+
+pub struct Follower {
+    pub setting: u8,
+    // At SELECT, MASTEND and SLAVACK: the history that a later move needs is there.
+    pub history: bool,
+    pub lost: bool,
+}
+
+pub enum Answer {
+    Same,
+    Controllers,
+    Drives,
+    Undefined,
+    Lost,
+    Idle,
+    Refused(u8),
+}
+
+pub struct Followed {
+    pub answer: Answer,
+    pub follower: Follower,
+}
+
+impl Follower {
+    // The follower that has seen nothing yet: IDLE.
+    pub fn start() -> Follower
+        ensures { λ r. ⌜ Started r ⌝ }
+    {
+        Follower {
+            setting: line::IDLE,
+            history: false,
+            lost: false,
+        }
+    }
+
+    // Sees a setting. 11 for a state that no trace reaches, 8 for a setting over 31: then nothing changes.
+    pub fn step(self, setting: u8) -> Followed
+        ensures { λ r. ⌜ Stepped self setting r ⌝ }
+    {
+        if !self.is_reached() {
+            return Followed {
+                answer: Answer::Refused(line::STATE_NEVER_REACHED),
+                follower: self,
+            };
+        }
+        if line::LAST_SETTING < setting {
+            return Followed {
+                answer: Answer::Refused(line::OVER_LAST_SETTING),
+                follower: self,
+            };
+        }
+        if self.lost {
+            return while_lost(setting);
+        }
+        self.moved(setting)
+    }
+
+    // Does a trace from the start lead to this state?
+    fn is_reached(self) -> bool
+        ensures { λ r. ⌜ r ≡ isReached self ⌝ }
+    {
+        let s = self.setting;
+        if self.lost {
+            return (s == line::IDLE) & !self.history;
+        }
+        if self.history {
+            return (s == line::SELECT) | (s == line::SLAVACK) | (s == line::MASTEND);
+        }
+        (s == line::IDLE)
+            | (s == line::MAINT)
+            | (s == line::REQUEST)
+            | (s == line::DESEL)
+            | (s == line::SELECT)
+            | (s == line::SLAVEND)
+            | (s == line::SLAVACK)
+            | (s == line::BUSCTL)
+            | (s == line::MASTEND)
+            | (s == line::BUSACK)
+            | (s == line::XFRRDY)
+            | (s == line::XFREND)
+            | (s == line::XFRST)
+            | (s == line::XFRRES)
+    }
+
+    fn moved(self, setting: u8) -> Followed
+        requires { ⌜ (self .setting < 32) × (setting < 32) ⌝ }
+        ensures { λ r. ⌜ r ≡ moved self setting ⌝ }
+    {
+        let said = entry(self.setting, setting);
+        match said {
+            0 => Followed {
+                answer: Answer::Same,
+                follower: self,
+            },
+            1 => {
+                if self.lacks_history(setting) {
+                    return undefined_at(setting);
+                }
+                Followed {
+                    answer: Answer::Controllers,
+                    follower: self.at(setting),
+                }
+            }
+            2 => Followed {
+                answer: Answer::Drives,
+                follower: self.at(setting),
+            },
+            _ => undefined_at(setting),
+        }
+    }
+
+    fn lacks_history(self, setting: u8) -> bool
+        ensures { λ r. ⌜ r ≡ lacksHistory self setting ⌝ }
+    {
+        !self.history
+            & ((self.setting == line::SLAVACK) & (setting == line::XFRRDY)
+                | (self.setting == line::SELECT) & (setting == line::IDLE))
+    }
+
+    fn at(self, setting: u8) -> Follower
+        ensures { λ r. ⌜ r ≡ remembers self setting ⌝ }
+    {
+        let history = (self.setting == line::IDLE) & (setting == line::SELECT)
+            | (self.setting == line::BUSACK) & (setting == line::MASTEND)
+            | (self.setting == line::MASTEND) & (setting == line::SLAVACK) & self.history;
+        Follower {
+            setting,
+            history,
+            lost: false,
+        }
+    }
+}
+
+// IDLE where the setting is 0, else lost.
+fn undefined_at(setting: u8) -> Followed
+    ensures { λ r. ⌜ r ≡ undefinedAt setting ⌝ }
+{
+    Followed {
+        answer: Answer::Undefined,
+        follower: Follower {
+            setting: line::IDLE,
+            history: false,
+            lost: setting != line::IDLE,
+        },
+    }
+}
+
+fn while_lost(setting: u8) -> Followed
+    ensures { λ r. ⌜ r ≡ whileLost setting ⌝ }
+{
+    if setting == line::IDLE {
+        return Followed {
+            answer: Answer::Idle,
+            follower: Follower {
+                setting: line::IDLE,
+                history: false,
+                lost: false,
+            },
+        };
+    }
+    Followed {
+        answer: Answer::Lost,
+        follower: Follower {
+            setting: line::IDLE,
+            history: false,
+            lost: true,
+        },
+    }
+}
