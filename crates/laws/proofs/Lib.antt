@@ -1,3 +1,4 @@
+pub mod Tests
 pub mod Pick
 pub mod Rows
 pub mod Octets

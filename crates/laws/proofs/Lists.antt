@@ -10,6 +10,7 @@ use borrow.Author.Tests.{eqb-true, eqb-false}
 use lib.Dec.{eqb}
 use lib.ListN.{length, getD, take, drop}
 use lib.Seq.{sets, sets-eq}
+use Rattle.laws.proofs.Tests.{and-l, and-r}
 use Rattle.laws.specs.Lists.{writtenOver, tableFrom, oneOf, oneOfOr}
 
 -- ---- a table's rule, at each entry
@@ -26,20 +27,16 @@ table-at rule count k h = table-from rule 0 count k h ∙ ap rule (zero-add k)
 
 -- ---- one computed test over all numbers below a bound; what holds of each of a list
 
-pub both : (a b : Bool) → (a && b) ≡ true → (a ≡ true) × (b ≡ true)
-both true b e = (refl, e)
-both false b e = (e, absurd (false≢true e))
-
 abbrev pub everyBelow : ℕ → (ℕ → Bool) → Bool
 everyBelow zero test = true
 everyBelow (suc n) test = test n && everyBelow n test
 
 pub every-below : (bound : ℕ) (test : ℕ → Bool) → everyBelow bound test ≡ true → (n : ℕ) → n < bound → test n ≡ true
 every-below zero test e n h = absurd (omega arith)
-every-below (suc bound) test e n h = last-or-below (eqb n bound) refl (every-below bound test (both (test bound) (everyBelow bound test) e .1) n)
+every-below (suc bound) test e n h = last-or-below (eqb n bound) refl (every-below bound test (and-r (test bound) (everyBelow bound test) e) n)
   where
     last-or-below : (last : Bool) → eqb n bound ≡ last → (n < bound → test n ≡ true) → test n ≡ true
-    last-or-below true p below = rw (eqb-true n bound p) (both (test bound) (everyBelow bound test) e .0)
+    last-or-below true p below = rw (eqb-true n bound p) (and-l (test bound) (everyBelow bound test) e)
     last-or-below false p below = let q = eqb-false n bound p in below (omega arith)
 
 abbrev pub Each : (ℕ → Type 0) → List ℕ → Type 0
@@ -64,7 +61,7 @@ every test (n ∷ list) = test n && every test list
 
 each-passes : (test : ℕ → Bool) (list : List ℕ) → every test list ≡ true → Each (λ n. test n ≡ true) list
 each-passes test [] e = tt
-each-passes test (n ∷ list) e = (both (test n) (every test list) e .0, each-passes test list (both (test n) (every test list) e .1))
+each-passes test (n ∷ list) e = (and-l (test n) (every test list) e, each-passes test list (and-r (test n) (every test list) e))
 
 pub every-one-of : (test : ℕ → Bool) (list : List ℕ) (n : ℕ) → oneOf list n ≡ true → every test list ≡ true → test n ≡ true
 every-one-of test list n e h = each-one-of (λ m. test m ≡ true) list n e (each-passes test list h)

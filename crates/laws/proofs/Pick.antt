@@ -1,8 +1,10 @@
 -- What answers a `return` of code against a definition made of `pick`s: rules for `search`.
 -- Assumes nothing.
+use Prim.Native.Nat.{ℕ, _≤_}
+use native.Mathlib.Omega.{arith}
 use mathlib.Core.Path.{_≡_, refl, sym, _∙_}
 use mathlib.Core.Bool.{Bool, true, false, not}
-use borrow.Author.Tests.{lt-ltb, le-ltb, le-leb, lt-leb, eq-eqb, ne-eqb}
+use borrow.Author.Tests.{lt-ltb, le-ltb, le-leb, lt-leb, eq-eqb, ne-eqb, not-true, not-false}
 use Rattle.laws.specs.Pick.{pick}
 
 pub pick-t : (A : Type 0) (test : Bool) (x a b : A) → test ≡ true → x ≡ a → x ≡ pick test a b
@@ -23,6 +25,12 @@ unfolding pick
 either P true p q = p
 either P false p q = q
 
+-- a part is no more than the whole
+pub pick-le : (test : Bool) (n : ℕ) → pick test n 0 ≤ n
+unfolding pick
+pick-le true n = omega arith
+pick-le false n = omega arith
+
 -- a choice seen through a function, and one by the opposite test
 pub pick-map : {A B : Type 0} (f : A → B) (test : Bool) {x y : A} {x′ y′ : B} → x′ ≡ f x → y′ ≡ f y → pick test x′ y′ ≡ f (pick test x y)
 unfolding pick
@@ -34,4 +42,13 @@ unfolding pick
 pick-not true x y = refl
 pick-not false x y = refl
 
+pub not-t : (test : Bool) → test ≡ false → not test ≡ true
+not-t test e = rw e
+
+pub not-f : (test : Bool) → test ≡ true → not test ≡ false
+not-f test e = rw e
+
 pub ruleset steps = (pick-t, pick-f, lt-ltb, le-ltb, le-leb, lt-leb, eq-eqb, ne-eqb)
+
+-- flags: a negated one, and one that a callee returned
+pub ruleset flags = (not-t, not-f, not-true, not-false, told)

@@ -32,3 +32,14 @@ pub reported : {A : Type 0} (report : A → ℕ) (refused : ℕ → A) → ((n :
     → (refusal : ℕ) (accepted : A) → report accepted ≡ 0 → report (unlessRefused refusal (refused refusal) accepted) ≡ refusal
 reported report refused told zero accepted e = e
 reported report refused told (suc n) accepted e = told (suc n)
+
+-- how code that computed a refusal meets `unlessRefused`: not 0, and it told it; 0, and it did the rest
+pub refused-as : {A : Type 0} (n refusal : ℕ) (told : ℕ → A) (new : A) → n ≡ refusal → (n ≡ 0 → ⊥) → told n ≡ unlessRefused refusal (told refusal) new
+refused-as n refusal told new e h = rw (← e) (at n h)
+  where
+    at : (n : ℕ) → (n ≡ 0 → ⊥) → told n ≡ unlessRefused n (told n) new
+    at zero h = absurd (h refl)
+    at (suc n) h = refl
+
+pub accepted-as : {A : Type 0} (n refusal : ℕ) (old new x : A) → n ≡ refusal → n ≡ 0 → x ≡ new → x ≡ unlessRefused refusal old new
+accepted-as n refusal old new x e z p = rw (← e, z) p

@@ -9,7 +9,8 @@ use borrow.Author.Tests.{eqb-true, ltb-true, ltb-false}
 use lib.Dec.{eqb, ltb}
 use Rattle.laws.specs.Pick.{pick}
 use Rattle.laws.specs.Lists.{oneOf}
-use Rattle.laws.proofs.Lists.{every-one-of, every, every-below, everyBelow, both, Each, each-one-of}
+use Rattle.laws.proofs.Tests.{and-l, and-r}
+use Rattle.laws.proofs.Lists.{every-one-of, every, every-below, everyBelow, Each, each-one-of}
 use Rattle.lines.specs.Moves.{entryOf}
 use Rattle.lines.specs.Follower.{isReached, seenSettings, settingsWithHistory, _with-history_, moved, movedBy, lacksHistory, remembers, undefinedAt, idle, lost, told, whileLost, stepOf}
 use Rattle.lines.specs.Traces.{after, Reached, ReachedExactly}
@@ -19,7 +20,7 @@ use Rattle.lines.specs.declared.follower.Answer.the-variants.{Idle, Lost
 
 below-32 : (history lost : Bool) (setting : ℕ) → isReached (record { setting = setting; history = history; lost = lost }) ≡ true → ltb setting 32 ≡ true
 unfolding isReached pick
-below-32 history true setting e = rw (eqb-true setting 0 (both (eqb setting 0) (not history) e .0))
+below-32 history true setting e = rw (eqb-true setting 0 (and-l (eqb setting 0) (not history) e))
 below-32 true false setting e = every-one-of (λ s. ltb s 32) settingsWithHistory setting e refl
 below-32 false false setting e = every-one-of (λ s. ltb s 32) seenSettings setting e refl
 
@@ -133,8 +134,8 @@ lost-reached = by (2 ∷ []) refl
 trace-of : (history gone : Bool) (setting : ℕ) → isReached (record { setting = setting; history = history; lost = gone }) ≡ true
     → Reached (record { setting = setting; history = history; lost = gone })
 unfolding isReached pick
-trace-of true true setting e = absurd (false≢true (both (eqb setting 0) false e .1))
-trace-of false true setting e = rw (eqb-true setting 0 (both (eqb setting 0) true e .0)) lost-reached
+trace-of true true setting e = absurd (false≢true (and-r (eqb setting 0) false e))
+trace-of false true setting e = rw (eqb-true setting 0 (and-l (eqb setting 0) true e)) lost-reached
 trace-of true false setting e = each-one-of (λ s. Reached (s with-history true)) settingsWithHistory setting e marked-reached
 trace-of false false setting e = each-one-of (λ s. Reached (s with-history false)) seenSettings setting e unmarked-reached
 

@@ -1,0 +1,14 @@
+-- `at_target` meets its contract.
+-- Assumes nothing.
+use Rattle.drive.specs.Drive.{atItsTarget}
+use Rattle.drive.proofs.drive.Drive.at_target.Statement.{statement}
+use Rattle.drive.proofs.drive.Drive.at_target.Tie as tie
+use Rattle.drive.proofs.drive.Drive.at_target.Reads as reads
+use Rattle.drive.proofs.drive.Drive.at_target.Lts as lts
+
+returns : tie.Need-returns
+unfolding atItsTarget
+returns c = cc
+
+pub at-target-spec : {M : Type 1} → statement M
+at-target-spec = tie.close (tie.spec returns)

@@ -1,0 +1,46 @@
+-- `owner_noticed` meets its contract.
+-- Assumes nothing.
+use Rattle.drive.specs.Drive.{ownerNoticed}
+use Rattle.laws.specs.Pick.{pick}
+use borrow.Author.Needs.{needs}
+use Rattle.drive.proofs.drive.Drive.owner_noticed.Statement.{statement}
+use Rattle.drive.proofs.drive.Drive.owner_noticed.Tie as tie
+use Rattle.drive.proofs.drive.Drive.owner_noticed.Reads as reads
+use Rattle.drive.proofs.drive.Drive.owner_noticed.Lts as lts
+use Rattle.drive.proofs.drive.Drive.pending_on.Reads as pending-on-reads
+use Rattle.drive.proofs.drive.Drive.posted_on.Reads as posted-on-reads
+use Rattle.drive.proofs.holding.Holding.is_owned_by_other.Reads as is-owned-by-other-reads
+use Rattle.drive.proofs.pending.Pending.noticed.Reads as noticed-reads
+
+-- Assumes nothing.
+
+is-owned-by-other-requires : tie.Need-is-owned-by-other-requires
+is-owned-by-other-requires c κs = search needs
+
+pending-on-requires : tie.Need-pending-on-requires
+pending-on-requires c κs = search needs
+
+noticed-requires : tie.Need-noticed-requires
+noticed-requires c κs = search needs
+
+posted-on-requires : tie.Need-posted-on-requires
+posted-on-requires c κs = search needs
+
+returns : tie.Need-returns
+unfolding ownerNoticed pick
+returns c = rw (← (c .before .before .before .before .is-owned-by-other .ensures), c .before .before .before .if1 .taken) (cc)
+
+returns-2 : tie.Need-returns-2
+unfolding ownerNoticed pick
+returns-2 c = rw (← (c .before .is-owned-by-other .ensures), c .if1 .left)
+
+pub owner-noticed-spec : {M : Type 1} → statement M
+owner-noticed-spec =
+    tie.close
+    (tie.spec
+    is-owned-by-other-requires
+    pending-on-requires
+    noticed-requires
+    posted-on-requires
+    returns
+    returns-2)

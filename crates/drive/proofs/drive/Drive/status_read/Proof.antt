@@ -1,0 +1,28 @@
+-- `status_read` meets its contract.
+-- Assumes nothing.
+use Rattle.drive.specs.Request.{statusRead}
+use borrow.Author.Needs.{needs}
+use Rattle.drive.proofs.drive.Drive.status_read.Statement.{statement}
+use Rattle.drive.proofs.drive.Drive.status_read.Tie as tie
+use Rattle.drive.proofs.drive.Drive.status_read.Reads as reads
+use Rattle.drive.proofs.drive.Drive.status_read.Lts as lts
+use Rattle.drive.proofs.drive.Drive.pending_on.Reads as pending-on-reads
+use Rattle.drive.proofs.drive.Drive.posted_on.Reads as posted-on-reads
+use Rattle.drive.proofs.pending.Pending.octet0.Reads as octet0-reads
+
+pending-on-requires : tie.Need-pending-on-requires
+pending-on-requires c κs = search needs
+
+octet0-requires : tie.Need-octet0-requires
+octet0-requires c κs = search needs
+
+posted-on-requires : tie.Need-posted-on-requires
+posted-on-requires c κs = search needs
+
+returns : tie.Need-returns
+unfolding statusRead
+returns c = cc
+
+pub status-read-spec : {M : Type 1} → statement M
+status-read-spec =
+    tie.close (tie.spec pending-on-requires octet0-requires posted-on-requires returns)

@@ -1,0 +1,23 @@
+-- `lacks_room` meets its contract.
+-- Assumes nothing.
+use Rattle.drive.specs.Refusal.{row10}
+use borrow.Author.Needs.{needs}
+use Rattle.drive.proofs.refusal.lacks_room.Statement.{statement}
+use Rattle.drive.proofs.refusal.lacks_room.Tie as tie
+use Rattle.drive.proofs.refusal.lacks_room.Reads as reads
+use Rattle.drive.proofs.refusal.lacks_room.Lts as lts
+use Rattle.drive.proofs.setup.Setup.all_words.Reads as all-words-reads
+use Rattle.drive.proofs.setup.Setup.sector_words.Reads as sector-words-reads
+
+all-words-requires : tie.Need-all-words-requires
+all-words-requires c κs = search needs
+
+sector-words-requires : tie.Need-sector-words-requires
+sector-words-requires c κs = search needs
+
+returns : tie.Need-returns
+unfolding row10
+returns c = cc
+
+pub lacks-room-spec : {M : Type 1} → statement M
+lacks-room-spec = tie.close (tie.spec all-words-requires sector-words-requires returns)

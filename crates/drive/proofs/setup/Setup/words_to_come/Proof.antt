@@ -1,0 +1,54 @@
+-- `words_to_come` meets its contract.
+-- Assumes nothing.
+use Rattle.drive.specs.Control.{wordsToCome}
+use borrow.Author.Needs.{needs}
+use Rattle.drive.proofs.setup.Setup.words_to_come.Statement.{statement}
+use Rattle.drive.proofs.setup.Setup.words_to_come.Tie as tie
+use Rattle.drive.proofs.setup.Setup.words_to_come.Reads as reads
+use Rattle.drive.proofs.setup.Setup.words_to_come.Lts as lts
+use Rattle.drive.proofs.control.header_passes.Reads as header-passes-reads
+use Rattle.drive.proofs.control.names_field1.Reads as names-field1-reads
+use Rattle.drive.proofs.control.names_field2.Reads as names-field2-reads
+use Rattle.drive.proofs.control.part_of.Reads as part-of-reads
+
+header-passes-requires : tie.Need-header-passes-requires
+header-passes-requires c κs = search needs
+
+part-of-requires : tie.Need-part-of-requires
+part-of-requires c κs = search needs
+
+names-field1-requires : tie.Need-names-field1-requires
+names-field1-requires c κs = search needs
+
+part-of-requires-2 : tie.Need-part-of-requires-2
+part-of-requires-2 c κs = search needs
+
+names-field2-requires : tie.Need-names-field2-requires
+names-field2-requires c κs = search needs
+
+part-of-requires-3 : tie.Need-part-of-requires-3
+part-of-requires-3 c κs = search needs
+
+add-result : tie.Need-add-result
+add-result c = search needs
+
+add-result-2 : tie.Need-add-result-2
+add-result-2 c = search needs
+
+returns : tie.Need-returns
+unfolding wordsToCome
+returns c = cc
+
+pub words-to-come-spec : {M : Type 1} → statement M
+words-to-come-spec =
+    tie.close
+    (tie.spec
+    header-passes-requires
+    part-of-requires
+    names-field1-requires
+    part-of-requires-2
+    names-field2-requires
+    part-of-requires-3
+    add-result
+    add-result-2
+    returns)

@@ -1,0 +1,47 @@
+-- What changes the drive's state: selection, deselection and reset ("Who holds the drive"), and the moves of its position.
+use Prim.Native.Nat.{ℕ}
+use Rattle.laws.specs.Pick.{pick}
+use Rattle.drive.specs.Setup.{noTarget, following}
+use Rattle.drive.specs.Holding.{isOwnedByOther, grantedTo, released, free}
+use Rattle.drive.specs.Pending.{resetComplete, pendingOf, noticed}
+use Rattle.drive.specs.State.{atPlace, noTransfer, withHolding, withPlace, withTransfer, pendingOn, postedOn}
+use Rattle.drive.specs.declared.drive.Drive.{Drive}
+
+-- "A grant over another owner is a takeover: its selection, hold and open transfer are gone, and Alternate Port Priority Select goes pending on it."
+unfoldable pub ownerNoticed : Drive → ℕ → Drive
+ownerNoticed d port =
+    let owner = d .holding .owner in
+    pick (isOwnedByOther (d .holding) port) (postedOn d owner (noticed (pendingOn d owner))) d
+
+unfoldable pub selected : Drive → ℕ → ℕ → Drive
+selected d port octet = withTransfer (withHolding (ownerNoticed d port) (grantedTo port octet)) noTransfer
+
+-- "Deselect frees the drive if the hold is none; otherwise the port still owns it."
+unfoldable pub deselected : Drive → Drive
+deselected d = withHolding d (released (d .holding))
+
+-- "Reset, from either port: nobody selected, no hold, no transfer, position 0/0/0, target FFFF, and exactly Reset Complete pending on both ports."
+unfoldable pub afterReset : Drive → Drive
+afterReset d =
+    record {
+      setup = d .setup;
+      holding = free;
+      place = atPlace 0 0 0;
+      target = noTarget;
+      transfer = noTransfer;
+      pending0 = pendingOf resetComplete 0;
+      pending1 = pendingOf resetComplete 0;
+    }
+
+-- "Step Head (head plus one, 0 after the last; sector unchanged)"
+unfoldable pub headStepped : Drive → Drive
+headStepped d = withPlace d (atPlace (d .place .cylinder) (following (d .place .head) (d .setup .heads)) (d .place .sector))
+
+-- "The sector is the position's, or the target's for "at target", which becomes the position."
+unfoldable pub atItsTarget : Drive → Drive
+atItsTarget d = withPlace d (atPlace (d .place .cylinder) (d .place .head) (d .target))
+
+-- "However it ends inside the session, the sector becomes the next, 0 after the last."
+unfoldable pub ended : Drive → Drive
+ended d =
+    withTransfer (withPlace d (atPlace (d .place .cylinder) (d .place .head) (following (d .place .sector) (d .setup .sectors)))) noTransfer

@@ -1,0 +1,64 @@
+-- "Status", kinds 3, 7, 8 and 9: a data control, a position, a target, the status response.
+use Prim.Native.Nat.{ℕ}
+use lib.Dec.{eqb}
+use Rattle.laws.specs.Pick.{pick}
+use Rattle.drive.specs.Setup.{isPlace, isTarget, noTarget}
+use Rattle.drive.specs.Control.{controlOf, isAtTarget, wordsToCome}
+use Rattle.drive.specs.Pending.{invalidBusControl, invalidParameter, unsupportedBusControl, busControlContext, nothingPending, faulted, octet0}
+use Rattle.drive.specs.Answer.{normal, operationException, unsolicitedException}
+use Rattle.drive.specs.State.{transferring, withPlace, withTarget, withTransfer, pendingOn, postedOn, told}
+use Rattle.drive.specs.Drive.{headStepped, atItsTarget, ended}
+use Rattle.drive.specs.declared.setup.Place.{Place}
+use Rattle.drive.specs.declared.control.Control.{Control}
+use Rattle.drive.specs.declared.control.Control.the-variants.{Write, Read, StepHead, Reserved, Unsupported, Invalid}
+use Rattle.drive.specs.declared.drive.Drive.{Drive}
+use Rattle.drive.specs.declared.answer.Outcome.{Outcome}
+use Rattle.drive.specs.declared.answer.Answer.the-variants.{Status, Opened, Response}
+
+-- ---- kinds 3, 7 and 8
+
+-- "a bad request gives 8 and sets a bit in octet 2"
+unfoldable pub badRequest : Drive → ℕ → ℕ → Outcome
+badRequest d port bit = told (Status operationException) (postedOn d port (faulted (pendingOn d port) bit))
+
+-- "in order: any pending bit in response octet 1 gives C and changes nothing; then" the request.
+abbrev pub unlessUnsolicited : Drive → ℕ → Outcome → Outcome
+unlessUnsolicited d port request = pick (eqb (pendingOn d port .octet1) 0) request (told (Status unsolicitedException) d)
+
+-- "The answer that opens a transfer tells the number of words to come and the place. No words to come: it ends at once, with status 0 alone."
+unfoldable pub opened : Drive → ℕ → Outcome
+opened d c =
+    pick (eqb (wordsToCome (d .setup) c) 0) (told (Status normal) (ended d))
+    (told (Opened (wordsToCome (d .setup) c) (d .place)) (withTransfer d (transferring c 0)))
+
+-- ""At target" with FFFF: bit 4."
+unfoldable pub opening : Drive → ℕ → ℕ → Outcome
+opening d port c = pick (isAtTarget c) (pick (eqb (d .target) noTarget) (badRequest d port busControlContext) (opened (atItsTarget d) c)) (opened d c)
+
+abbrev pub controlled : Control → Drive → ℕ → ℕ → Outcome
+controlled Write d port c = opening d port c
+controlled Read d port c = opening d port c
+controlled StepHead d port c = told (Status normal) (headStepped d)
+controlled Reserved d port c = badRequest d port invalidBusControl
+controlled Unsupported d port c = badRequest d port unsupportedBusControl
+controlled Invalid d port c = badRequest d port invalidBusControl
+
+unfoldable pub dataControl : Drive → ℕ → ℕ → Outcome
+dataControl d port c = unlessUnsolicited d port (controlled (controlOf c) d port c)
+
+-- "A place or target outside the drive: bit 6. .. Otherwise kinds 7 and 8 give 0".
+unfoldable pub positioned : Drive → ℕ → Place → Outcome
+positioned d port p =
+    unlessUnsolicited d port (pick (isPlace (d .setup) p) (told (Status normal) (withPlace d p)) (badRequest d port invalidParameter))
+
+unfoldable pub targeted : Drive → ℕ → ℕ → Outcome
+targeted d port target =
+    unlessUnsolicited d port (pick (isTarget (d .setup) target) (told (Status normal) (withTarget d target)) (badRequest d port invalidParameter))
+
+-- ---- kind 9
+
+-- "Read status answers 0 with the octets and clears that port's".
+unfoldable pub statusRead : Drive → ℕ → Outcome
+statusRead d port =
+    let p = pendingOn d port in
+    told (Response (octet0 p) (p .octet1) (p .octet2)) (postedOn d port nothingPending)

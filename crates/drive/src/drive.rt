@@ -1,0 +1,162 @@
+// The drive's state, by value, and what changes it: selection, deselection and reset hand the new state back.
+use crate::holding;
+use crate::holding::Holding;
+use crate::pending;
+use crate::pending::Pending;
+use crate::setup;
+use crate::setup::NO_TARGET;
+use crate::setup::Place;
+use crate::setup::Setup;
+use crate::transfer;
+use crate::transfer::Transfer;
+ghost use mathlib.Core.Path.{_≡_};
+ghost use Rattle.laws.specs.Pick.{pick};
+ghost use Rattle.drive.specs.State.{pendingOn, postedOn};
+ghost use Rattle.drive.specs.Drive.{ownerNoticed, selected, deselected, afterReset, ended, atItsTarget, headStepped};
+
+pub struct Drive {
+    pub setup: Setup,
+    pub holding: Holding,
+    pub place: Place,
+    pub target: u16,
+    pub transfer: Transfer,
+    pub pending0: Pending,
+    pub pending1: Pending,
+}
+
+impl Drive {
+    pub(crate) fn pending_on(self, port: u16) -> Pending
+        ensures { λ r. ⌜ r ≡ pendingOn self port ⌝ }
+    {
+        let p0 = self.pending0;
+        let p1 = self.pending1;
+        chosen(port == 0, p0, p1)
+    }
+
+    pub(crate) fn posted_on(self, port: u16, pending: Pending) -> Drive
+        ensures { λ r. ⌜ r ≡ postedOn self port pending ⌝ }
+    {
+        let p0 = self.pending0;
+        let p1 = self.pending1;
+        let q0 = chosen(port == 0, pending, p0);
+        let q1 = chosen(port == 0, p1, pending);
+        let mut d = self;
+        d.pending0 = q0;
+        d.pending1 = q1;
+        d
+    }
+
+    // A granted selection.
+    pub(crate) fn select(self, port: u16, octet: u8) -> Drive
+        ensures { λ r. ⌜ r ≡ selected self port octet ⌝ }
+    {
+        let granted = holding::granted_to(port, octet);
+        let none = transfer::no_transfer();
+        let mut d = self.owner_noticed(port);
+        d.holding = granted;
+        d.transfer = none;
+        d
+    }
+
+    pub(crate) fn deselect(self) -> Drive
+        ensures { λ r. ⌜ r ≡ deselected self ⌝ }
+    {
+        let h = self.holding;
+        let left = h.released();
+        let mut d = self;
+        d.holding = left;
+        d
+    }
+
+    pub(crate) fn reset(self) -> Drive
+        ensures { λ r. ⌜ r ≡ afterReset self ⌝ }
+    {
+        let s = self.setup;
+        Drive {
+            setup: s,
+            holding: holding::no_holding(),
+            place: Place {
+                cylinder: 0,
+                head: 0,
+                sector: 0,
+            },
+            target: NO_TARGET,
+            transfer: transfer::no_transfer(),
+            pending0: Pending {
+                octet1: pending::RESET_COMPLETE,
+                octet2: 0,
+            },
+            pending1: Pending {
+                octet1: pending::RESET_COMPLETE,
+                octet2: 0,
+            },
+        }
+    }
+
+    // A takeover is told to the port that loses the drive.
+    fn owner_noticed(self, port: u16) -> Drive
+        ensures { λ r. ⌜ r ≡ ownerNoticed self port ⌝ }
+    {
+        let h = self.holding;
+        let owner = h.owner;
+        if h.is_owned_by_other(port) {
+            let p = self.pending_on(owner);
+            return self.posted_on(owner, p.noticed());
+        }
+        self
+    }
+
+    // A transfer ends inside the session.
+    pub(crate) fn ended(self) -> Drive
+        ensures { λ r. ⌜ r ≡ ended self ⌝ }
+    {
+        let s = self.setup;
+        let p = self.place;
+        let next = Place {
+            cylinder: p.cylinder,
+            head: p.head,
+            sector: setup::next_of(p.sector, s.sectors),
+        };
+        let none = transfer::no_transfer();
+        let mut d = self;
+        d.place = next;
+        d.transfer = none;
+        d
+    }
+
+    // The target becomes the position's sector.
+    pub(crate) fn at_target(self) -> Drive
+        ensures { λ r. ⌜ r ≡ atItsTarget self ⌝ }
+    {
+        let p = self.place;
+        let there = Place {
+            cylinder: p.cylinder,
+            head: p.head,
+            sector: self.target,
+        };
+        let mut d = self;
+        d.place = there;
+        d
+    }
+
+    pub(crate) fn head_stepped(self) -> Drive
+        ensures { λ r. ⌜ r ≡ headStepped self ⌝ }
+    {
+        let s = self.setup;
+        let p = self.place;
+        let next = Place {
+            cylinder: p.cylinder,
+            head: setup::next_of(p.head, s.heads),
+            sector: p.sector,
+        };
+        let mut d = self;
+        d.place = next;
+        d
+    }
+}
+
+fn chosen(first: bool, a: Pending, b: Pending) -> Pending
+    ensures { λ r. ⌜ r ≡ pick first a b ⌝ }
+{
+    if first { a } else { b }
+}

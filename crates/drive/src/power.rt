@@ -1,0 +1,72 @@
+// Power-up: the limits, then the slices.
+use crate::drive::Drive;
+use crate::holding;
+use crate::pending::Pending;
+use crate::refusal;
+use crate::setup::NO_TARGET;
+use crate::setup::Place;
+use crate::setup::Setup;
+use crate::transfer;
+ghost use mathlib.Core.Path.{_≡_};
+ghost use Rattle.drive.specs.Power.{setupOf, atRest, PoweredUp};
+
+pub enum Powered {
+    Up(Drive),
+    Refused(u8),
+}
+
+// The drive at rest; or 9 for a number outside its limits, 10 for a slice too short. No lent word is touched.
+pub fn power_up(
+    cylinders: u16,
+    heads: u16,
+    sectors: u16,
+    header: u16,
+    field1: u16,
+    field2: u16,
+    address: u16,
+    sector_words: &[u16],
+    staging_words: &[u16],
+) -> Powered
+    ensures { λ r. ⌜ PoweredUp (setupOf cylinders heads sectors header field1 field2 address) (now («sector_words» .entry)) (now («staging_words» .entry)) r ⌝ }
+{
+    let setup = Setup {
+        cylinders,
+        heads,
+        sectors,
+        header,
+        field1,
+        field2,
+        address,
+    };
+    if !setup.within_limits() {
+        return Powered::Refused(refusal::OUTSIDE_ITS_LIMITS);
+    }
+    if refusal::lacks_room(setup, sector_words, staging_words) {
+        return Powered::Refused(refusal::SLICE_TOO_SHORT);
+    }
+    Powered::Up(at_rest(setup))
+}
+
+fn at_rest(setup: Setup) -> Drive
+    ensures { λ r. ⌜ r ≡ atRest setup ⌝ }
+{
+    Drive {
+        setup,
+        holding: holding::no_holding(),
+        place: Place {
+            cylinder: 0,
+            head: 0,
+            sector: 0,
+        },
+        target: NO_TARGET,
+        transfer: transfer::no_transfer(),
+        pending0: Pending {
+            octet1: 0,
+            octet2: 0,
+        },
+        pending1: Pending {
+            octet1: 0,
+            octet2: 0,
+        },
+    }
+}
