@@ -58,12 +58,11 @@ inside s p h =
     }
 
 pub sector-words-few : (s : Setup) → Limits s → sectorWords s ≤ 2056
-unfolding sectorWords
 sector-words-few s l = omega arith
 
 -- no more words pass than the sector has
 pub words-within : (s : Setup) (c : ℕ) → wordsToCome s c ≤ sectorWords s
-unfolding wordsToCome sectorWords
+unfolding wordsToCome
 words-within s c =
     omega (arith, pick-le (headerPasses c) (s .header), pick-le (namesField1 c) (s .field1), pick-le (namesField2 c) (s .field2))
 

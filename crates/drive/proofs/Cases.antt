@@ -2,7 +2,7 @@
 -- Assumes nothing.
 use mathlib.Core.Path.{refl}
 use Rattle.laws.specs.Pick.{pick}
-use Rattle.drive.specs.Setup.{withinLimits, sectorWords, allWords, sectorNumber, sectorStart, isPlace, isTarget, following}
+use Rattle.drive.specs.Setup.{withinLimits, allWords, sectorNumber, sectorStart, isPlace, isTarget, following}
 use Rattle.drive.specs.Control.{controlOf, headerPasses, wordsToCome, wordsRead}
 use Rattle.drive.specs.Holding.{holdSet, isBusy, grantedTo, released}
 use Rattle.drive.specs.Pending.{withBit, noticed, faulted, octet0}
@@ -17,5 +17,5 @@ use Rattle.drive.specs.Run.{answerTo, after, answers, final}
 use Rattle.drive.specs.Cases.{Case, Holds, CasesHold, p1-p2-p3, p4-p5-p6, p7, p8, p9, p10, p11, p12}
 
 pub cases-hold : CasesHold
-unfolding pick withinLimits sectorWords allWords sectorNumber sectorStart isPlace isTarget following controlOf headerPasses wordsToCome wordsRead holdSet isBusy grantedTo released withBit noticed faulted octet0 pendingOn postedOn ownerNoticed selected deselected afterReset headStepped atItsTarget ended badRequest opened opening dataControl positioned targeted statusRead kindOf isOutsideLimits isDisowned isBrokenTransfer hasStrayBit row11 row10 refusalOf sameWords miscompares committed staged wordStaged wordTaken handled answerTo after answers final
+unfolding pick withinLimits allWords sectorNumber sectorStart isPlace isTarget following controlOf headerPasses wordsToCome wordsRead holdSet isBusy grantedTo released withBit noticed faulted octet0 pendingOn postedOn ownerNoticed selected deselected afterReset headStepped atItsTarget ended badRequest opened opening dataControl positioned targeted statusRead kindOf isOutsideLimits isDisowned isBrokenTransfer hasStrayBit row11 row10 refusalOf sameWords miscompares committed staged wordStaged wordTaken handled answerTo after answers final
 cases-hold = record { all = (record { answered = refl; words = refl; position = refl }, (record { answered = refl; words = refl; position = refl }, (record { answered = refl; words = refl; position = refl }, (record { answered = refl; words = refl; position = refl }, (record { answered = refl; words = refl; position = refl }, (record { answered = refl; words = refl; position = refl }, (record { answered = refl; words = refl; position = refl }, (record { answered = refl; words = refl; position = refl }, tt)))))))) }

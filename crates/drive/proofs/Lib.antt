@@ -1,2 +1,6 @@
 pub mod Bounds
+pub mod Reading
+pub mod Own
+pub mod Step
+pub mod Sound
 pub mod Cases

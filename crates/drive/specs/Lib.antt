@@ -13,3 +13,4 @@ pub mod Event
 pub mod Power
 pub mod Run
 pub mod Cases
+pub mod Able

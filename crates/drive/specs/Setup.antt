@@ -24,7 +24,7 @@ withinLimits s =
     && between 0 (s .address) 7
 
 -- "A sector's words are header, field 1, field 2, in that order; sectors follow by sector, then head, then cylinder."
-unfoldable pub sectorWords : Setup → ℕ
+abbrev pub sectorWords : Setup → ℕ
 sectorWords s = s .header + s .field1 + s .field2
 
 unfoldable pub allWords : Setup → ℕ

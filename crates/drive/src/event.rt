@@ -1,4 +1,14 @@
-// An event, and the drive's answer to it.
+// An event, and the drive's answer to it: the tests of the state and the slices, then one dispatch on the kind.
+use crate::answer::Answer;
+use crate::answer::Outcome;
+use crate::drive::Drive;
+use crate::kinds;
+use crate::refusal;
+ghost use mathlib.Core.Path.{_≡_};
+ghost use Rattle.drive.specs.State.{told, result};
+ghost use Rattle.drive.specs.Event.{handled, Handled};
+ghost use Rattle.drive.specs.Able.{Passable};
+
 pub struct Event {
     pub port: u8,
     pub kind: u8,
@@ -6,4 +16,55 @@ pub struct Event {
     pub a1: u8,
     pub a2: u8,
     pub a3: u8,
+}
+
+const LAST_PORT: u8 = 1;
+
+impl Drive {
+    // The answer and the drive after the event. A refusal changes neither the drive nor a lent word.
+    pub fn handle(self, event: Event, sectors: &mut [u16], staging: &mut [u16]) -> Outcome
+        ensures { λ r. ⌜ Handled self event (now (sectors .entry)) (now (staging .entry)) r (now (sectors .exit)) (now (staging .exit)) ⌝ }
+    {
+        let s = self.setup;
+        if refusal::is_unsound(self) {
+            return self.refused(refusal::UNSOUND_STATE);
+        }
+        if refusal::lacks_room(s, &sectors[..], &staging[..]) {
+            return self.refused(refusal::SLICE_TOO_SHORT);
+        }
+        step(self, event, sectors, staging)
+    }
+
+    pub(crate) fn refused(self, number: u8) -> Outcome
+        ensures { λ r. ⌜ r ≡ told (Answer.Refused number) self ⌝ }
+    {
+        Outcome {
+            answer: Answer::Refused(number),
+            drive: self,
+        }
+    }
+}
+
+// The event on a state that rows 11 and 10 let pass.
+pub(crate) fn step(drive: Drive, event: Event, sectors: &mut [u16], staging: &mut [u16]) -> Outcome
+    requires { ⌜ Passable drive (now sectors) (now staging) ⌝ }
+    ensures { λ r. ⌜ result r (now (sectors .exit)) (now (staging .exit)) ≡ handled drive event (now (sectors .entry)) (now (staging .entry)) ⌝ }
+{
+    if LAST_PORT < event.port {
+        return drive.refused(refusal::NO_SUCH_PORT);
+    }
+    let kind = event.kind;
+    match kind {
+        1 => kinds::on_select(drive, event),
+        2 => kinds::on_deselect(drive, event),
+        3 => kinds::on_data_control(drive, event),
+        4 => kinds::on_word_from_host(drive, event, sectors, staging),
+        5 => kinds::on_take_word(drive, event, &sectors[..], &staging[..]),
+        6 => kinds::on_end(drive, event),
+        7 => kinds::on_position(drive, event),
+        8 => kinds::on_target(drive, event),
+        9 => kinds::on_read_status(drive, event),
+        10 => kinds::on_reset(drive, event),
+        _ => drive.refused(refusal::MALFORMED),
+    }
 }

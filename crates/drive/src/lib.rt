@@ -4,6 +4,7 @@ mod control;
 mod drive;
 mod event;
 mod holding;
+mod kinds;
 mod pending;
 mod power;
 mod refusal;

@@ -3,3 +3,4 @@ pub mod Pick
 pub mod Rows
 pub mod Octets
 pub mod Lists
+pub mod Windows

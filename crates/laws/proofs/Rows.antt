@@ -43,3 +43,14 @@ refused-as n refusal told new e h = rw (← e) (at n h)
 
 pub accepted-as : {A : Type 0} (n refusal : ℕ) (old new x : A) → n ≡ refusal → n ≡ 0 → x ≡ new → x ≡ unlessRefused refusal old new
 accepted-as n refusal old new x e z p = rw (← e, z) p
+
+-- no row is given: the first one does not hold, and none of the rest is given
+pub row-off : (test : Bool) (n rest : ℕ) → pick test (suc n) rest ≡ 0 → test ≡ false
+unfolding pick
+row-off true n rest e = absurd (omega arith)
+row-off false n rest e = refl
+
+pub rows-rest : (test : Bool) (n rest : ℕ) → pick test (suc n) rest ≡ 0 → rest ≡ 0
+unfolding pick
+rows-rest true n rest e = absurd (omega arith)
+rows-rest false n rest e = e

@@ -1,0 +1,75 @@
+-- How a kind's code meets its contract: it told the number of its first own row, or there is none and it did its work.
+-- Assumes nothing.
+use Prim.Native.Nat.{ℕ, _<_}
+use mathlib.Core.Path.{_≡_, refl, sym, ap, _∙_}
+use mathlib.Core.Bool.{Bool, true, false, not, _&&_, _||_, or-true, true≢false}
+use mathlib.Core.List.{List, [], _∷_}
+use borrow.Author.Tests.{ne-eqb, leb-false}
+use lib.Dec.{eqb, leb}
+use Rattle.laws.specs.Pick.{pick}
+use Rattle.laws.specs.Rows.{first, _when_}
+use Rattle.laws.proofs.Rows.{refused-as, accepted-as, row-off, rows-rest}
+use Rattle.laws.proofs.Tests.{or-r}
+use Rattle.drive.specs.Control.{controlOf, isWrite, isRead, wordsToCome}
+use Rattle.drive.specs.Holding.{nobody}
+use Rattle.drive.specs.Kind.{Kind}
+use Rattle.drive.specs.State.{told, Result}
+use Rattle.drive.specs.Refusal.{isWriteOpen, isReadOpen, isOpen, isBrokenTransfer, ownRows}
+use Rattle.drive.specs.Event.{refusedWith}
+use Rattle.drive.specs.Able.{Passable, Able, unlessOwnRow, unlessOwnRowIn}
+use Rattle.drive.specs.declared.setup.Setup.{Setup}
+use Rattle.drive.specs.declared.holding.Holding.{Holding}
+use Rattle.drive.specs.declared.transfer.Transfer.{Transfer}
+use Rattle.drive.specs.declared.drive.Drive.{Drive}
+use Rattle.drive.specs.declared.event.Event.{Event}
+use Rattle.drive.specs.declared.answer.Outcome.{Outcome}
+use Rattle.drive.specs.declared.answer.Answer.the-variants.{Refused}
+use Rattle.drive.proofs.Sound.{sound}
+
+pub own-refused : (k : Kind) (d : Drive) (e : Event) (accepted : Outcome) (n : ℕ) → n ≡ first (ownRows k d e) → (n ≡ 0 → ⊥)
+    → told (Refused n) d ≡ unlessOwnRow k d e accepted
+unfolding unlessOwnRow
+own-refused k d e accepted n p h = refused-as n (first (ownRows k d e)) (λ m. told (Refused m) d) accepted p h
+
+pub own-accepted : (k : Kind) (d : Drive) (e : Event) (accepted x : Outcome) (n : ℕ) → n ≡ first (ownRows k d e) → n ≡ 0 → x ≡ accepted
+    → x ≡ unlessOwnRow k d e accepted
+unfolding unlessOwnRow
+own-accepted k d e accepted x n p z h = accepted-as n (first (ownRows k d e)) _ accepted x p z h
+
+pub own-refused-in : (k : Kind) (d : Drive) (e : Event) (sectors staging : List ℕ) (accepted : Result) (n : ℕ) → n ≡ first (ownRows k d e) → (n ≡ 0 → ⊥)
+    → refusedWith n d sectors staging ≡ unlessOwnRowIn k d e sectors staging accepted
+unfolding unlessOwnRowIn
+own-refused-in k d e sectors staging accepted n p h = refused-as n (first (ownRows k d e)) (λ m. refusedWith m d sectors staging) accepted p h
+
+pub own-accepted-in : (k : Kind) (d : Drive) (e : Event) (sectors staging : List ℕ) (accepted x : Result) (n : ℕ) → n ≡ first (ownRows k d e) → n ≡ 0 → x ≡ accepted
+    → x ≡ unlessOwnRowIn k d e sectors staging accepted
+unfolding unlessOwnRowIn
+own-accepted-in k d e sectors staging accepted x n p z h = accepted-as n (first (ownRows k d e)) _ accepted x p z h
+
+-- ---- an open transfer of a state that row 11 lets pass has a word to come
+
+opens-none : (isWrite (controlOf 0) || isRead (controlOf 0)) ≡ false
+unfolding controlOf pick
+opens-none = refl
+
+is-open : (t : Transfer) → (isWriteOpen t || isReadOpen t) ≡ true → isOpen t ≡ true
+is-open t h = rw (ne-eqb (t .control) 0 (λ z. true≢false (sym h ∙ rw z opens-none)))
+
+word-to-come : (s : Setup) (h : Holding) (t : Transfer) → isBrokenTransfer s h t ≡ false → (isWriteOpen t || isReadOpen t) ≡ true → t .moved < wordsToCome s (t .control)
+unfolding isBrokenTransfer
+word-to-come s h t b o =
+    let rest : (eqb (h .selected) nobody || not (isWriteOpen t || isReadOpen t) || leb (wordsToCome s (t .control)) (t .moved)) ≡ false = rw (is-open t o) at b in
+    leb-false (wordsToCome s (t .control)) (t .moved) (or-r (eqb (h .selected) nobody || not (isWriteOpen t || isReadOpen t)) (leb (wordsToCome s (t .control)) (t .moved)) rest)
+
+able : {d : Drive} {sectors staging : List ℕ} → Passable d sectors staging → (isWriteOpen (d .transfer) || isReadOpen (d .transfer)) ≡ true → Able d sectors staging
+able {d} p o = record { sound = p .sound; room = p .room; moved = word-to-come (d .setup) (d .holding) (d .transfer) (sound d (p .sound) .transfer) o }
+
+pub able-to-write : {d : Drive} {sectors staging : List ℕ} → Passable d sectors staging → isWriteOpen (d .transfer) ≡ true → Able d sectors staging
+able-to-write p o = able p (rw o)
+
+pub able-to-read : {d : Drive} {sectors staging : List ℕ} → Passable d sectors staging → isReadOpen (d .transfer) ≡ true → Able d sectors staging
+able-to-read {d} p o = able p (rw o (or-true (isWriteOpen (d .transfer))))
+
+-- the last of the tests 8, 2, 7 of a kind that passed them all
+pub timely : (formed selected untimely : Bool) → first (8 when formed ∷ 2 when selected ∷ 7 when untimely ∷ []) ≡ 0 → untimely ≡ false
+timely formed selected untimely e = row-off untimely 6 0 (rows-rest selected 1 _ (rows-rest formed 7 _ e))

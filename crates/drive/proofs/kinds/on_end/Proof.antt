@@ -1,0 +1,66 @@
+-- `on_end` meets its contract.
+-- Assumes nothing.
+use Rattle.drive.proofs.Own.{own-accepted, own-refused}
+use Rattle.drive.specs.Kind.{End, Use}
+use borrow.Author.Needs.{needs}
+use mathlib.Core.Path.{_∙_}
+use Rattle.drive.proofs.kinds.on_end.Statement.{statement}
+use Rattle.drive.proofs.kinds.on_end.Tie as tie
+use Rattle.drive.proofs.kinds.on_end.Reads as reads
+use Rattle.drive.proofs.kinds.on_end.Lts as lts
+use Rattle.drive.proofs.drive.Drive.ended.Reads as ended-reads
+use Rattle.drive.proofs.drive.Drive.refused.Reads as refused-reads
+use Rattle.drive.proofs.drive.Drive.told_status.Reads as told-status-reads
+use Rattle.drive.proofs.kinds.is_selected.Reads as is-selected-reads
+use Rattle.drive.proofs.refusal.inside_refusal.Reads as inside-refusal-reads
+use Rattle.drive.proofs.refusal.is_one_open.Reads as is-one-open-reads
+use Rattle.drive.proofs.refusal.none_at_all.Reads as none-at-all-reads
+
+-- Assumes nothing.
+
+-- Assumes nothing.
+
+-- Assumes nothing.
+
+-- Assumes nothing.
+
+none-at-all-requires : tie.Need-none-at-all-requires
+none-at-all-requires c κs = search needs
+
+is-selected-requires : tie.Need-is-selected-requires
+is-selected-requires c κs = search needs
+
+is-one-open-requires : tie.Need-is-one-open-requires
+is-one-open-requires c κs = search needs
+
+inside-refusal-requires : tie.Need-inside-refusal-requires
+inside-refusal-requires c κs = search needs
+
+refused-requires : tie.Need-refused-requires
+refused-requires c κs = search needs
+
+returns : tie.Need-returns
+returns c = c .refused .ensures ∙ own-refused (Use End) _ _ _ _ (c .before .before .inside-refusal .ensures ∙ (cc)) (c .before .if1 .taken)
+
+ended-requires : tie.Need-ended-requires
+ended-requires c κs = search needs
+
+told-status-requires : tie.Need-told-status-requires
+told-status-requires c κs = search needs
+
+returns-2 : tie.Need-returns-2
+returns-2 c = own-accepted (Use End) _ _ _ _ _ (c .before .before .before .inside-refusal .ensures ∙ (cc)) (c .before .before .if1 .left) (cc)
+
+pub on-end-spec : {M : Type 1} → statement M
+on-end-spec =
+    tie.close
+    (tie.spec
+    none-at-all-requires
+    is-selected-requires
+    is-one-open-requires
+    inside-refusal-requires
+    refused-requires
+    returns
+    ended-requires
+    told-status-requires
+    returns-2)

@@ -1,0 +1,73 @@
+-- `on_position` meets its contract.
+-- Assumes nothing.
+use Rattle.drive.proofs.Own.{own-accepted, own-refused}
+use Rattle.drive.specs.Kind.{Position, Use}
+use borrow.Author.Needs.{needs}
+use mathlib.Core.Path.{_∙_}
+use Rattle.drive.proofs.kinds.on_position.Statement.{statement}
+use Rattle.drive.proofs.kinds.on_position.Tie as tie
+use Rattle.drive.proofs.kinds.on_position.Reads as reads
+use Rattle.drive.proofs.kinds.on_position.Lts as lts
+use Rattle.drive.proofs.drive.Drive.positioned.Reads as positioned-reads
+use Rattle.drive.proofs.drive.Drive.refused.Reads as refused-reads
+use Rattle.drive.proofs.kinds.is_selected.Reads as is-selected-reads
+use Rattle.drive.proofs.kinds.word_of.Reads as word-of-reads
+use Rattle.drive.proofs.refusal.inside_refusal.Reads as inside-refusal-reads
+use Rattle.drive.proofs.refusal.is_one_open.Reads as is-one-open-reads
+
+-- Assumes nothing.
+
+-- Assumes nothing.
+
+-- Assumes nothing.
+
+-- Assumes nothing.
+
+is-selected-requires : tie.Need-is-selected-requires
+is-selected-requires c κs = search needs
+
+is-one-open-requires : tie.Need-is-one-open-requires
+is-one-open-requires c κs = search needs
+
+inside-refusal-requires : tie.Need-inside-refusal-requires
+inside-refusal-requires c κs = search needs
+
+refused-requires : tie.Need-refused-requires
+refused-requires c κs = search needs
+
+returns : tie.Need-returns
+returns c = c .refused .ensures ∙ own-refused (Use Position) _ _ _ _ (c .before .before .inside-refusal .ensures ∙ (cc)) (c .before .if1 .taken)
+
+word-of-requires : tie.Need-word-of-requires
+word-of-requires c κs = search needs
+
+cast-t8 : tie.Need-cast-t8
+cast-t8 c = search needs
+
+cast-t9 : tie.Need-cast-t9
+cast-t9 c = search needs
+
+cast-positioned : tie.Need-cast-positioned
+cast-positioned c = search needs
+
+positioned-requires : tie.Need-positioned-requires
+positioned-requires c κs = search needs
+
+returns-2 : tie.Need-returns-2
+returns-2 c = own-accepted (Use Position) _ _ _ _ _ (c .before .before .before .before .before .before .inside-refusal .ensures ∙ (cc)) (c .before .before .before .before .before .if1 .left) (cc)
+
+pub on-position-spec : {M : Type 1} → statement M
+on-position-spec =
+    tie.close
+    (tie.spec
+    is-selected-requires
+    is-one-open-requires
+    inside-refusal-requires
+    refused-requires
+    returns
+    word-of-requires
+    cast-t8
+    cast-t9
+    cast-positioned
+    positioned-requires
+    returns-2)

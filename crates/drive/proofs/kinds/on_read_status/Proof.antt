@@ -1,0 +1,65 @@
+-- `on_read_status` meets its contract.
+-- Assumes nothing.
+use Rattle.drive.proofs.Own.{own-accepted, own-refused}
+use Rattle.drive.specs.Kind.{ReadStatus, Use}
+use borrow.Author.Needs.{needs}
+use mathlib.Core.Path.{_∙_}
+use Rattle.drive.proofs.kinds.on_read_status.Statement.{statement}
+use Rattle.drive.proofs.kinds.on_read_status.Tie as tie
+use Rattle.drive.proofs.kinds.on_read_status.Reads as reads
+use Rattle.drive.proofs.kinds.on_read_status.Lts as lts
+use Rattle.drive.proofs.drive.Drive.refused.Reads as refused-reads
+use Rattle.drive.proofs.drive.Drive.status_read.Reads as status-read-reads
+use Rattle.drive.proofs.kinds.is_selected.Reads as is-selected-reads
+use Rattle.drive.proofs.refusal.inside_refusal.Reads as inside-refusal-reads
+use Rattle.drive.proofs.refusal.is_one_open.Reads as is-one-open-reads
+use Rattle.drive.proofs.refusal.none_at_all.Reads as none-at-all-reads
+
+-- Assumes nothing.
+
+-- Assumes nothing.
+
+-- Assumes nothing.
+
+-- Assumes nothing.
+
+none-at-all-requires : tie.Need-none-at-all-requires
+none-at-all-requires c κs = search needs
+
+is-selected-requires : tie.Need-is-selected-requires
+is-selected-requires c κs = search needs
+
+is-one-open-requires : tie.Need-is-one-open-requires
+is-one-open-requires c κs = search needs
+
+inside-refusal-requires : tie.Need-inside-refusal-requires
+inside-refusal-requires c κs = search needs
+
+refused-requires : tie.Need-refused-requires
+refused-requires c κs = search needs
+
+returns : tie.Need-returns
+returns c = c .refused .ensures ∙ own-refused (Use ReadStatus) _ _ _ _ (c .before .before .inside-refusal .ensures ∙ (cc)) (c .before .if1 .taken)
+
+cast-status-read : tie.Need-cast-status-read
+cast-status-read c = search needs
+
+status-read-requires : tie.Need-status-read-requires
+status-read-requires c κs = search needs
+
+returns-2 : tie.Need-returns-2
+returns-2 c = own-accepted (Use ReadStatus) _ _ _ _ _ (c .before .before .before .inside-refusal .ensures ∙ (cc)) (c .before .before .if1 .left) (cc)
+
+pub on-read-status-spec : {M : Type 1} → statement M
+on-read-status-spec =
+    tie.close
+    (tie.spec
+    none-at-all-requires
+    is-selected-requires
+    is-one-open-requires
+    inside-refusal-requires
+    refused-requires
+    returns
+    cast-status-read
+    status-read-requires
+    returns-2)

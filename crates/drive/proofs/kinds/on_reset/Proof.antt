@@ -1,0 +1,48 @@
+-- `on_reset` meets its contract.
+-- Assumes nothing.
+use Rattle.drive.proofs.Own.{own-accepted, own-refused}
+use Rattle.drive.specs.Kind.{Reset}
+use Rattle.laws.specs.Pick.{pick}
+use borrow.Author.Needs.{needs}
+use mathlib.Core.Path.{_∙_, refl}
+use native.Mathlib.Omega.{arith}
+use Rattle.drive.proofs.kinds.on_reset.Statement.{statement}
+use Rattle.drive.proofs.kinds.on_reset.Tie as tie
+use Rattle.drive.proofs.kinds.on_reset.Reads as reads
+use Rattle.drive.proofs.kinds.on_reset.Lts as lts
+use Rattle.drive.proofs.drive.Drive.refused.Reads as refused-reads
+use Rattle.drive.proofs.drive.Drive.reset.Reads as reset-reads
+use Rattle.drive.proofs.refusal.none_at_all.Reads as none-at-all-reads
+
+-- Assumes nothing.
+
+-- Assumes nothing.
+
+-- Assumes nothing.
+
+-- Assumes nothing.
+
+-- Assumes nothing.
+
+-- Assumes nothing.
+
+none-at-all-requires : tie.Need-none-at-all-requires
+none-at-all-requires c κs = search needs
+
+refused-requires : tie.Need-refused-requires
+refused-requires c κs = search needs
+
+returns : tie.Need-returns
+unfolding pick
+returns c = c .refused .ensures ∙ own-refused Reset _ _ _ 8 (rw (← (c .before .before .none-at-all .ensures), c .before .if1 .taken)) (λ z. omega arith)
+
+reset-requires : tie.Need-reset-requires
+reset-requires c κs = search needs
+
+returns-2 : tie.Need-returns-2
+unfolding pick
+returns-2 c = own-accepted Reset _ _ _ _ 0 (rw (← (c .before .before .none-at-all .ensures), c .before .if1 .left)) refl (cc)
+
+pub on-reset-spec : {M : Type 1} → statement M
+on-reset-spec =
+    tie.close (tie.spec none-at-all-requires refused-requires returns reset-requires returns-2)

@@ -1,0 +1,85 @@
+-- `on_select` meets its contract.
+-- Assumes nothing.
+use Rattle.drive.proofs.Own.{own-accepted, own-refused}
+use Rattle.drive.specs.Kind.{Select}
+use Rattle.drive.specs.State.{told}
+use borrow.Author.Needs.{needs}
+use mathlib.Core.Path.{_∙_, ap}
+use Rattle.drive.specs.declared.answer.Answer.the-variants.{Done}
+use Rattle.drive.proofs.kinds.on_select.Statement.{statement}
+use Rattle.drive.proofs.kinds.on_select.Tie as tie
+use Rattle.drive.proofs.kinds.on_select.Reads as reads
+use Rattle.drive.proofs.kinds.on_select.Lts as lts
+use Rattle.drive.proofs.drive.Drive.refused.Reads as refused-reads
+use Rattle.drive.proofs.drive.Drive.select.Reads as select-reads
+use Rattle.drive.proofs.holding.Holding.is_busy.Reads as is-busy-reads
+use Rattle.drive.proofs.kinds.is_selected.Reads as is-selected-reads
+use Rattle.drive.proofs.refusal.changes_mode.Reads as changes-mode-reads
+use Rattle.drive.proofs.refusal.is_misaddressed.Reads as is-misaddressed-reads
+use Rattle.drive.proofs.refusal.none_after_1.Reads as none-after-1-reads
+use Rattle.drive.proofs.refusal.select_refusal.Reads as select-refusal-reads
+
+-- Assumes nothing.
+
+-- Assumes nothing.
+
+-- Assumes nothing.
+
+-- Assumes nothing.
+
+-- Assumes nothing.
+
+-- Assumes nothing.
+
+-- Assumes nothing.
+
+-- Assumes nothing.
+
+cast-port : tie.Need-cast-port
+cast-port c = search needs
+
+is-misaddressed-requires : tie.Need-is-misaddressed-requires
+is-misaddressed-requires c κs = search needs
+
+changes-mode-requires : tie.Need-changes-mode-requires
+changes-mode-requires c κs = search needs
+
+is-busy-requires : tie.Need-is-busy-requires
+is-busy-requires c κs = search needs
+
+none-after-1-requires : tie.Need-none-after-1-requires
+none-after-1-requires c κs = search needs
+
+is-selected-requires : tie.Need-is-selected-requires
+is-selected-requires c κs = search needs
+
+select-refusal-requires : tie.Need-select-refusal-requires
+select-refusal-requires c κs = search needs
+
+refused-requires : tie.Need-refused-requires
+refused-requires c κs = search needs
+
+returns : tie.Need-returns
+returns c = c .refused .ensures ∙ own-refused Select _ _ _ _ (c .before .before .select-refusal .ensures ∙ rw (c .before .before .before .before .none-after-1 .ensures, c .before .before .before .is-selected .ensures, c .before .before .before .before .before .before .before .is-misaddressed .ensures, c .before .before .before .before .before .before .changes-mode .ensures, c .before .before .before .before .before .is-busy .ensures)) (c .before .if1 .taken)
+
+select-requires : tie.Need-select-requires
+select-requires c κs = search needs
+
+returns-2 : tie.Need-returns-2
+returns-2 c = own-accepted Select _ _ _ _ _ (c .before .before .select-refusal .ensures ∙ rw (c .before .before .before .before .none-after-1 .ensures, c .before .before .before .is-selected .ensures, c .before .before .before .before .before .before .before .is-misaddressed .ensures, c .before .before .before .before .before .before .changes-mode .ensures, c .before .before .before .before .before .is-busy .ensures)) (c .before .if1 .left) (ap (told Done) (c .select .ensures))
+
+pub on-select-spec : {M : Type 1} → statement M
+on-select-spec =
+    tie.close
+    (tie.spec
+    cast-port
+    is-misaddressed-requires
+    changes-mode-requires
+    is-busy-requires
+    none-after-1-requires
+    is-selected-requires
+    select-refusal-requires
+    refused-requires
+    returns
+    select-requires
+    returns-2)

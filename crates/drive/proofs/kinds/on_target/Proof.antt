@@ -1,0 +1,70 @@
+-- `on_target` meets its contract.
+-- Assumes nothing.
+use Rattle.drive.proofs.Own.{own-accepted, own-refused}
+use Rattle.drive.specs.Kind.{Target, Use}
+use borrow.Author.Needs.{needs}
+use mathlib.Core.Path.{_∙_}
+use Rattle.drive.proofs.kinds.on_target.Statement.{statement}
+use Rattle.drive.proofs.kinds.on_target.Tie as tie
+use Rattle.drive.proofs.kinds.on_target.Reads as reads
+use Rattle.drive.proofs.kinds.on_target.Lts as lts
+use Rattle.drive.proofs.drive.Drive.refused.Reads as refused-reads
+use Rattle.drive.proofs.drive.Drive.targeted.Reads as targeted-reads
+use Rattle.drive.proofs.kinds.is_selected.Reads as is-selected-reads
+use Rattle.drive.proofs.kinds.word_of.Reads as word-of-reads
+use Rattle.drive.proofs.refusal.inside_refusal.Reads as inside-refusal-reads
+use Rattle.drive.proofs.refusal.is_one_open.Reads as is-one-open-reads
+use Rattle.drive.proofs.refusal.none_after_2.Reads as none-after-2-reads
+
+-- Assumes nothing.
+
+-- Assumes nothing.
+
+-- Assumes nothing.
+
+-- Assumes nothing.
+
+none-after-2-requires : tie.Need-none-after-2-requires
+none-after-2-requires c κs = search needs
+
+is-selected-requires : tie.Need-is-selected-requires
+is-selected-requires c κs = search needs
+
+is-one-open-requires : tie.Need-is-one-open-requires
+is-one-open-requires c κs = search needs
+
+inside-refusal-requires : tie.Need-inside-refusal-requires
+inside-refusal-requires c κs = search needs
+
+refused-requires : tie.Need-refused-requires
+refused-requires c κs = search needs
+
+returns : tie.Need-returns
+returns c = c .refused .ensures ∙ own-refused (Use Target) _ _ _ _ (c .before .before .inside-refusal .ensures ∙ (cc)) (c .before .if1 .taken)
+
+cast-targeted : tie.Need-cast-targeted
+cast-targeted c = search needs
+
+word-of-requires : tie.Need-word-of-requires
+word-of-requires c κs = search needs
+
+targeted-requires : tie.Need-targeted-requires
+targeted-requires c κs = search needs
+
+returns-2 : tie.Need-returns-2
+returns-2 c = own-accepted (Use Target) _ _ _ _ _ (c .before .before .before .before .inside-refusal .ensures ∙ (cc)) (c .before .before .before .if1 .left) (cc)
+
+pub on-target-spec : {M : Type 1} → statement M
+on-target-spec =
+    tie.close
+    (tie.spec
+    none-after-2-requires
+    is-selected-requires
+    is-one-open-requires
+    inside-refusal-requires
+    refused-requires
+    returns
+    cast-targeted
+    word-of-requires
+    targeted-requires
+    returns-2)

@@ -1,0 +1,197 @@
+// What each kind does: its own tests, then its work.
+use crate::answer;
+use crate::answer::Answer;
+use crate::answer::Outcome;
+use crate::drive::Drive;
+use crate::event::Event;
+use crate::refusal;
+use crate::setup::Place;
+use crate::transfer;
+ghost use Prim.Native.Nat.{_+_, _*_};
+ghost use mathlib.Core.Path.{_≡_};
+ghost use mathlib.Core.Bool.{true};
+ghost use lib.Dec.{eqb};
+ghost use Rattle.drive.specs.Setup.{withinLimits};
+ghost use Rattle.drive.specs.Answer.{normal};
+ghost use Rattle.drive.specs.State.{told, result};
+ghost use Rattle.drive.specs.Drive.{selected, deselected, afterReset, ended};
+ghost use Rattle.drive.specs.Request.{dataControl, positioned, targeted, statusRead};
+ghost use Rattle.drive.specs.Transfer.{wordStaged, wordTaken};
+ghost use Rattle.drive.specs.Kind.{Kind, Work, wordOf, placeOf};
+ghost use Rattle.drive.specs.Able.{Passable, unlessOwnRow, unlessOwnRowIn};
+
+pub(crate) fn on_select(drive: Drive, event: Event) -> Outcome
+    ensures { λ r. ⌜ r ≡ unlessOwnRow Kind.Select drive event (told Answer.Done (selected drive (event .port) (event .a0))) ⌝ }
+{
+    let s = drive.setup;
+    let h = drive.holding;
+    let port = event.port as u16;
+    let octet = event.a0;
+    let misaddressed = refusal::is_misaddressed(octet, s.address);
+    let changes_mode = refusal::changes_mode(octet);
+    let busy = h.is_busy(port, octet);
+    let n = refusal::select_refusal(
+        refusal::none_after_1(event),
+        is_selected(drive, event),
+        misaddressed,
+        changes_mode,
+        busy,
+    );
+    if n != 0 {
+        return drive.refused(n);
+    }
+    Outcome {
+        answer: Answer::Done,
+        drive: drive.select(port, octet),
+    }
+}
+
+pub(crate) fn on_deselect(drive: Drive, event: Event) -> Outcome
+    ensures { λ r. ⌜ r ≡ unlessOwnRow Kind.Deselect drive event (told Answer.Done (deselected drive)) ⌝ }
+{
+    let n = refusal::inside_refusal(
+        refusal::none_at_all(event),
+        is_selected(drive, event),
+        refusal::is_one_open(drive),
+    );
+    if n != 0 {
+        return drive.refused(n);
+    }
+    Outcome {
+        answer: Answer::Done,
+        drive: drive.deselect(),
+    }
+}
+
+pub(crate) fn on_reset(drive: Drive, event: Event) -> Outcome
+    ensures { λ r. ⌜ r ≡ unlessOwnRow Kind.Reset drive event (told Answer.Done (afterReset drive)) ⌝ }
+{
+    if !refusal::none_at_all(event) {
+        return drive.refused(refusal::MALFORMED);
+    }
+    Outcome {
+        answer: Answer::Done,
+        drive: drive.reset(),
+    }
+}
+
+pub(crate) fn on_data_control(drive: Drive, event: Event) -> Outcome
+    requires { ⌜ withinLimits (drive .setup) ≡ true ⌝ }
+    ensures { λ r. ⌜ r ≡ unlessOwnRow (Kind.Use Work.DataControl) drive event (dataControl drive (event .port) (event .a0)) ⌝ }
+{
+    let n = refusal::inside_refusal(
+        refusal::none_after_1(event),
+        is_selected(drive, event),
+        refusal::is_one_open(drive),
+    );
+    if n != 0 {
+        return drive.refused(n);
+    }
+    drive.data_control(event.port as u16, event.a0 as u16)
+}
+
+pub(crate) fn on_position(drive: Drive, event: Event) -> Outcome
+    ensures { λ r. ⌜ r ≡ unlessOwnRow (Kind.Use Work.Position) drive event (positioned drive (event .port) (placeOf event)) ⌝ }
+{
+    let n = refusal::inside_refusal(true, is_selected(drive, event), refusal::is_one_open(drive));
+    if n != 0 {
+        return drive.refused(n);
+    }
+    let place = Place {
+        cylinder: word_of(event),
+        head: event.a2 as u16,
+        sector: event.a3 as u16,
+    };
+    drive.positioned(event.port as u16, place)
+}
+
+pub(crate) fn on_target(drive: Drive, event: Event) -> Outcome
+    ensures { λ r. ⌜ r ≡ unlessOwnRow (Kind.Use Work.Target) drive event (targeted drive (event .port) (wordOf event)) ⌝ }
+{
+    let n = refusal::inside_refusal(
+        refusal::none_after_2(event),
+        is_selected(drive, event),
+        refusal::is_one_open(drive),
+    );
+    if n != 0 {
+        return drive.refused(n);
+    }
+    drive.targeted(event.port as u16, word_of(event))
+}
+
+pub(crate) fn on_read_status(drive: Drive, event: Event) -> Outcome
+    ensures { λ r. ⌜ r ≡ unlessOwnRow (Kind.Use Work.ReadStatus) drive event (statusRead drive (event .port)) ⌝ }
+{
+    let n = refusal::inside_refusal(
+        refusal::none_at_all(event),
+        is_selected(drive, event),
+        refusal::is_one_open(drive),
+    );
+    if n != 0 {
+        return drive.refused(n);
+    }
+    drive.status_read(event.port as u16)
+}
+
+pub(crate) fn on_end(drive: Drive, event: Event) -> Outcome
+    ensures { λ r. ⌜ r ≡ unlessOwnRow (Kind.Use Work.End) drive event (told (Answer.Status normal) (ended drive)) ⌝ }
+{
+    let n = refusal::inside_refusal(
+        refusal::none_at_all(event),
+        is_selected(drive, event),
+        !refusal::is_one_open(drive),
+    );
+    if n != 0 {
+        return drive.refused(n);
+    }
+    drive.ended().told_status(answer::NORMAL)
+}
+
+pub(crate) fn on_word_from_host(
+    drive: Drive,
+    event: Event,
+    sectors: &mut [u16],
+    staging: &mut [u16],
+) -> Outcome
+    requires { ⌜ Passable drive (now sectors) (now staging) ⌝ }
+    ensures { λ r. ⌜ result r (now (sectors .exit)) (now (staging .exit)) ≡ unlessOwnRowIn (Kind.Use Work.WordFromHost) drive event (now (sectors .entry)) (now (staging .entry)) (wordStaged drive (wordOf event) (now (sectors .entry)) (now (staging .entry))) ⌝ }
+{
+    let t = drive.transfer;
+    let n = refusal::inside_refusal(
+        refusal::none_after_2(event),
+        is_selected(drive, event),
+        !refusal::is_write_open(t),
+    );
+    if n != 0 {
+        return drive.refused(n);
+    }
+    transfer::word_staged(drive, word_of(event), sectors, staging)
+}
+
+pub(crate) fn on_take_word(drive: Drive, event: Event, sectors: &[u16], staging: &[u16]) -> Outcome
+    requires { ⌜ Passable drive (now sectors) (now staging) ⌝ }
+    ensures { λ r. ⌜ r ≡ unlessOwnRow (Kind.Use Work.TakeWord) drive event (wordTaken drive (now (sectors .entry))) ⌝ }
+{
+    let t = drive.transfer;
+    let n = refusal::inside_refusal(
+        refusal::none_at_all(event),
+        is_selected(drive, event),
+        !refusal::is_read_open(t),
+    );
+    if n != 0 {
+        return drive.refused(n);
+    }
+    transfer::word_taken(drive, sectors, staging)
+}
+
+fn is_selected(drive: Drive, event: Event) -> bool
+    ensures { λ r. ⌜ r ≡ eqb (drive .holding .selected) (event .port) ⌝ }
+{
+    drive.holding.selected == event.port as u16
+}
+
+fn word_of(event: Event) -> u16
+    ensures { λ r. ⌜ r ≡ wordOf event ⌝ }
+{
+    event.a0 as u16 * 256 + event.a1 as u16
+}

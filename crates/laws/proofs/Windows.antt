@@ -1,0 +1,47 @@
+-- Windows of lists: the first word of a run, what a turn of a copy does, and what a paste puts where and leaves.
+-- Assumes nothing.
+use Prim.Native.Nat.{ℕ, suc, _+_, _-_, _<_, _≤_}
+use mathlib.Core.Path.{_≡_, refl, sym, ap, _∙_}
+use mathlib.Core.List.{List, _∷_, _++_}
+use native.Mathlib.Numerals.{add-one}
+use native.Mathlib.Omega.{arith}
+use lib.ListN.{length, getD, take, drop, set, length-drop, List·getD-append}
+use lib.Seq.{drop-cons, paste, paste-suc, getD-drop, getD-take, getD-append-add, length-take-le, length-paste-head}
+
+-- the first of a run, and the rest of it
+pub cut : (l : List ℕ) (p m r : ℕ) → p < length l → m ≡ suc r → take m (drop p l) ≡ getD l p 0 ∷ take r (drop (p + 1) l)
+cut l p m r h e = rw (e, add-one, drop-cons l p 0)
+
+-- a turn of a copy: j are pasted, and then one more
+pub copy-step : (d : List ℕ) (at : ℕ) (s : List ℕ) (from n j : ℕ) → j < n → at + n ≤ length d → from + n ≤ length s
+    → set (paste d at (drop from s) j) (at + j) (getD s (from + j) 0) ≡ paste d at (drop from s) (j + 1)
+copy-step d at s from n j h hd hs =
+    let hl : j < length (drop from s) = simp length-drop (omega arith) in
+    let hi : at + j < length d = omega arith in
+    rw (add-one, ← (getD-drop from s j 0), paste-suc d at (drop from s) j 0)
+
+-- the frame of a paste: before it, in it, after it
+pub paste-before : (d : List ℕ) (at : ℕ) (s : List ℕ) (n i : ℕ) → at ≤ length d → n ≤ length s → i < at → getD (paste d at s n) i 0 ≡ getD d i 0
+paste-before d at s n i hd hs h =
+    let e = length-paste-head d at s n hd hs in
+    let t = length-take-le at d hd in
+    let h1 : i < length (take at d ++ take n s) = omega arith in
+    let h2 : i < length (take at d) = omega arith in
+    rw (List·getD-append (take at d ++ take n s) (drop (at + n) d) 0 i h1, List·getD-append (take at d) (take n s) 0 i h2, getD-take at d i 0 h)
+
+pub paste-in : (d : List ℕ) (at : ℕ) (s : List ℕ) (n i : ℕ) → at ≤ length d → n ≤ length s → i < n → getD (paste d at s n) (at + i) 0 ≡ getD s i 0
+paste-in d at s n i hd hs h =
+    let e = length-paste-head d at s n hd hs in
+    let t = length-take-le at d hd in
+    let h1 : at + i < length (take at d ++ take n s) = omega arith in
+    List·getD-append (take at d ++ take n s) (drop (at + n) d) 0 (at + i) h1
+    ∙ ap (λ (k : ℕ). getD (take at d ++ take n s) (k + i) 0) (sym t)
+    ∙ getD-append-add (take at d) (take n s) i 0
+    ∙ getD-take n s i 0 h
+
+pub paste-after : (d : List ℕ) (at : ℕ) (s : List ℕ) (n i : ℕ) → at ≤ length d → n ≤ length s → getD (paste d at s n) (at + n + i) 0 ≡ getD d (at + n + i) 0
+paste-after d at s n i hd hs =
+    let e = length-paste-head d at s n hd hs in
+    ap (λ (k : ℕ). getD (paste d at s n) (k + i) 0) (sym e)
+    ∙ getD-append-add (take at d ++ take n s) (drop (at + n) d) i 0
+    ∙ getD-drop (at + n) d i 0
