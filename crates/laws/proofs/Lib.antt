@@ -4,3 +4,4 @@ pub mod Rows
 pub mod Octets
 pub mod Lists
 pub mod Windows
+pub mod Runs

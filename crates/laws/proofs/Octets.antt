@@ -5,8 +5,8 @@ use mathlib.Core.Path.{_≡_, refl, sym, ap, _∙_}
 use mathlib.Core.List.{List, [], _∷_, _++_}
 use native.Mathlib.Nat.{pow-suc, div-lt-iff-lt-mul}
 use native.Mathlib.Omega.{arith}
-use lib.ListN.{length, getD, take, length-append}
-use lib.Seq.{take-suc, take-all, getD-take, length-take-le}
+use lib.ListN.{length, getD, take, drop, length-append}
+use lib.Seq.{take-suc, take-all, getD-drop, length-take-le}
 use Rattle.laws.specs.Octets.{numberAfter, numberOf, octetsOf, AllOctets}
 
 -- one octet more, at the low end
@@ -30,7 +30,7 @@ number-of-octets (suc count) n h =
     let s = number-snoc 0 (octetsOf count (n / 256)) (n % 256) in
     omega arith
 
-octets-taken : (n : ℕ) (octets : List ℕ) → AllOctets octets → AllOctets (take n octets)
+pub octets-taken : (n : ℕ) (octets : List ℕ) → AllOctets octets → AllOctets (take n octets)
 octets-taken zero octets h i = omega arith
 octets-taken (suc n) [] h i = omega arith
 octets-taken (suc n) (x ∷ octets) h zero = h 0
@@ -49,3 +49,6 @@ octets-of-number (suc count) octets e h =
     let last : numberOf octets % 256 ≡ low = omega (arith, h count) in
     let ih = octets-of-number count front (length-take-le count octets (omega arith)) (octets-taken count octets h) in
     rw (high, last, ih) (sym split)
+
+pub octets-dropped : (n : ℕ) (octets : List ℕ) → AllOctets octets → AllOctets (drop n octets)
+octets-dropped n octets h i = rw (getD-drop n octets i 0) (h (n + i))

@@ -2,11 +2,14 @@
 -- Assumes nothing.
 use Prim.Native.Nat.{ℕ, zero, suc}
 use mathlib.Core.Path.{_≡_, refl}
-use mathlib.Core.Bool.{Bool, true, false}
+use mathlib.Core.Bool.{Bool, true, false, _&&_}
 use mathlib.Core.List.{List, [], _∷_}
 use mathlib.Core.Logic.{_↔_}
 use native.Mathlib.Omega.{arith}
+use borrow.Author.Tests.{ltb-true}
+use lib.Dec.{ltb}
 use Rattle.laws.specs.Pick.{pick}
+use Rattle.laws.proofs.Tests.{and-l, and-r}
 use Rattle.laws.specs.Rows.{Row, first, Given, here, later, unlessRefused}
 
 at-head : (n : ℕ) (row : Row) (rows : List Row) (test : Bool) → row .holds ≡ test → pick test (row .number) (first rows) ≡ n
@@ -54,3 +57,51 @@ pub rows-rest : (test : Bool) (n rest : ℕ) → pick test (suc n) rest ≡ 0 �
 unfolding pick
 rows-rest true n rest e = absurd (omega arith)
 rows-rest false n rest e = e
+
+-- ---- an answer that is refused by the row that is given, or else is the accepted one
+
+-- every row's number is one that is given: 0 stands for none
+abbrev pub numbered : List Row → Bool
+numbered [] = true
+numbered (row ∷ rows) = ltb 0 (row .number) && numbered rows
+
+abbrev pub Passed : List Row → Type 0
+Passed [] = Unit
+Passed (row ∷ rows) = (row .holds ≡ false) × Passed rows
+
+pub none-given : (rows : List Row) → Passed rows → first rows ≡ 0
+unfolding pick
+none-given [] p = refl
+none-given (row ∷ rows) p = rw (p .0) (none-given rows (p .1))
+
+pub all-passed : (rows : List Row) → numbered rows ≡ true → first rows ≡ 0 → Passed rows
+unfolding pick
+all-passed [] n e = tt
+all-passed (row ∷ rows) n e = at-head (row .holds) refl e (all-passed rows (and-r (ltb 0 (row .number)) (numbered rows) n))
+  where
+    at-head : (test : Bool) → row .holds ≡ test → pick test (row .number) (first rows) ≡ 0 → (first rows ≡ 0 → Passed rows) → Passed (row ∷ rows)
+    at-head true h e below = absurd (let p = ltb-true 0 (row .number) (and-l (ltb 0 (row .number)) (numbered rows) n) in omega arith)
+    at-head false h e below = (h, below e)
+
+-- an answer that is no refusal is the accepted one, and every test was passed
+pub accepted : {A : Type 0} (rows : List Row) (refused : ℕ → A) (answer new : A) → numbered rows ≡ true → ((n : ℕ) → answer ≡ refused n → _≡_ {A = ℕ} 0 1)
+    → answer ≡ unlessRefused (first rows) (refused (first rows)) new → (answer ≡ new) × Passed rows
+accepted {A} rows refused answer new n other e = by-refusal (first rows) refl e
+  where
+    by-refusal : (refusal : ℕ) → first rows ≡ refusal → answer ≡ unlessRefused refusal (refused refusal) new → (answer ≡ new) × Passed rows
+    by-refusal zero f e = (e, all-passed rows n f)
+    by-refusal (suc refusal) f e = absurd (let p = other (suc refusal) e in omega arith)
+
+-- an answer that is not the accepted one changes nothing
+pub declined : {A B : Type 0} (rows : List Row) (refused : ℕ → A) (answer new : A) (old′ new′ : B) → (answer ≡ new → _≡_ {A = ℕ} 0 1)
+    → answer ≡ unlessRefused (first rows) (refused (first rows)) new → unlessRefused (first rows) old′ new′ ≡ old′
+declined {A} {B} rows refused answer new old′ new′ other e = by-refusal (first rows) e
+  where
+    by-refusal : (refusal : ℕ) → answer ≡ unlessRefused refusal (refused refusal) new → unlessRefused refusal old′ new′ ≡ old′
+    by-refusal zero e = absurd (let p = other e in omega arith)
+    by-refusal (suc refusal) e = refl
+
+-- the number that an answer reports is given exactly as the table says, if a refusal reports its number and the accepted answer 0
+pub exactly : {A : Type 0} (report : A → ℕ) (refused : ℕ → A) (new answer : A) (rows : List Row) → ((n : ℕ) → report (refused n) ≡ n) → report new ≡ 0
+    → answer ≡ unlessRefused (first rows) (refused (first rows)) new → (n : ℕ) → report answer ≡ suc n ↔ Given (suc n) rows
+exactly report refused new answer rows told z e n = rw (e, reported report refused told (first rows) new z) (first-is-exact n rows)

@@ -1,7 +1,10 @@
 -- Joined tests taken apart.
 -- Assumes nothing.
-use mathlib.Core.Path.{_≡_, refl}
+use Prim.Native.Nat.{ℕ, _<_, _≤_}
+use mathlib.Core.Path.{_≡_, refl, sym}
 use mathlib.Core.Bool.{Bool, true, false, _&&_, _||_, false≢true, true≢false}
+use borrow.Author.Tests.{lt-ltb, le-ltb, ltb-true, ltb-false}
+use lib.Dec.{ltb}
 
 pub and-l : (a b : Bool) → (a && b) ≡ true → a ≡ true
 and-l true b e = refl
@@ -20,3 +23,11 @@ or-r true b e = absurd (true≢false e)
 or-r false b e = e
 
 pub ruleset joined = (and-l, and-r, or-l, or-r)
+
+-- two tests that say the same
+pub same-test : (a b c d : ℕ) → (a < b → c < d) → (b ≤ a → d ≤ c) → ltb a b ≡ ltb c d
+same-test a b c d up down = by-test (ltb a b) refl
+  where
+    by-test : (test : Bool) → ltb a b ≡ test → test ≡ ltb c d
+    by-test true e = sym (lt-ltb c d (up (ltb-true a b e)))
+    by-test false e = sym (le-ltb c d (down (ltb-false a b e)))

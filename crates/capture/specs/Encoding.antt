@@ -1,0 +1,50 @@
+-- "Capture", put together: notes, records and their trailer.
+use Prim.Native.Nat.{ℕ, _+_, _%_, _^_}
+use mathlib.Core.Path.{_≡_}
+use mathlib.Core.Bool.{not, _||_}
+use mathlib.Core.List.{List, [], _∷_, _++_}
+use lib.Dec.{eqb, ltb, leb}
+use lib.ListN.{length, take, drop}
+use Rattle.laws.specs.Rows.{Row, first, _when_, unlessRefused}
+use Rattle.laws.specs.Octets.{octetsOf}
+use Rattle.laws.specs.Lists.{writtenOver}
+use Rattle.capture.specs.Capture.{mark}
+use Rattle.capture.specs.declared.encoding.CaptureEncoded.{CaptureEncoded}
+use Rattle.capture.specs.declared.encoding.CaptureEncoded.the-variants.{Written, Refused}
+
+-- "an 8-octet trailer: the distance back from the trailer to the first record (4, high first) and 49 50 49 32"
+abbrev pub trailerFor : ℕ → List ℕ
+trailerFor distance = octetsOf 4 distance ++ mark
+
+-- "Octets before that record are bench notes": a capture is notes, records and the trailer.
+abbrev pub captureOctets : List ℕ → List ℕ → List ℕ
+captureOctets notes records = notes ++ records ++ trailerFor (length records)
+
+-- How many octets it has.
+abbrev pub captureLength : List ℕ → List ℕ → ℕ
+captureLength notes records = length notes + length records + 8
+
+-- "all encoders [test] 10, then 8": "a lent slice too short"; "what no decoding yields", which is records that are not whole, or a
+-- distance that four octets cannot hold.
+abbrev pub encodeRows : List ℕ → List ℕ → List ℕ → List Row
+encodeRows notes records out =
+    10 when ltb (length out) (captureLength notes records)
+    ∷ 8 when (not (eqb (length records % 8) 0) || leb (256 ^ 4) (length records))
+    ∷ []
+
+abbrev pub encodeRefusal : List ℕ → List ℕ → List ℕ → ℕ
+encodeRefusal notes records out = first (encodeRows notes records out)
+
+-- The number that an answer refuses with, 0 where it refuses nothing.
+abbrev pub refusalIn : CaptureEncoded → ℕ
+refusalIn (Written size) = 0
+refusalIn (Refused n) = n
+
+-- The promise of `encode_capture`.
+pub record EncodedCapture (notes records before after : List ℕ) (r : CaptureEncoded) : Type 0 where
+  pub answer : r ≡ unlessRefused (encodeRefusal notes records before) (Refused (encodeRefusal notes records before)) (Written (captureLength notes records))
+  pub slice : after ≡ unlessRefused (encodeRefusal notes records before) before (writtenOver before (captureOctets notes records))
+
+-- The list with a part of it replaced, from an index on.
+abbrev pub writtenAt : List ℕ → ℕ → List ℕ → List ℕ
+writtenAt list at part = take at list ++ part ++ drop (at + length part) list

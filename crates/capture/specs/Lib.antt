@@ -1,0 +1,5 @@
+pub mod Record
+pub mod Capture
+pub mod Encoding
+pub mod RoundTrip
+pub mod Cases

@@ -1,0 +1,7 @@
+pub mod Bits
+pub mod Encoding
+pub mod Only
+pub mod Exactly
+pub mod Foreign
+pub mod RoundTrip
+pub mod Cases

@@ -1,0 +1,5 @@
+pub mod Encoded
+pub mod DriveStatus
+pub mod Response
+pub mod RoundTrip
+pub mod Cases

@@ -1,0 +1,5 @@
+// What an encoder of this crate answers.
+pub enum Encoded {
+    Written,
+    Refused(u8),
+}
