@@ -10,10 +10,10 @@ use borrow.Author.Tests.{leb-true, ltb-true}
 use lib.Dec.{leb, ltb}
 use Rattle.laws.proofs.Tests.{and-l, and-r}
 use Rattle.laws.proofs.Pick.{pick-le}
-use Rattle.drive.specs.Control.{headerPasses, namesField1, namesField2, wordsToCome}
-use Rattle.drive.specs.Setup.{withinLimits, sectorWords, allWords, sectorNumber, sectorStart, isPlace}
-use Rattle.drive.specs.declared.setup.Setup.{Setup}
-use Rattle.drive.specs.declared.setup.Place.{Place}
+use Rattle.parts.specs.Control.{headerPasses, namesField1, namesField2, wordsToCome}
+use Rattle.parts.specs.Setup.{withinLimits, sectorWords, allWords, sectorNumber, sectorStart, isPlace}
+use Rattle.parts.specs.declared.setup.Setup.{Setup}
+use Rattle.parts.specs.declared.setup.Place.{Place}
 
 pub record Limits (s : Setup) : Type 0 where
   pub some-cylinder : 1 ≤ s .cylinders

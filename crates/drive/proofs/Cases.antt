@@ -2,15 +2,16 @@
 -- Assumes nothing.
 use mathlib.Core.Path.{refl}
 use Rattle.laws.specs.Pick.{pick}
-use Rattle.drive.specs.Setup.{withinLimits, allWords, sectorNumber, sectorStart, isPlace, isTarget, following}
-use Rattle.drive.specs.Control.{controlOf, headerPasses, wordsToCome, wordsRead}
-use Rattle.drive.specs.Holding.{holdSet, isBusy, grantedTo, released}
-use Rattle.drive.specs.Pending.{withBit, noticed, faulted, octet0}
+use Rattle.parts.specs.Setup.{withinLimits, allWords, sectorNumber, sectorStart, isPlace, isTarget, following}
+use Rattle.parts.specs.Control.{controlOf, headerPasses, wordsToCome, wordsRead}
+use Rattle.parts.specs.Holding.{holdSet, isBusy, grantedTo, released}
+use Rattle.parts.specs.Pending.{withBit, noticed, faulted, octet0}
 use Rattle.drive.specs.State.{pendingOn, postedOn}
 use Rattle.drive.specs.Drive.{ownerNoticed, selected, deselected, afterReset, headStepped, atItsTarget, ended}
 use Rattle.drive.specs.Request.{badRequest, opened, opening, dataControl, positioned, targeted, statusRead}
-use Rattle.drive.specs.Kind.{kindOf}
-use Rattle.drive.specs.Refusal.{isOutsideLimits, isDisowned, isBrokenTransfer, hasStrayBit, row11, row10, refusalOf}
+use Rattle.parts.specs.Kind.{kindOf}
+use Rattle.drive.specs.Refusal.{row11, row10, refusalOf}
+use Rattle.parts.specs.Tests.{isOutsideLimits, isDisowned, isBrokenTransfer, hasStrayBit}
 use Rattle.drive.specs.Transfer.{sameWords, miscompares, committed, staged, wordStaged, wordTaken}
 use Rattle.drive.specs.Event.{handled}
 use Rattle.drive.specs.Run.{answerTo, after, answers, final}

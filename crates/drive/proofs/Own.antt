@@ -10,18 +10,19 @@ use Rattle.laws.specs.Pick.{pick}
 use Rattle.laws.specs.Rows.{first, _when_}
 use Rattle.laws.proofs.Rows.{refused-as, accepted-as, row-off, rows-rest}
 use Rattle.laws.proofs.Tests.{or-r}
-use Rattle.drive.specs.Control.{controlOf, isWrite, isRead, wordsToCome}
-use Rattle.drive.specs.Holding.{nobody}
-use Rattle.drive.specs.Kind.{Kind}
+use Rattle.parts.specs.Control.{controlOf, isWrite, isRead, wordsToCome}
+use Rattle.parts.specs.Holding.{nobody}
+use Rattle.parts.specs.Kind.{Kind}
 use Rattle.drive.specs.State.{told, Result}
-use Rattle.drive.specs.Refusal.{isWriteOpen, isReadOpen, isOpen, isBrokenTransfer, ownRows}
+use Rattle.drive.specs.Refusal.{ownRows}
+use Rattle.parts.specs.Tests.{isWriteOpen, isReadOpen, isOpen, isBrokenTransfer}
 use Rattle.drive.specs.Event.{refusedWith}
 use Rattle.drive.specs.Able.{Passable, Able, unlessOwnRow, unlessOwnRowIn}
-use Rattle.drive.specs.declared.setup.Setup.{Setup}
-use Rattle.drive.specs.declared.holding.Holding.{Holding}
-use Rattle.drive.specs.declared.transfer.Transfer.{Transfer}
+use Rattle.parts.specs.declared.setup.Setup.{Setup}
+use Rattle.parts.specs.declared.holding.Holding.{Holding}
+use Rattle.parts.specs.declared.transfer.Transfer.{Transfer}
 use Rattle.drive.specs.declared.drive.Drive.{Drive}
-use Rattle.drive.specs.declared.event.Event.{Event}
+use Rattle.parts.specs.declared.event.Event.{Event}
 use Rattle.drive.specs.declared.answer.Outcome.{Outcome}
 use Rattle.drive.specs.declared.answer.Answer.the-variants.{Refused}
 use Rattle.drive.proofs.Sound.{sound}

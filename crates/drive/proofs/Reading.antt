@@ -10,11 +10,11 @@ use lib.ListN.{length, getD, take, drop, length-take, length-drop, length-append
 use lib.Seq.{getD-take, getD-drop, getD-append-add}
 use Rattle.laws.specs.Pick.{pick}
 use Rattle.laws.proofs.Pick.{pick-le}
-use Rattle.drive.specs.Setup.{sectorWords, sectorStart, sectorAt}
-use Rattle.drive.specs.Control.{headerPasses, namesField1, namesField2, part, wordsToCome, wordsRead}
+use Rattle.parts.specs.Setup.{sectorWords, sectorStart, sectorAt}
+use Rattle.parts.specs.Control.{headerPasses, namesField1, namesField2, part, wordsToCome, wordsRead}
 use Rattle.drive.specs.Able.{ReadsAt}
-use Rattle.drive.specs.declared.setup.Setup.{Setup}
-use Rattle.drive.specs.declared.setup.Place.{Place}
+use Rattle.parts.specs.declared.setup.Setup.{Setup}
+use Rattle.parts.specs.declared.setup.Place.{Place}
 
 -- a part of the sector that passes or not
 passing : Bool → ℕ → ℕ → List ℕ → List ℕ

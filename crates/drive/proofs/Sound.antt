@@ -9,11 +9,12 @@ use borrow.Author.Tests.{not-false, ltb-false, leb-false}
 use lib.Dec.{ltb}
 use lib.ListN.{length}
 use Rattle.laws.proofs.Tests.{or-l, or-r}
-use Rattle.drive.specs.Setup.{withinLimits, sectorWords, allWords, sectorStart, isPlace, isTarget}
-use Rattle.drive.specs.Holding.{nobody}
-use Rattle.drive.specs.Refusal.{isOutsideLimits, isDisowned, isBrokenTransfer, hasStrayBit, row11, row10}
+use Rattle.parts.specs.Setup.{withinLimits, sectorWords, allWords, sectorStart, isPlace, isTarget}
+use Rattle.parts.specs.Holding.{nobody}
+use Rattle.drive.specs.Refusal.{row11, row10}
+use Rattle.parts.specs.Tests.{isOutsideLimits, isDisowned, isBrokenTransfer, hasStrayBit}
 use Rattle.drive.specs.Able.{Room, Able}
-use Rattle.drive.specs.declared.setup.Setup.{Setup}
+use Rattle.parts.specs.declared.setup.Setup.{Setup}
 use Rattle.drive.specs.declared.drive.Drive.{Drive}
 use Rattle.drive.proofs.Bounds.{inside, sector-in-room}
 

@@ -6,13 +6,13 @@ use mathlib.Core.Bool.{true, false}
 use mathlib.Core.List.{List}
 use Rattle.laws.specs.Pick.{pick}
 use Rattle.laws.specs.Rows.{first, unlessRefused}
-use Rattle.drive.specs.Kind.{Kind, Unknown, kindOf}
+use Rattle.parts.specs.Kind.{Kind, Unknown, kindOf}
 use Rattle.drive.specs.State.{told, Result, result}
 use Rattle.drive.specs.Refusal.{row1, row10, row11, ownRows, refusalOf}
 use Rattle.drive.specs.Event.{act, refusedWith, handled, Handled}
 use Rattle.drive.specs.Able.{Passable, unlessOwnRow, unlessOwnRowIn}
 use Rattle.drive.specs.declared.drive.Drive.{Drive}
-use Rattle.drive.specs.declared.event.Event.{Event}
+use Rattle.parts.specs.declared.event.Event.{Event}
 use Rattle.drive.specs.declared.answer.Outcome.{Outcome}
 use Rattle.drive.specs.declared.answer.Answer.the-variants.{Refused}
 

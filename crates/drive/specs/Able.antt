@@ -4,17 +4,17 @@ use mathlib.Core.Path.{_≡_}
 use mathlib.Core.Bool.{false, true}
 use mathlib.Core.List.{List}
 use lib.ListN.{length, getD}
-use Rattle.drive.specs.Setup.{withinLimits, sectorWords, isPlace}
-use Rattle.drive.specs.Control.{wordsToCome, wordsRead}
+use Rattle.parts.specs.Setup.{withinLimits, sectorWords, isPlace}
+use Rattle.parts.specs.Control.{wordsToCome, wordsRead}
 use Rattle.laws.specs.Rows.{first, unlessRefused}
-use Rattle.drive.specs.Kind.{Kind}
+use Rattle.parts.specs.Kind.{Kind}
 use Rattle.drive.specs.State.{told, Result}
 use Rattle.drive.specs.Refusal.{row11, row10, ownRows}
 use Rattle.drive.specs.Event.{refusedWith}
-use Rattle.drive.specs.declared.event.Event.{Event}
+use Rattle.parts.specs.declared.event.Event.{Event}
 use Rattle.drive.specs.declared.answer.Outcome.{Outcome}
 use Rattle.drive.specs.declared.answer.Answer.the-variants.{Refused}
-use Rattle.drive.specs.declared.setup.Setup.{Setup}
+use Rattle.parts.specs.declared.setup.Setup.{Setup}
 use Rattle.drive.specs.declared.drive.Drive.{Drive}
 
 -- Rows 11 and 10 let the state pass.

@@ -6,8 +6,8 @@ use lib.ListN.{replicate}
 use Rattle.drive.specs.Power.{atRest}
 use Rattle.drive.specs.State.{atPlace}
 use Rattle.drive.specs.Run.{Machine, machine, answers, final}
-use Rattle.drive.specs.declared.setup.Setup.{Setup}
-use Rattle.drive.specs.declared.event.Event.{Event}
+use Rattle.parts.specs.declared.setup.Setup.{Setup}
+use Rattle.parts.specs.declared.event.Event.{Event}
 use Rattle.drive.specs.declared.answer.Answer.{Answer}
 use Rattle.drive.specs.declared.answer.Answer.the-variants.{Refused, Done, Status, Opened, Word, LastWord, Response}
 

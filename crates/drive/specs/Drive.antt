@@ -1,10 +1,11 @@
 -- What changes the drive's state: selection, deselection and reset ("Who holds the drive"), and the moves of its position.
 use Prim.Native.Nat.{ℕ}
 use Rattle.laws.specs.Pick.{pick}
-use Rattle.drive.specs.Setup.{noTarget, following}
-use Rattle.drive.specs.Holding.{isOwnedByOther, grantedTo, released, free}
-use Rattle.drive.specs.Pending.{resetComplete, pendingOf, noticed}
-use Rattle.drive.specs.State.{atPlace, noTransfer, withHolding, withPlace, withTransfer, pendingOn, postedOn}
+use Rattle.parts.specs.Setup.{noTarget, following}
+use Rattle.parts.specs.Holding.{isOwnedByOther, grantedTo, released, free}
+use Rattle.parts.specs.Pending.{resetComplete, pendingOf, noticed}
+use Rattle.drive.specs.State.{atPlace, withHolding, withPlace, withTransfer, pendingOn, postedOn}
+use Rattle.parts.specs.Tests.{noTransfer}
 use Rattle.drive.specs.declared.drive.Drive.{Drive}
 
 -- "A grant over another owner is a takeover: its selection, hold and open transfer are gone, and Alternate Port Priority Select goes pending on it."

@@ -5,13 +5,13 @@ use mathlib.Core.List.{List}
 use Rattle.laws.specs.Rows.{unlessRefused}
 use Rattle.drive.specs.Answer.{normal}
 use Rattle.drive.specs.State.{told, Result, result}
-use Rattle.drive.specs.Kind.{Kind, Select, Deselect, Use, Reset, Unknown, Work, DataControl, WordFromHost, TakeWord, End, Position, Target, ReadStatus, kindOf, wordOf, placeOf}
+use Rattle.parts.specs.Kind.{Kind, Select, Deselect, Use, Reset, Unknown, Work, DataControl, WordFromHost, TakeWord, End, Position, Target, ReadStatus, kindOf, wordOf, placeOf}
 use Rattle.drive.specs.Refusal.{refusalOf}
 use Rattle.drive.specs.Drive.{selected, deselected, afterReset, ended}
 use Rattle.drive.specs.Request.{dataControl, positioned, targeted, statusRead}
 use Rattle.drive.specs.Transfer.{wordStaged, wordTaken}
 use Rattle.drive.specs.declared.drive.Drive.{Drive}
-use Rattle.drive.specs.declared.event.Event.{Event}
+use Rattle.parts.specs.declared.event.Event.{Event}
 use Rattle.drive.specs.declared.answer.Outcome.{Outcome}
 use Rattle.drive.specs.declared.answer.Answer.the-variants.{Refused, Done, Status}
 

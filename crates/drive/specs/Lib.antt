@@ -1,12 +1,7 @@
-pub mod Setup
-pub mod Control
-pub mod Holding
-pub mod Pending
 pub mod Answer
 pub mod State
 pub mod Drive
 pub mod Request
-pub mod Kind
 pub mod Refusal
 pub mod Transfer
 pub mod Event

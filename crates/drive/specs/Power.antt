@@ -4,12 +4,13 @@ use mathlib.Core.Path.{_≡_}
 use mathlib.Core.Bool.{not}
 use mathlib.Core.List.{List, [], _∷_}
 use Rattle.laws.specs.Rows.{Row, first, _when_, unlessRefused}
-use Rattle.drive.specs.Setup.{withinLimits, noTarget}
-use Rattle.drive.specs.Holding.{free}
-use Rattle.drive.specs.Pending.{nothingPending}
-use Rattle.drive.specs.State.{atPlace, noTransfer}
+use Rattle.parts.specs.Setup.{withinLimits, noTarget}
+use Rattle.parts.specs.Holding.{free}
+use Rattle.parts.specs.Pending.{nothingPending}
+use Rattle.drive.specs.State.{atPlace}
+use Rattle.parts.specs.Tests.{noTransfer}
 use Rattle.drive.specs.Refusal.{row10}
-use Rattle.drive.specs.declared.setup.Setup.{Setup}
+use Rattle.parts.specs.declared.setup.Setup.{Setup}
 use Rattle.drive.specs.declared.drive.Drive.{Drive}
 use Rattle.drive.specs.declared.power.Powered.{Powered}
 use Rattle.drive.specs.declared.power.Powered.the-variants.{Up, Refused}

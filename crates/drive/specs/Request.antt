@@ -2,15 +2,16 @@
 use Prim.Native.Nat.{ℕ}
 use lib.Dec.{eqb}
 use Rattle.laws.specs.Pick.{pick}
-use Rattle.drive.specs.Setup.{isPlace, isTarget, noTarget}
-use Rattle.drive.specs.Control.{controlOf, isAtTarget, wordsToCome}
-use Rattle.drive.specs.Pending.{invalidBusControl, invalidParameter, unsupportedBusControl, busControlContext, nothingPending, faulted, octet0}
+use Rattle.parts.specs.Setup.{isPlace, isTarget, noTarget}
+use Rattle.parts.specs.Control.{controlOf, isAtTarget, wordsToCome}
+use Rattle.parts.specs.Pending.{invalidBusControl, invalidParameter, unsupportedBusControl, busControlContext, nothingPending, faulted, octet0}
 use Rattle.drive.specs.Answer.{normal, operationException, unsolicitedException}
-use Rattle.drive.specs.State.{transferring, withPlace, withTarget, withTransfer, pendingOn, postedOn, told}
+use Rattle.drive.specs.State.{withPlace, withTarget, withTransfer, pendingOn, postedOn, told}
+use Rattle.parts.specs.Tests.{transferring}
 use Rattle.drive.specs.Drive.{headStepped, atItsTarget, ended}
-use Rattle.drive.specs.declared.setup.Place.{Place}
-use Rattle.drive.specs.declared.control.Control.{Control}
-use Rattle.drive.specs.declared.control.Control.the-variants.{Write, Read, StepHead, Reserved, Unsupported, Invalid}
+use Rattle.parts.specs.declared.setup.Place.{Place}
+use Rattle.parts.specs.declared.control.Control.{Control}
+use Rattle.parts.specs.declared.control.Control.the-variants.{Write, Read, StepHead, Reserved, Unsupported, Invalid}
 use Rattle.drive.specs.declared.drive.Drive.{Drive}
 use Rattle.drive.specs.declared.answer.Outcome.{Outcome}
 use Rattle.drive.specs.declared.answer.Answer.the-variants.{Status, Opened, Response}

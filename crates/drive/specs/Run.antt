@@ -3,7 +3,7 @@ use mathlib.Core.List.{List, [], _∷_}
 use Prim.Native.Nat.{ℕ}
 use Rattle.drive.specs.Event.{handled}
 use Rattle.drive.specs.declared.drive.Drive.{Drive}
-use Rattle.drive.specs.declared.event.Event.{Event}
+use Rattle.parts.specs.declared.event.Event.{Event}
 use Rattle.drive.specs.declared.answer.Answer.{Answer}
 
 pub record Machine : Type 0 where

@@ -3,22 +3,16 @@ use Prim.Native.Nat.{ℕ}
 use mathlib.Core.List.{List}
 use lib.Dec.{eqb}
 use Rattle.laws.specs.Pick.{pick}
-use Rattle.drive.specs.declared.setup.Place.{Place}
-use Rattle.drive.specs.declared.holding.Holding.{Holding}
-use Rattle.drive.specs.declared.pending.Pending.{Pending}
-use Rattle.drive.specs.declared.transfer.Transfer.{Transfer}
+use Rattle.parts.specs.declared.setup.Place.{Place}
+use Rattle.parts.specs.declared.holding.Holding.{Holding}
+use Rattle.parts.specs.declared.pending.Pending.{Pending}
+use Rattle.parts.specs.declared.transfer.Transfer.{Transfer}
 use Rattle.drive.specs.declared.drive.Drive.{Drive}
 use Rattle.drive.specs.declared.answer.Answer.{Answer}
 use Rattle.drive.specs.declared.answer.Outcome.{Outcome}
 
 abbrev pub atPlace : ℕ → ℕ → ℕ → Place
 atPlace cylinder head sector = record { cylinder = cylinder; head = head; sector = sector }
-
-abbrev pub transferring : ℕ → ℕ → Transfer
-transferring control moved = record { control = control; moved = moved }
-
-abbrev pub noTransfer : Transfer
-noTransfer = transferring 0 0
 
 abbrev pub withHolding : Drive → Holding → Drive
 withHolding d h =

@@ -6,12 +6,13 @@ use lib.Dec.{eqb}
 use lib.ListN.{take, drop, set, getD}
 use lib.Seq.{paste}
 use Rattle.laws.specs.Pick.{pick}
-use Rattle.drive.specs.Setup.{sectorStart, sectorAt}
-use Rattle.drive.specs.Control.{verifiesHeader, movesHeader, namesField1, namesField2, part, wordsToCome, wordsRead}
+use Rattle.parts.specs.Setup.{sectorStart, sectorAt}
+use Rattle.parts.specs.Control.{verifiesHeader, movesHeader, namesField1, namesField2, part, wordsToCome, wordsRead}
 use Rattle.drive.specs.Answer.{normal, headerMiscompare}
-use Rattle.drive.specs.State.{told, withTransfer, transferring, Result, result}
+use Rattle.drive.specs.State.{told, withTransfer, Result, result}
+use Rattle.parts.specs.Tests.{transferring}
 use Rattle.drive.specs.Drive.{ended}
-use Rattle.drive.specs.declared.setup.Setup.{Setup}
+use Rattle.parts.specs.declared.setup.Setup.{Setup}
 use Rattle.drive.specs.declared.drive.Drive.{Drive}
 use Rattle.drive.specs.declared.answer.Outcome.{Outcome}
 use Rattle.drive.specs.declared.answer.Answer.the-variants.{Done, Status, Word, LastWord}

@@ -1,6 +1,6 @@
 // The answer to an event, and the drive after it.
 use crate::drive::Drive;
-use crate::setup::Place;
+use parts::Place;
 
 pub enum Answer {
     // The number of the refusal: nothing changed.

@@ -1,14 +1,10 @@
 // The drive's state, by value, and what changes it: selection, deselection and reset hand the new state back.
-use crate::holding;
-use crate::holding::Holding;
-use crate::pending;
-use crate::pending::Pending;
-use crate::setup;
-use crate::setup::NO_TARGET;
-use crate::setup::Place;
-use crate::setup::Setup;
-use crate::transfer;
-use crate::transfer::Transfer;
+use crate::posting;
+use parts::Holding;
+use parts::Pending;
+use parts::Place;
+use parts::Setup;
+use parts::Transfer;
 ghost use mathlib.Core.Path.{_≡_};
 ghost use Rattle.laws.specs.Pick.{pick};
 ghost use Rattle.drive.specs.State.{pendingOn, postedOn};
@@ -50,8 +46,8 @@ impl Drive {
     pub(crate) fn select(self, port: u16, octet: u8) -> Drive
         ensures { λ r. ⌜ r ≡ selected self port octet ⌝ }
     {
-        let granted = holding::granted_to(port, octet);
-        let none = transfer::no_transfer();
+        let granted = parts::granted_to(port, octet);
+        let none = parts::no_transfer();
         let mut d = self.owner_noticed(port);
         d.holding = granted;
         d.transfer = none;
@@ -74,20 +70,20 @@ impl Drive {
         let s = self.setup;
         Drive {
             setup: s,
-            holding: holding::no_holding(),
+            holding: parts::no_holding(),
             place: Place {
                 cylinder: 0,
                 head: 0,
                 sector: 0,
             },
-            target: NO_TARGET,
-            transfer: transfer::no_transfer(),
+            target: parts::NO_TARGET,
+            transfer: parts::no_transfer(),
             pending0: Pending {
-                octet1: pending::RESET_COMPLETE,
+                octet1: parts::RESET_COMPLETE,
                 octet2: 0,
             },
             pending1: Pending {
-                octet1: pending::RESET_COMPLETE,
+                octet1: parts::RESET_COMPLETE,
                 octet2: 0,
             },
         }
@@ -101,7 +97,7 @@ impl Drive {
         let owner = h.owner;
         if h.is_owned_by_other(port) {
             let p = self.pending_on(owner);
-            return self.posted_on(owner, p.noticed());
+            return self.posted_on(owner, posting::noticed_on(p));
         }
         self
     }
@@ -115,9 +111,9 @@ impl Drive {
         let next = Place {
             cylinder: p.cylinder,
             head: p.head,
-            sector: setup::next_of(p.sector, s.sectors),
+            sector: parts::next_of(p.sector, s.sectors),
         };
-        let none = transfer::no_transfer();
+        let none = parts::no_transfer();
         let mut d = self;
         d.place = next;
         d.transfer = none;
@@ -146,7 +142,7 @@ impl Drive {
         let p = self.place;
         let next = Place {
             cylinder: p.cylinder,
-            head: setup::next_of(p.head, s.heads),
+            head: parts::next_of(p.head, s.heads),
             sector: p.sector,
         };
         let mut d = self;

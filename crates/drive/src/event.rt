@@ -4,19 +4,11 @@ use crate::answer::Outcome;
 use crate::drive::Drive;
 use crate::kinds;
 use crate::refusal;
+use parts::Event;
 ghost use mathlib.Core.Path.{_≡_};
 ghost use Rattle.drive.specs.State.{told, result};
 ghost use Rattle.drive.specs.Event.{handled, Handled};
 ghost use Rattle.drive.specs.Able.{Passable};
-
-pub struct Event {
-    pub port: u8,
-    pub kind: u8,
-    pub a0: u8,
-    pub a1: u8,
-    pub a2: u8,
-    pub a3: u8,
-}
 
 const LAST_PORT: u8 = 1;
 
@@ -27,10 +19,10 @@ impl Drive {
     {
         let s = self.setup;
         if refusal::is_unsound(self) {
-            return self.refused(refusal::UNSOUND_STATE);
+            return self.refused(parts::UNSOUND_STATE);
         }
         if refusal::lacks_room(s, &sectors[..], &staging[..]) {
-            return self.refused(refusal::SLICE_TOO_SHORT);
+            return self.refused(parts::SLICE_TOO_SHORT);
         }
         step(self, event, sectors, staging)
     }
@@ -51,7 +43,7 @@ pub(crate) fn step(drive: Drive, event: Event, sectors: &mut [u16], staging: &mu
     ensures { λ r. ⌜ result r (now (sectors .exit)) (now (staging .exit)) ≡ handled drive event (now (sectors .entry)) (now (staging .entry)) ⌝ }
 {
     if LAST_PORT < event.port {
-        return drive.refused(refusal::NO_SUCH_PORT);
+        return drive.refused(parts::NO_SUCH_PORT);
     }
     let kind = event.kind;
     match kind {
@@ -65,6 +57,6 @@ pub(crate) fn step(drive: Drive, event: Event, sectors: &mut [u16], staging: &mu
         8 => kinds::on_target(drive, event),
         9 => kinds::on_read_status(drive, event),
         10 => kinds::on_reset(drive, event),
-        _ => drive.refused(refusal::MALFORMED),
+        _ => drive.refused(parts::MALFORMED),
     }
 }

@@ -3,21 +3,23 @@ use crate::answer;
 use crate::answer::Answer;
 use crate::answer::Outcome;
 use crate::drive::Drive;
-use crate::event::Event;
-use crate::refusal;
-use crate::setup::Place;
 use crate::transfer;
+use parts::Event;
+use parts::Holding;
+use parts::Place;
+use parts::Transfer;
 ghost use Prim.Native.Nat.{_+_, _*_};
 ghost use mathlib.Core.Path.{_≡_};
-ghost use mathlib.Core.Bool.{true};
+ghost use mathlib.Core.Bool.{true, _||_};
 ghost use lib.Dec.{eqb};
-ghost use Rattle.drive.specs.Setup.{withinLimits};
+ghost use Rattle.parts.specs.Setup.{withinLimits};
+ghost use Rattle.parts.specs.Tests.{isWriteOpen, isReadOpen};
 ghost use Rattle.drive.specs.Answer.{normal};
 ghost use Rattle.drive.specs.State.{told, result};
 ghost use Rattle.drive.specs.Drive.{selected, deselected, afterReset, ended};
 ghost use Rattle.drive.specs.Request.{dataControl, positioned, targeted, statusRead};
 ghost use Rattle.drive.specs.Transfer.{wordStaged, wordTaken};
-ghost use Rattle.drive.specs.Kind.{Kind, Work, wordOf, placeOf};
+ghost use Rattle.parts.specs.Kind.{Kind, Work, wordOf, placeOf};
 ghost use Rattle.drive.specs.Able.{Passable, unlessOwnRow, unlessOwnRowIn};
 
 pub(crate) fn on_select(drive: Drive, event: Event) -> Outcome
@@ -27,12 +29,12 @@ pub(crate) fn on_select(drive: Drive, event: Event) -> Outcome
     let h = drive.holding;
     let port = event.port as u16;
     let octet = event.a0;
-    let misaddressed = refusal::is_misaddressed(octet, s.address);
-    let changes_mode = refusal::changes_mode(octet);
+    let misaddressed = parts::is_misaddressed(octet, s.address);
+    let changes_mode = parts::changes_mode(octet);
     let busy = h.is_busy(port, octet);
-    let n = refusal::select_refusal(
-        refusal::none_after_1(event),
-        is_selected(drive, event),
+    let n = parts::select_refusal(
+        parts::none_after_1(event),
+        is_selected(h, event),
         misaddressed,
         changes_mode,
         busy,
@@ -49,10 +51,12 @@ pub(crate) fn on_select(drive: Drive, event: Event) -> Outcome
 pub(crate) fn on_deselect(drive: Drive, event: Event) -> Outcome
     ensures { λ r. ⌜ r ≡ unlessOwnRow Kind.Deselect drive event (told Answer.Done (deselected drive)) ⌝ }
 {
-    let n = refusal::inside_refusal(
-        refusal::none_at_all(event),
-        is_selected(drive, event),
-        refusal::is_one_open(drive),
+    let h = drive.holding;
+    let t = drive.transfer;
+    let n = parts::inside_refusal(
+        parts::none_at_all(event),
+        is_selected(h, event),
+        is_one_open(t),
     );
     if n != 0 {
         return drive.refused(n);
@@ -66,8 +70,8 @@ pub(crate) fn on_deselect(drive: Drive, event: Event) -> Outcome
 pub(crate) fn on_reset(drive: Drive, event: Event) -> Outcome
     ensures { λ r. ⌜ r ≡ unlessOwnRow Kind.Reset drive event (told Answer.Done (afterReset drive)) ⌝ }
 {
-    if !refusal::none_at_all(event) {
-        return drive.refused(refusal::MALFORMED);
+    if !parts::none_at_all(event) {
+        return drive.refused(parts::MALFORMED);
     }
     Outcome {
         answer: Answer::Done,
@@ -79,10 +83,12 @@ pub(crate) fn on_data_control(drive: Drive, event: Event) -> Outcome
     requires { ⌜ withinLimits (drive .setup) ≡ true ⌝ }
     ensures { λ r. ⌜ r ≡ unlessOwnRow (Kind.Use Work.DataControl) drive event (dataControl drive (event .port) (event .a0)) ⌝ }
 {
-    let n = refusal::inside_refusal(
-        refusal::none_after_1(event),
-        is_selected(drive, event),
-        refusal::is_one_open(drive),
+    let h = drive.holding;
+    let t = drive.transfer;
+    let n = parts::inside_refusal(
+        parts::none_after_1(event),
+        is_selected(h, event),
+        is_one_open(t),
     );
     if n != 0 {
         return drive.refused(n);
@@ -93,12 +99,14 @@ pub(crate) fn on_data_control(drive: Drive, event: Event) -> Outcome
 pub(crate) fn on_position(drive: Drive, event: Event) -> Outcome
     ensures { λ r. ⌜ r ≡ unlessOwnRow (Kind.Use Work.Position) drive event (positioned drive (event .port) (placeOf event)) ⌝ }
 {
-    let n = refusal::inside_refusal(true, is_selected(drive, event), refusal::is_one_open(drive));
+    let h = drive.holding;
+    let t = drive.transfer;
+    let n = parts::inside_refusal(true, is_selected(h, event), is_one_open(t));
     if n != 0 {
         return drive.refused(n);
     }
     let place = Place {
-        cylinder: word_of(event),
+        cylinder: parts::word_of(event),
         head: event.a2 as u16,
         sector: event.a3 as u16,
     };
@@ -108,24 +116,28 @@ pub(crate) fn on_position(drive: Drive, event: Event) -> Outcome
 pub(crate) fn on_target(drive: Drive, event: Event) -> Outcome
     ensures { λ r. ⌜ r ≡ unlessOwnRow (Kind.Use Work.Target) drive event (targeted drive (event .port) (wordOf event)) ⌝ }
 {
-    let n = refusal::inside_refusal(
-        refusal::none_after_2(event),
-        is_selected(drive, event),
-        refusal::is_one_open(drive),
+    let h = drive.holding;
+    let t = drive.transfer;
+    let n = parts::inside_refusal(
+        parts::none_after_2(event),
+        is_selected(h, event),
+        is_one_open(t),
     );
     if n != 0 {
         return drive.refused(n);
     }
-    drive.targeted(event.port as u16, word_of(event))
+    drive.targeted(event.port as u16, parts::word_of(event))
 }
 
 pub(crate) fn on_read_status(drive: Drive, event: Event) -> Outcome
     ensures { λ r. ⌜ r ≡ unlessOwnRow (Kind.Use Work.ReadStatus) drive event (statusRead drive (event .port)) ⌝ }
 {
-    let n = refusal::inside_refusal(
-        refusal::none_at_all(event),
-        is_selected(drive, event),
-        refusal::is_one_open(drive),
+    let h = drive.holding;
+    let t = drive.transfer;
+    let n = parts::inside_refusal(
+        parts::none_at_all(event),
+        is_selected(h, event),
+        is_one_open(t),
     );
     if n != 0 {
         return drive.refused(n);
@@ -136,10 +148,12 @@ pub(crate) fn on_read_status(drive: Drive, event: Event) -> Outcome
 pub(crate) fn on_end(drive: Drive, event: Event) -> Outcome
     ensures { λ r. ⌜ r ≡ unlessOwnRow (Kind.Use Work.End) drive event (told (Answer.Status normal) (ended drive)) ⌝ }
 {
-    let n = refusal::inside_refusal(
-        refusal::none_at_all(event),
-        is_selected(drive, event),
-        !refusal::is_one_open(drive),
+    let h = drive.holding;
+    let t = drive.transfer;
+    let n = parts::inside_refusal(
+        parts::none_at_all(event),
+        is_selected(h, event),
+        !is_one_open(t),
     );
     if n != 0 {
         return drive.refused(n);
@@ -156,27 +170,29 @@ pub(crate) fn on_word_from_host(
     requires { ⌜ Passable drive (now sectors) (now staging) ⌝ }
     ensures { λ r. ⌜ result r (now (sectors .exit)) (now (staging .exit)) ≡ unlessOwnRowIn (Kind.Use Work.WordFromHost) drive event (now (sectors .entry)) (now (staging .entry)) (wordStaged drive (wordOf event) (now (sectors .entry)) (now (staging .entry))) ⌝ }
 {
+    let h = drive.holding;
     let t = drive.transfer;
-    let n = refusal::inside_refusal(
-        refusal::none_after_2(event),
-        is_selected(drive, event),
-        !refusal::is_write_open(t),
+    let n = parts::inside_refusal(
+        parts::none_after_2(event),
+        is_selected(h, event),
+        !parts::is_write_open(t),
     );
     if n != 0 {
         return drive.refused(n);
     }
-    transfer::word_staged(drive, word_of(event), sectors, staging)
+    transfer::word_staged(drive, parts::word_of(event), sectors, staging)
 }
 
 pub(crate) fn on_take_word(drive: Drive, event: Event, sectors: &[u16], staging: &[u16]) -> Outcome
     requires { ⌜ Passable drive (now sectors) (now staging) ⌝ }
     ensures { λ r. ⌜ r ≡ unlessOwnRow (Kind.Use Work.TakeWord) drive event (wordTaken drive (now (sectors .entry))) ⌝ }
 {
+    let h = drive.holding;
     let t = drive.transfer;
-    let n = refusal::inside_refusal(
-        refusal::none_at_all(event),
-        is_selected(drive, event),
-        !refusal::is_read_open(t),
+    let n = parts::inside_refusal(
+        parts::none_at_all(event),
+        is_selected(h, event),
+        !parts::is_read_open(t),
     );
     if n != 0 {
         return drive.refused(n);
@@ -184,14 +200,14 @@ pub(crate) fn on_take_word(drive: Drive, event: Event, sectors: &[u16], staging:
     transfer::word_taken(drive, sectors, staging)
 }
 
-fn is_selected(drive: Drive, event: Event) -> bool
-    ensures { λ r. ⌜ r ≡ eqb (drive .holding .selected) (event .port) ⌝ }
+fn is_selected(holding: Holding, event: Event) -> bool
+    ensures { λ r. ⌜ r ≡ eqb (holding .selected) (event .port) ⌝ }
 {
-    drive.holding.selected == event.port as u16
+    holding.selected == event.port as u16
 }
 
-fn word_of(event: Event) -> u16
-    ensures { λ r. ⌜ r ≡ wordOf event ⌝ }
+fn is_one_open(transfer: Transfer) -> bool
+    ensures { λ r. ⌜ r ≡ (isWriteOpen transfer || isReadOpen transfer) ⌝ }
 {
-    event.a0 as u16 * 256 + event.a1 as u16
+    parts::is_write_open(transfer) | parts::is_read_open(transfer)
 }

@@ -1,12 +1,9 @@
 // Power-up: the limits, then the slices.
 use crate::drive::Drive;
-use crate::holding;
-use crate::pending::Pending;
 use crate::refusal;
-use crate::setup::NO_TARGET;
-use crate::setup::Place;
-use crate::setup::Setup;
-use crate::transfer;
+use parts::Pending;
+use parts::Place;
+use parts::Setup;
 ghost use mathlib.Core.Path.{_≡_};
 ghost use Rattle.drive.specs.Power.{setupOf, atRest, PoweredUp};
 
@@ -39,10 +36,10 @@ pub fn power_up(
         address,
     };
     if !setup.within_limits() {
-        return Powered::Refused(refusal::OUTSIDE_ITS_LIMITS);
+        return Powered::Refused(parts::OUTSIDE_ITS_LIMITS);
     }
     if refusal::lacks_room(setup, sector_words, staging_words) {
-        return Powered::Refused(refusal::SLICE_TOO_SHORT);
+        return Powered::Refused(parts::SLICE_TOO_SHORT);
     }
     Powered::Up(at_rest(setup))
 }
@@ -52,14 +49,14 @@ fn at_rest(setup: Setup) -> Drive
 {
     Drive {
         setup,
-        holding: holding::no_holding(),
+        holding: parts::no_holding(),
         place: Place {
             cylinder: 0,
             head: 0,
             sector: 0,
         },
-        target: NO_TARGET,
-        transfer: transfer::no_transfer(),
+        target: parts::NO_TARGET,
+        transfer: parts::no_transfer(),
         pending0: Pending {
             octet1: 0,
             octet2: 0,

@@ -2,22 +2,20 @@
 use crate::answer;
 use crate::answer::Answer;
 use crate::answer::Outcome;
-use crate::control;
-use crate::control::Control;
 use crate::drive::Drive;
-use crate::pending;
-use crate::pending::Pending;
-use crate::setup::NO_TARGET;
-use crate::setup::Place;
-use crate::transfer::Transfer;
+use crate::posting;
+use parts::Control;
+use parts::Pending;
+use parts::Place;
+use parts::Transfer;
 ghost use mathlib.Core.Path.{_≡_};
 ghost use mathlib.Core.Bool.{true};
-ghost use Rattle.drive.specs.Setup.{withinLimits};
-ghost use Rattle.drive.specs.Pending.{OneBit};
+ghost use Rattle.parts.specs.Setup.{withinLimits};
+ghost use Rattle.parts.specs.Pending.{OneBit};
 ghost use Rattle.drive.specs.State.{told};
 ghost use Rattle.drive.specs.Answer.{unsolicitedException};
 ghost use Rattle.drive.specs.Request.{badRequest, opened, opening, controlled, dataControl, positioned, targeted, statusRead};
-ghost use Rattle.drive.specs.Control.{controlOf};
+ghost use Rattle.parts.specs.Control.{controlOf};
 
 impl Drive {
     pub(crate) fn data_control(self, port: u16, control: u16) -> Outcome
@@ -42,7 +40,7 @@ impl Drive {
                 d.place = place;
                 return d.told_status(answer::NORMAL);
             }
-            return self.bad_request(port, pending::INVALID_PARAMETER);
+            return self.bad_request(port, parts::INVALID_PARAMETER);
         }
         self.unsolicited()
     }
@@ -58,7 +56,7 @@ impl Drive {
                 d.target = target;
                 return d.told_status(answer::NORMAL);
             }
-            return self.bad_request(port, pending::INVALID_PARAMETER);
+            return self.bad_request(port, parts::INVALID_PARAMETER);
         }
         self.unsolicited()
     }
@@ -84,14 +82,14 @@ impl Drive {
         requires { ⌜ withinLimits (self .setup) ≡ true ⌝ }
         ensures { λ r. ⌜ r ≡ controlled (controlOf control) self port control ⌝ }
     {
-        let asked = control::control_of(control);
+        let asked = parts::control_of(control);
         match asked {
             Control::Write => self.opening(port, control),
             Control::Read => self.opening(port, control),
             Control::StepHead => self.head_stepped().told_status(answer::NORMAL),
-            Control::Reserved => self.bad_request(port, pending::INVALID_BUS_CONTROL),
-            Control::Unsupported => self.bad_request(port, pending::UNSUPPORTED_BUS_CONTROL),
-            Control::Invalid => self.bad_request(port, pending::INVALID_BUS_CONTROL),
+            Control::Reserved => self.bad_request(port, parts::INVALID_BUS_CONTROL),
+            Control::Unsupported => self.bad_request(port, parts::UNSUPPORTED_BUS_CONTROL),
+            Control::Invalid => self.bad_request(port, parts::INVALID_BUS_CONTROL),
         }
     }
 
@@ -99,9 +97,9 @@ impl Drive {
         requires { ⌜ withinLimits (self .setup) ≡ true ⌝ }
         ensures { λ r. ⌜ r ≡ opening self port control ⌝ }
     {
-        if control::is_at_target(control) {
-            if self.target == NO_TARGET {
-                return self.bad_request(port, pending::BUS_CONTROL_CONTEXT);
+        if parts::is_at_target(control) {
+            if self.target == parts::NO_TARGET {
+                return self.bad_request(port, parts::BUS_CONTROL_CONTEXT);
             }
             return self.at_target().opened(control);
         }
@@ -133,7 +131,7 @@ impl Drive {
         ensures { λ r. ⌜ r ≡ badRequest self port bit ⌝ }
     {
         let p = self.pending_on(port);
-        self.posted_on(port, p.faulted(bit))
+        self.posted_on(port, posting::faulted_on(p, bit))
             .told_status(answer::OPERATION_EXCEPTION)
     }
 

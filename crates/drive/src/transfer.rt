@@ -2,31 +2,18 @@
 use crate::answer;
 use crate::answer::Answer;
 use crate::answer::Outcome;
-use crate::control;
 use crate::drive::Drive;
-use crate::setup::Setup;
+use crate::sizes;
 use crate::words;
+use parts::Setup;
+use parts::Transfer;
 ghost use Prim.Native.Nat.{_+_, _<_, _≤_};
 ghost use mathlib.Core.Path.{_≡_};
-ghost use Rattle.drive.specs.Control.{wordsToCome};
-ghost use Rattle.drive.specs.State.{noTransfer, result};
+ghost use Rattle.parts.specs.Control.{wordsToCome};
+ghost use Rattle.drive.specs.State.{result};
+ghost use Rattle.parts.specs.Tests.{noTransfer};
 ghost use Rattle.drive.specs.Transfer.{miscompares, committed, staged, wordStaged, wordTaken};
 ghost use Rattle.drive.specs.Able.{Room, Able, ReadsAt};
-
-// Control 0 with no words moved is none.
-pub struct Transfer {
-    pub control: u16,
-    pub moved: u16,
-}
-
-pub(crate) fn no_transfer() -> Transfer
-    ensures { λ r. ⌜ r ≡ noTransfer ⌝ }
-{
-    Transfer {
-        control: 0,
-        moved: 0,
-    }
-}
 
 // ---- words from the host
 
@@ -44,7 +31,7 @@ pub(crate) fn word_staged(
     let p = drive.place;
     let t = drive.transfer;
     let moved = t.moved as usize;
-    let start = s.sector_start(p);
+    let start = sizes::sector_start(s, p);
     staging[moved] = word;
     after_word(drive, moved + 1, start, sectors, &staging[..])
 }
@@ -94,7 +81,7 @@ fn header_miscompares(
     ensures { λ r. ⌜ r ≡ miscompares setup control count start (now (sectors .entry)) (now (staging .entry)) ⌝ }
 {
     let header = setup.header as usize;
-    if control::verifies_header(control) & (count == header) {
+    if parts::verifies_header(control) & (count == header) {
         return !words::same_words(staging, 0, sectors, start, header);
     }
     false
@@ -106,9 +93,9 @@ fn commit(setup: Setup, control: u16, start: usize, sectors: &mut [u16], staging
     ensures { λ _. ⌜ now (sectors .exit) ≡ committed setup control start (now (sectors .entry)) (now (staging .entry)) ⌝ }
 {
     let header = setup.header as usize;
-    let written_header = control::part_of(control::moves_header(control), setup.header);
-    let field1 = control::part_of(control::names_field1(control), setup.field1);
-    let field2 = control::part_of(control::names_field2(control), setup.field2);
+    let written_header = parts::part_of(parts::moves_header(control), setup.header);
+    let field1 = parts::part_of(parts::names_field1(control), setup.field1);
+    let field2 = parts::part_of(parts::names_field2(control), setup.field2);
     let field1_at = start + header;
     let field2_at = field1_at + setup.field1 as usize;
     let field2_from = header + field1;
@@ -128,7 +115,7 @@ pub(crate) fn word_taken(drive: Drive, sectors: &[u16], staging: &[u16]) -> Outc
     let t = drive.transfer;
     let control = t.control;
     let moved = t.moved;
-    let at = s.sector_start(p) + word_offset(s, control, moved);
+    let at = sizes::sector_start(s, p) + word_offset(s, control, moved);
     let word = sectors[at];
     if moved as usize + 1 == s.words_to_come(control) {
         return Outcome {
@@ -153,8 +140,8 @@ fn word_offset(setup: Setup, control: u16, moved: u16) -> usize
     requires { ⌜ moved < wordsToCome setup control ⌝ }
     ensures { λ r. ⌜ ReadsAt setup control moved r ⌝ }
 {
-    let header = control::part_of(control::header_passes(control), setup.header);
-    let field1 = control::part_of(control::names_field1(control), setup.field1);
+    let header = parts::part_of(parts::header_passes(control), setup.header);
+    let field1 = parts::part_of(parts::names_field1(control), setup.field1);
     let k = moved as usize;
     if k < header {
         return k;

@@ -3,8 +3,6 @@
 use Rattle.laws.specs.Pick.{pick}
 use Rattle.drive.proofs.drive.chosen.Statement.{statement}
 use Rattle.drive.proofs.drive.chosen.Tie as tie
-use Rattle.drive.proofs.drive.chosen.Reads as reads
-use Rattle.drive.proofs.drive.chosen.Lts as lts
 
 returns : tie.Need-returns
 unfolding pick

@@ -1,27 +1,15 @@
 -- `step` meets its contract, by the kind.
 -- Assumes nothing.
+use Rattle.drive.proofs.Bounds.{limits}
 use Rattle.drive.proofs.Sound.{sound}
 use Rattle.drive.proofs.Step.{handled-by-kind, handled-quietly, refused-with-1, refused-with-8}
-use Rattle.drive.specs.Kind.{DataControl, Deselect, End, Position, ReadStatus, Reset, Select, TakeWord, Target, Use, WordFromHost, kindOf}
 use Rattle.laws.specs.Pick.{pick}
+use Rattle.parts.specs.Kind.{DataControl, Deselect, End, Position, ReadStatus, Reset, Select, TakeWord, Target, Use, WordFromHost, kindOf}
 use borrow.Author.Needs.{needs}
 use borrow.Author.Tests.{le-ltb, lt-ltb, ne-eqb}
 use mathlib.Core.Path.{_∙_, refl, sym}
 use Rattle.drive.proofs.event.step.Statement.{statement}
 use Rattle.drive.proofs.event.step.Tie as tie
-use Rattle.drive.proofs.event.step.Reads as reads
-use Rattle.drive.proofs.event.step.Lts as lts
-use Rattle.drive.proofs.drive.Drive.refused.Reads as refused-reads
-use Rattle.drive.proofs.kinds.on_data_control.Reads as on-data-control-reads
-use Rattle.drive.proofs.kinds.on_deselect.Reads as on-deselect-reads
-use Rattle.drive.proofs.kinds.on_end.Reads as on-end-reads
-use Rattle.drive.proofs.kinds.on_position.Reads as on-position-reads
-use Rattle.drive.proofs.kinds.on_read_status.Reads as on-read-status-reads
-use Rattle.drive.proofs.kinds.on_reset.Reads as on-reset-reads
-use Rattle.drive.proofs.kinds.on_select.Reads as on-select-reads
-use Rattle.drive.proofs.kinds.on_take_word.Reads as on-take-word-reads
-use Rattle.drive.proofs.kinds.on_target.Reads as on-target-reads
-use Rattle.drive.proofs.kinds.on_word_from_host.Reads as on-word-from-host-reads
 
 -- Assumes nothing.
 

@@ -1,25 +1,11 @@
 -- `on_data_control` meets its contract.
 -- Assumes nothing.
 use Rattle.drive.proofs.Own.{own-accepted, own-refused}
-use Rattle.drive.specs.Kind.{DataControl, Use}
+use Rattle.parts.specs.Kind.{DataControl, Use}
 use borrow.Author.Needs.{needs}
 use mathlib.Core.Path.{_∙_}
 use Rattle.drive.proofs.kinds.on_data_control.Statement.{statement}
 use Rattle.drive.proofs.kinds.on_data_control.Tie as tie
-use Rattle.drive.proofs.kinds.on_data_control.Reads as reads
-use Rattle.drive.proofs.kinds.on_data_control.Lts as lts
-use Rattle.drive.proofs.drive.Drive.data_control.Reads as data-control-reads
-use Rattle.drive.proofs.drive.Drive.refused.Reads as refused-reads
-use Rattle.drive.proofs.kinds.is_selected.Reads as is-selected-reads
-use Rattle.drive.proofs.refusal.inside_refusal.Reads as inside-refusal-reads
-use Rattle.drive.proofs.refusal.is_one_open.Reads as is-one-open-reads
-use Rattle.drive.proofs.refusal.none_after_1.Reads as none-after-1-reads
-
--- Assumes nothing.
-
--- Assumes nothing.
-
--- Assumes nothing.
 
 -- Assumes nothing.
 

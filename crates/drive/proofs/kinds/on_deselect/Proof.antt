@@ -1,27 +1,11 @@
 -- `on_deselect` meets its contract.
 -- Assumes nothing.
 use Rattle.drive.proofs.Own.{own-accepted, own-refused}
-use Rattle.drive.specs.Kind.{Deselect}
+use Rattle.parts.specs.Kind.{Deselect}
 use borrow.Author.Needs.{needs}
 use mathlib.Core.Path.{_∙_}
 use Rattle.drive.proofs.kinds.on_deselect.Statement.{statement}
 use Rattle.drive.proofs.kinds.on_deselect.Tie as tie
-use Rattle.drive.proofs.kinds.on_deselect.Reads as reads
-use Rattle.drive.proofs.kinds.on_deselect.Lts as lts
-use Rattle.drive.proofs.drive.Drive.deselect.Reads as deselect-reads
-use Rattle.drive.proofs.drive.Drive.refused.Reads as refused-reads
-use Rattle.drive.proofs.kinds.is_selected.Reads as is-selected-reads
-use Rattle.drive.proofs.refusal.inside_refusal.Reads as inside-refusal-reads
-use Rattle.drive.proofs.refusal.is_one_open.Reads as is-one-open-reads
-use Rattle.drive.proofs.refusal.none_at_all.Reads as none-at-all-reads
-
--- Assumes nothing.
-
--- Assumes nothing.
-
--- Assumes nothing.
-
--- Assumes nothing.
 
 -- Assumes nothing.
 

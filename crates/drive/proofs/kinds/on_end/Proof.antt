@@ -1,26 +1,11 @@
 -- `on_end` meets its contract.
 -- Assumes nothing.
 use Rattle.drive.proofs.Own.{own-accepted, own-refused}
-use Rattle.drive.specs.Kind.{End, Use}
+use Rattle.parts.specs.Kind.{End, Use}
 use borrow.Author.Needs.{needs}
 use mathlib.Core.Path.{_∙_}
 use Rattle.drive.proofs.kinds.on_end.Statement.{statement}
 use Rattle.drive.proofs.kinds.on_end.Tie as tie
-use Rattle.drive.proofs.kinds.on_end.Reads as reads
-use Rattle.drive.proofs.kinds.on_end.Lts as lts
-use Rattle.drive.proofs.drive.Drive.ended.Reads as ended-reads
-use Rattle.drive.proofs.drive.Drive.refused.Reads as refused-reads
-use Rattle.drive.proofs.drive.Drive.told_status.Reads as told-status-reads
-use Rattle.drive.proofs.kinds.is_selected.Reads as is-selected-reads
-use Rattle.drive.proofs.refusal.inside_refusal.Reads as inside-refusal-reads
-use Rattle.drive.proofs.refusal.is_one_open.Reads as is-one-open-reads
-use Rattle.drive.proofs.refusal.none_at_all.Reads as none-at-all-reads
-
--- Assumes nothing.
-
--- Assumes nothing.
-
--- Assumes nothing.
 
 -- Assumes nothing.
 

@@ -1,25 +1,11 @@
 -- `on_position` meets its contract.
 -- Assumes nothing.
 use Rattle.drive.proofs.Own.{own-accepted, own-refused}
-use Rattle.drive.specs.Kind.{Position, Use}
+use Rattle.parts.specs.Kind.{Position, Use}
 use borrow.Author.Needs.{needs}
 use mathlib.Core.Path.{_∙_}
 use Rattle.drive.proofs.kinds.on_position.Statement.{statement}
 use Rattle.drive.proofs.kinds.on_position.Tie as tie
-use Rattle.drive.proofs.kinds.on_position.Reads as reads
-use Rattle.drive.proofs.kinds.on_position.Lts as lts
-use Rattle.drive.proofs.drive.Drive.positioned.Reads as positioned-reads
-use Rattle.drive.proofs.drive.Drive.refused.Reads as refused-reads
-use Rattle.drive.proofs.kinds.is_selected.Reads as is-selected-reads
-use Rattle.drive.proofs.kinds.word_of.Reads as word-of-reads
-use Rattle.drive.proofs.refusal.inside_refusal.Reads as inside-refusal-reads
-use Rattle.drive.proofs.refusal.is_one_open.Reads as is-one-open-reads
-
--- Assumes nothing.
-
--- Assumes nothing.
-
--- Assumes nothing.
 
 -- Assumes nothing.
 
@@ -41,11 +27,11 @@ returns c = c .refused .ensures ∙ own-refused (Use Position) _ _ _ _ (c .befor
 word-of-requires : tie.Need-word-of-requires
 word-of-requires c κs = search needs
 
-cast-t8 : tie.Need-cast-t8
-cast-t8 c = search needs
+cast-t10 : tie.Need-cast-t10
+cast-t10 c = search needs
 
-cast-t9 : tie.Need-cast-t9
-cast-t9 c = search needs
+cast-t11 : tie.Need-cast-t11
+cast-t11 c = search needs
 
 cast-positioned : tie.Need-cast-positioned
 cast-positioned c = search needs
@@ -66,8 +52,8 @@ on-position-spec =
     refused-requires
     returns
     word-of-requires
-    cast-t8
-    cast-t9
+    cast-t10
+    cast-t11
     cast-positioned
     positioned-requires
     returns-2)

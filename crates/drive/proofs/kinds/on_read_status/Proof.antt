@@ -1,25 +1,11 @@
 -- `on_read_status` meets its contract.
 -- Assumes nothing.
 use Rattle.drive.proofs.Own.{own-accepted, own-refused}
-use Rattle.drive.specs.Kind.{ReadStatus, Use}
+use Rattle.parts.specs.Kind.{ReadStatus, Use}
 use borrow.Author.Needs.{needs}
 use mathlib.Core.Path.{_∙_}
 use Rattle.drive.proofs.kinds.on_read_status.Statement.{statement}
 use Rattle.drive.proofs.kinds.on_read_status.Tie as tie
-use Rattle.drive.proofs.kinds.on_read_status.Reads as reads
-use Rattle.drive.proofs.kinds.on_read_status.Lts as lts
-use Rattle.drive.proofs.drive.Drive.refused.Reads as refused-reads
-use Rattle.drive.proofs.drive.Drive.status_read.Reads as status-read-reads
-use Rattle.drive.proofs.kinds.is_selected.Reads as is-selected-reads
-use Rattle.drive.proofs.refusal.inside_refusal.Reads as inside-refusal-reads
-use Rattle.drive.proofs.refusal.is_one_open.Reads as is-one-open-reads
-use Rattle.drive.proofs.refusal.none_at_all.Reads as none-at-all-reads
-
--- Assumes nothing.
-
--- Assumes nothing.
-
--- Assumes nothing.
 
 -- Assumes nothing.
 

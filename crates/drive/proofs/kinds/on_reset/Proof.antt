@@ -1,28 +1,13 @@
 -- `on_reset` meets its contract.
 -- Assumes nothing.
 use Rattle.drive.proofs.Own.{own-accepted, own-refused}
-use Rattle.drive.specs.Kind.{Reset}
 use Rattle.laws.specs.Pick.{pick}
+use Rattle.parts.specs.Kind.{Reset}
 use borrow.Author.Needs.{needs}
 use mathlib.Core.Path.{_∙_, refl}
 use native.Mathlib.Omega.{arith}
 use Rattle.drive.proofs.kinds.on_reset.Statement.{statement}
 use Rattle.drive.proofs.kinds.on_reset.Tie as tie
-use Rattle.drive.proofs.kinds.on_reset.Reads as reads
-use Rattle.drive.proofs.kinds.on_reset.Lts as lts
-use Rattle.drive.proofs.drive.Drive.refused.Reads as refused-reads
-use Rattle.drive.proofs.drive.Drive.reset.Reads as reset-reads
-use Rattle.drive.proofs.refusal.none_at_all.Reads as none-at-all-reads
-
--- Assumes nothing.
-
--- Assumes nothing.
-
--- Assumes nothing.
-
--- Assumes nothing.
-
--- Assumes nothing.
 
 -- Assumes nothing.
 

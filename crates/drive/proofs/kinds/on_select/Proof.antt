@@ -1,37 +1,13 @@
 -- `on_select` meets its contract.
 -- Assumes nothing.
 use Rattle.drive.proofs.Own.{own-accepted, own-refused}
-use Rattle.drive.specs.Kind.{Select}
 use Rattle.drive.specs.State.{told}
+use Rattle.parts.specs.Kind.{Select}
 use borrow.Author.Needs.{needs}
 use mathlib.Core.Path.{_∙_, ap}
 use Rattle.drive.specs.declared.answer.Answer.the-variants.{Done}
 use Rattle.drive.proofs.kinds.on_select.Statement.{statement}
 use Rattle.drive.proofs.kinds.on_select.Tie as tie
-use Rattle.drive.proofs.kinds.on_select.Reads as reads
-use Rattle.drive.proofs.kinds.on_select.Lts as lts
-use Rattle.drive.proofs.drive.Drive.refused.Reads as refused-reads
-use Rattle.drive.proofs.drive.Drive.select.Reads as select-reads
-use Rattle.drive.proofs.holding.Holding.is_busy.Reads as is-busy-reads
-use Rattle.drive.proofs.kinds.is_selected.Reads as is-selected-reads
-use Rattle.drive.proofs.refusal.changes_mode.Reads as changes-mode-reads
-use Rattle.drive.proofs.refusal.is_misaddressed.Reads as is-misaddressed-reads
-use Rattle.drive.proofs.refusal.none_after_1.Reads as none-after-1-reads
-use Rattle.drive.proofs.refusal.select_refusal.Reads as select-refusal-reads
-
--- Assumes nothing.
-
--- Assumes nothing.
-
--- Assumes nothing.
-
--- Assumes nothing.
-
--- Assumes nothing.
-
--- Assumes nothing.
-
--- Assumes nothing.
 
 -- Assumes nothing.
 

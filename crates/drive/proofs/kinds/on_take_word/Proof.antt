@@ -1,24 +1,12 @@
 -- `on_take_word` meets its contract.
 -- Assumes nothing.
 use Rattle.drive.proofs.Own.{able-to-read, own-accepted, own-refused, timely}
-use Rattle.drive.specs.Kind.{TakeWord, Use}
+use Rattle.parts.specs.Kind.{TakeWord, Use}
 use borrow.Author.Needs.{needs}
 use borrow.Author.Tests.{not-false}
 use mathlib.Core.Path.{_∙_, sym}
 use Rattle.drive.proofs.kinds.on_take_word.Statement.{statement}
 use Rattle.drive.proofs.kinds.on_take_word.Tie as tie
-use Rattle.drive.proofs.kinds.on_take_word.Reads as reads
-use Rattle.drive.proofs.kinds.on_take_word.Lts as lts
-use Rattle.drive.proofs.drive.Drive.refused.Reads as refused-reads
-use Rattle.drive.proofs.kinds.is_selected.Reads as is-selected-reads
-use Rattle.drive.proofs.refusal.inside_refusal.Reads as inside-refusal-reads
-use Rattle.drive.proofs.refusal.is_read_open.Reads as is-read-open-reads
-use Rattle.drive.proofs.refusal.none_at_all.Reads as none-at-all-reads
-use Rattle.drive.proofs.transfer.word_taken.Reads as word-taken-reads
-
--- Assumes nothing.
-
--- Assumes nothing.
 
 -- Assumes nothing.
 
@@ -42,7 +30,7 @@ returns c = c .refused .ensures ∙ own-refused (Use TakeWord) _ _ _ _ (c .befor
 
 word-taken-requires : tie.Need-word-taken-requires
 word-taken-requires c κs = let late = timely _ _ _ (sym (c .before .inside-refusal .ensures) ∙ c .if1 .left) in
-    able-to-read (c .before .before .before .before .before .before .before .before .pre) (sym (c .before .before .is-read-open .ensures) ∙ not-false _ late)
+    able-to-read (c .before .before .before .before .before .before .before .before .before .pre) (sym (c .before .before .is-read-open .ensures) ∙ not-false _ late)
 
 returns-2 : tie.Need-returns-2
 returns-2 c = own-accepted (Use TakeWord) _ _ _ _ _ (c .before .before .inside-refusal .ensures ∙ (cc)) (c .before .if1 .left) (cc)

@@ -1,26 +1,11 @@
 -- `on_target` meets its contract.
 -- Assumes nothing.
 use Rattle.drive.proofs.Own.{own-accepted, own-refused}
-use Rattle.drive.specs.Kind.{Target, Use}
+use Rattle.parts.specs.Kind.{Target, Use}
 use borrow.Author.Needs.{needs}
 use mathlib.Core.Path.{_∙_}
 use Rattle.drive.proofs.kinds.on_target.Statement.{statement}
 use Rattle.drive.proofs.kinds.on_target.Tie as tie
-use Rattle.drive.proofs.kinds.on_target.Reads as reads
-use Rattle.drive.proofs.kinds.on_target.Lts as lts
-use Rattle.drive.proofs.drive.Drive.refused.Reads as refused-reads
-use Rattle.drive.proofs.drive.Drive.targeted.Reads as targeted-reads
-use Rattle.drive.proofs.kinds.is_selected.Reads as is-selected-reads
-use Rattle.drive.proofs.kinds.word_of.Reads as word-of-reads
-use Rattle.drive.proofs.refusal.inside_refusal.Reads as inside-refusal-reads
-use Rattle.drive.proofs.refusal.is_one_open.Reads as is-one-open-reads
-use Rattle.drive.proofs.refusal.none_after_2.Reads as none-after-2-reads
-
--- Assumes nothing.
-
--- Assumes nothing.
-
--- Assumes nothing.
 
 -- Assumes nothing.
 

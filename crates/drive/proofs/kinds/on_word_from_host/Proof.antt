@@ -1,25 +1,12 @@
 -- `on_word_from_host` meets its contract.
 -- Assumes nothing.
 use Rattle.drive.proofs.Own.{able-to-write, own-accepted-in, own-refused-in, timely}
-use Rattle.drive.specs.Kind.{Use, WordFromHost}
+use Rattle.parts.specs.Kind.{Use, WordFromHost}
 use borrow.Author.Needs.{needs}
 use borrow.Author.Tests.{not-false}
 use mathlib.Core.Path.{_∙_, sym}
 use Rattle.drive.proofs.kinds.on_word_from_host.Statement.{statement}
 use Rattle.drive.proofs.kinds.on_word_from_host.Tie as tie
-use Rattle.drive.proofs.kinds.on_word_from_host.Reads as reads
-use Rattle.drive.proofs.kinds.on_word_from_host.Lts as lts
-use Rattle.drive.proofs.drive.Drive.refused.Reads as refused-reads
-use Rattle.drive.proofs.kinds.is_selected.Reads as is-selected-reads
-use Rattle.drive.proofs.kinds.word_of.Reads as word-of-reads
-use Rattle.drive.proofs.refusal.inside_refusal.Reads as inside-refusal-reads
-use Rattle.drive.proofs.refusal.is_write_open.Reads as is-write-open-reads
-use Rattle.drive.proofs.refusal.none_after_2.Reads as none-after-2-reads
-use Rattle.drive.proofs.transfer.word_staged.Reads as word-staged-reads
-
--- Assumes nothing.
-
--- Assumes nothing.
 
 -- Assumes nothing.
 
@@ -46,7 +33,7 @@ word-of-requires c κs = search needs
 
 word-staged-requires : tie.Need-word-staged-requires
 word-staged-requires c κs = let late = timely _ _ _ (sym (c .before .before .before .before .inside-refusal .ensures) ∙ c .before .before .before .if1 .left) in
-    able-to-write (c .before .before .before .before .before .before .before .before .before .before .before .pre) (sym (c .before .before .before .before .before .is-write-open .ensures) ∙ not-false _ late)
+    able-to-write (c .before .before .before .before .before .before .before .before .before .before .before .before .pre) (sym (c .before .before .before .before .before .is-write-open .ensures) ∙ not-false _ late)
 
 same-length : tie.Need-same-length
 same-length c = search needs

@@ -3,10 +3,6 @@
 use borrow.Author.Needs.{needs}
 use Rattle.drive.proofs.power.at_rest.Statement.{statement}
 use Rattle.drive.proofs.power.at_rest.Tie as tie
-use Rattle.drive.proofs.power.at_rest.Reads as reads
-use Rattle.drive.proofs.power.at_rest.Lts as lts
-use Rattle.drive.proofs.holding.no_holding.Reads as no-holding-reads
-use Rattle.drive.proofs.transfer.no_transfer.Reads as no-transfer-reads
 
 no-holding-requires : tie.Need-no-holding-requires
 no-holding-requires c κs = search needs

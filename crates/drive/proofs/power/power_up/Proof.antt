@@ -8,11 +8,6 @@ use Rattle.drive.specs.declared.power.Powered.the-variants.{Up}
 use mathlib.Core.Path.{ap, _∙_, sym}
 use Rattle.drive.proofs.power.power_up.Statement.{statement}
 use Rattle.drive.proofs.power.power_up.Tie as tie
-use Rattle.drive.proofs.power.power_up.Reads as reads
-use Rattle.drive.proofs.power.power_up.Lts as lts
-use Rattle.drive.proofs.power.at_rest.Reads as at-rest-reads
-use Rattle.drive.proofs.refusal.lacks_room.Reads as lacks-room-reads
-use Rattle.drive.proofs.setup.Setup.within_limits.Reads as within-limits-reads
 
 within-limits-requires : tie.Need-within-limits-requires
 within-limits-requires c κs = search needs

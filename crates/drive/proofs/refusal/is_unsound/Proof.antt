@@ -4,14 +4,8 @@ use Rattle.drive.specs.Refusal.{row11}
 use borrow.Author.Needs.{needs}
 use Rattle.drive.proofs.refusal.is_unsound.Statement.{statement}
 use Rattle.drive.proofs.refusal.is_unsound.Tie as tie
-use Rattle.drive.proofs.refusal.is_unsound.Reads as reads
-use Rattle.drive.proofs.refusal.is_unsound.Lts as lts
-use Rattle.drive.proofs.refusal.has_stray_bit.Reads as has-stray-bit-reads
-use Rattle.drive.proofs.refusal.is_broken.Reads as is-broken-reads
-use Rattle.drive.proofs.refusal.is_disowned.Reads as is-disowned-reads
-use Rattle.drive.proofs.refusal.is_outside_limits.Reads as is-outside-limits-reads
-use Rattle.drive.proofs.setup.Setup.is_place.Reads as is-place-reads
-use Rattle.drive.proofs.setup.Setup.is_target.Reads as is-target-reads
+
+-- Assumes nothing.
 
 is-outside-limits-requires : tie.Need-is-outside-limits-requires
 is-outside-limits-requires c κs = search needs

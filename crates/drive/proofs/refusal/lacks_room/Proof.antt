@@ -4,10 +4,8 @@ use Rattle.drive.specs.Refusal.{row10}
 use borrow.Author.Needs.{needs}
 use Rattle.drive.proofs.refusal.lacks_room.Statement.{statement}
 use Rattle.drive.proofs.refusal.lacks_room.Tie as tie
-use Rattle.drive.proofs.refusal.lacks_room.Reads as reads
-use Rattle.drive.proofs.refusal.lacks_room.Lts as lts
-use Rattle.drive.proofs.setup.Setup.all_words.Reads as all-words-reads
-use Rattle.drive.proofs.setup.Setup.sector_words.Reads as sector-words-reads
+
+-- Assumes nothing.
 
 all-words-requires : tie.Need-all-words-requires
 all-words-requires c κs = search needs

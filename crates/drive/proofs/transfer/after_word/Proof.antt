@@ -7,13 +7,6 @@ use borrow.Author.Needs.{needs}
 use borrow.Author.Tests.{eq-eqb, ne-eqb}
 use Rattle.drive.proofs.transfer.after_word.Statement.{statement}
 use Rattle.drive.proofs.transfer.after_word.Tie as tie
-use Rattle.drive.proofs.transfer.after_word.Reads as reads
-use Rattle.drive.proofs.transfer.after_word.Lts as lts
-use Rattle.drive.proofs.drive.Drive.ended.Reads as ended-reads
-use Rattle.drive.proofs.drive.Drive.told_status.Reads as told-status-reads
-use Rattle.drive.proofs.setup.Setup.words_to_come.Reads as words-to-come-reads
-use Rattle.drive.proofs.transfer.commit.Reads as commit-reads
-use Rattle.drive.proofs.transfer.header_miscompares.Reads as header-miscompares-reads
 
 -- Assumes nothing.
 

@@ -4,13 +4,6 @@ use Rattle.drive.specs.Transfer.{committed}
 use borrow.Author.Needs.{needs}
 use Rattle.drive.proofs.transfer.commit.Statement.{statement}
 use Rattle.drive.proofs.transfer.commit.Tie as tie
-use Rattle.drive.proofs.transfer.commit.Reads as reads
-use Rattle.drive.proofs.transfer.commit.Lts as lts
-use Rattle.drive.proofs.control.moves_header.Reads as moves-header-reads
-use Rattle.drive.proofs.control.names_field1.Reads as names-field1-reads
-use Rattle.drive.proofs.control.names_field2.Reads as names-field2-reads
-use Rattle.drive.proofs.control.part_of.Reads as part-of-reads
-use Rattle.drive.proofs.words.copy_words.Reads as copy-words-reads
 
 -- Assumes nothing.
 

@@ -4,10 +4,6 @@ use Rattle.drive.specs.Transfer.{miscompares}
 use borrow.Author.Needs.{needs}
 use Rattle.drive.proofs.transfer.header_miscompares.Statement.{statement}
 use Rattle.drive.proofs.transfer.header_miscompares.Tie as tie
-use Rattle.drive.proofs.transfer.header_miscompares.Reads as reads
-use Rattle.drive.proofs.transfer.header_miscompares.Lts as lts
-use Rattle.drive.proofs.control.verifies_header.Reads as verifies-header-reads
-use Rattle.drive.proofs.words.same_words.Reads as same-words-reads
 
 -- Assumes nothing.
 

@@ -1,17 +1,12 @@
 -- `word_offset` meets its contract: by the part that word k is of.
 -- Assumes nothing.
 use Rattle.drive.proofs.Reading.{at-field1, at-field2, at-header}
-use Rattle.drive.specs.Control.{part}
+use Rattle.parts.specs.Control.{part}
 use borrow.Author.Needs.{needs}
 use mathlib.Core.Path.{_∙_, ap}
 use mathlib.Core.Bool.{Bool}
 use Rattle.drive.proofs.transfer.word_offset.Statement.{statement}
 use Rattle.drive.proofs.transfer.word_offset.Tie as tie
-use Rattle.drive.proofs.transfer.word_offset.Reads as reads
-use Rattle.drive.proofs.transfer.word_offset.Lts as lts
-use Rattle.drive.proofs.control.header_passes.Reads as header-passes-reads
-use Rattle.drive.proofs.control.names_field1.Reads as names-field1-reads
-use Rattle.drive.proofs.control.part_of.Reads as part-of-reads
 
 header-passes-requires : tie.Need-header-passes-requires
 header-passes-requires c κs = search needs

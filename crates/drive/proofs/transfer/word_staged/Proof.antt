@@ -8,10 +8,6 @@ use lib.ListN.{length-set}
 use native.Mathlib.Omega.{arith}
 use Rattle.drive.proofs.transfer.word_staged.Statement.{statement}
 use Rattle.drive.proofs.transfer.word_staged.Tie as tie
-use Rattle.drive.proofs.transfer.word_staged.Reads as reads
-use Rattle.drive.proofs.transfer.word_staged.Lts as lts
-use Rattle.drive.proofs.setup.Setup.sector_start.Reads as sector-start-reads
-use Rattle.drive.proofs.transfer.after_word.Reads as after-word-reads
 
 -- Assumes nothing.
 

@@ -12,12 +12,6 @@ use denote.Ref.{now}
 use native.Mathlib.Omega.{arith}
 use Rattle.drive.proofs.transfer.word_taken.Statement.{statement}
 use Rattle.drive.proofs.transfer.word_taken.Tie as tie
-use Rattle.drive.proofs.transfer.word_taken.Reads as reads
-use Rattle.drive.proofs.transfer.word_taken.Lts as lts
-use Rattle.drive.proofs.drive.Drive.ended.Reads as ended-reads
-use Rattle.drive.proofs.setup.Setup.sector_start.Reads as sector-start-reads
-use Rattle.drive.proofs.setup.Setup.words_to_come.Reads as words-to-come-reads
-use Rattle.drive.proofs.transfer.word_offset.Reads as word-offset-reads
 
 -- Assumes nothing.
 

@@ -4,8 +4,6 @@ use Rattle.laws.proofs.Pick.{steps}
 use Rattle.lines.specs.Follower.{whileLost}
 use Rattle.lines.proofs.follower.while_lost.Statement.{statement}
 use Rattle.lines.proofs.follower.while_lost.Tie as tie
-use Rattle.lines.proofs.follower.while_lost.Reads as reads
-use Rattle.lines.proofs.follower.while_lost.Lts as lts
 
 returns : tie.Need-returns
 unfolding whileLost

@@ -4,8 +4,6 @@ use Rattle.laws.proofs.Pick.{steps}
 use Rattle.lines.specs.Moves.{saidBy}
 use Rattle.lines.proofs.moves.said_by.Statement.{statement}
 use Rattle.lines.proofs.moves.said_by.Tie as tie
-use Rattle.lines.proofs.moves.said_by.Reads as reads
-use Rattle.lines.proofs.moves.said_by.Lts as lts
 
 returns : tie.Need-returns
 unfolding saidBy

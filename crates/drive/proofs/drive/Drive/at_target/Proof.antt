@@ -3,8 +3,6 @@
 use Rattle.drive.specs.Drive.{atItsTarget}
 use Rattle.drive.proofs.drive.Drive.at_target.Statement.{statement}
 use Rattle.drive.proofs.drive.Drive.at_target.Tie as tie
-use Rattle.drive.proofs.drive.Drive.at_target.Reads as reads
-use Rattle.drive.proofs.drive.Drive.at_target.Lts as lts
 
 returns : tie.Need-returns
 unfolding atItsTarget

@@ -1,17 +1,10 @@
 -- `controlled` meets its contract.
 -- Assumes nothing.
-use Rattle.drive.specs.Pending.{bit5, bit7}
+use Rattle.parts.specs.Pending.{bit5, bit7}
 use Rattle.drive.specs.Request.{opening}
 use borrow.Author.Needs.{needs}
 use Rattle.drive.proofs.drive.Drive.controlled.Statement.{statement}
 use Rattle.drive.proofs.drive.Drive.controlled.Tie as tie
-use Rattle.drive.proofs.drive.Drive.controlled.Reads as reads
-use Rattle.drive.proofs.drive.Drive.controlled.Lts as lts
-use Rattle.drive.proofs.control.control_of.Reads as control-of-reads
-use Rattle.drive.proofs.drive.Drive.bad_request.Reads as bad-request-reads
-use Rattle.drive.proofs.drive.Drive.head_stepped.Reads as head-stepped-reads
-use Rattle.drive.proofs.drive.Drive.opening.Reads as opening-reads
-use Rattle.drive.proofs.drive.Drive.told_status.Reads as told-status-reads
 
 control-of-requires : tie.Need-control-of-requires
 control-of-requires c κs = search needs

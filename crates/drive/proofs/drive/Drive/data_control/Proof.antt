@@ -6,11 +6,6 @@ use borrow.Author.Needs.{needs}
 use borrow.Author.Tests.{eq-eqb, ne-eqb}
 use Rattle.drive.proofs.drive.Drive.data_control.Statement.{statement}
 use Rattle.drive.proofs.drive.Drive.data_control.Tie as tie
-use Rattle.drive.proofs.drive.Drive.data_control.Reads as reads
-use Rattle.drive.proofs.drive.Drive.data_control.Lts as lts
-use Rattle.drive.proofs.drive.Drive.controlled.Reads as controlled-reads
-use Rattle.drive.proofs.drive.Drive.pending_on.Reads as pending-on-reads
-use Rattle.drive.proofs.drive.Drive.unsolicited.Reads as unsolicited-reads
 
 pending-on-requires : tie.Need-pending-on-requires
 pending-on-requires c κs = search needs

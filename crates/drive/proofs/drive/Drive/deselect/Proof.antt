@@ -4,9 +4,6 @@ use Rattle.drive.specs.Drive.{deselected}
 use borrow.Author.Needs.{needs}
 use Rattle.drive.proofs.drive.Drive.deselect.Statement.{statement}
 use Rattle.drive.proofs.drive.Drive.deselect.Tie as tie
-use Rattle.drive.proofs.drive.Drive.deselect.Reads as reads
-use Rattle.drive.proofs.drive.Drive.deselect.Lts as lts
-use Rattle.drive.proofs.holding.Holding.released.Reads as released-reads
 
 released-requires : tie.Need-released-requires
 released-requires c κs = search needs

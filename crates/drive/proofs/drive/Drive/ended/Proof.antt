@@ -4,10 +4,6 @@ use Rattle.drive.specs.Drive.{ended}
 use borrow.Author.Needs.{needs}
 use Rattle.drive.proofs.drive.Drive.ended.Statement.{statement}
 use Rattle.drive.proofs.drive.Drive.ended.Tie as tie
-use Rattle.drive.proofs.drive.Drive.ended.Reads as reads
-use Rattle.drive.proofs.drive.Drive.ended.Lts as lts
-use Rattle.drive.proofs.setup.next_of.Reads as next-of-reads
-use Rattle.drive.proofs.transfer.no_transfer.Reads as no-transfer-reads
 
 next-of-requires : tie.Need-next-of-requires
 next-of-requires c κs = search needs

@@ -6,12 +6,6 @@ use borrow.Author.Needs.{needs}
 use mathlib.Core.Path.{_∙_, sym}
 use Rattle.drive.proofs.drive.Drive.handle.Statement.{statement}
 use Rattle.drive.proofs.drive.Drive.handle.Tie as tie
-use Rattle.drive.proofs.drive.Drive.handle.Reads as reads
-use Rattle.drive.proofs.drive.Drive.handle.Lts as lts
-use Rattle.drive.proofs.drive.Drive.refused.Reads as refused-reads
-use Rattle.drive.proofs.event.step.Reads as step-reads
-use Rattle.drive.proofs.refusal.is_unsound.Reads as is-unsound-reads
-use Rattle.drive.proofs.refusal.lacks_room.Reads as lacks-room-reads
 
 is-unsound-requires : tie.Need-is-unsound-requires
 is-unsound-requires c κs = search needs

@@ -4,9 +4,6 @@ use Rattle.drive.specs.Drive.{headStepped}
 use borrow.Author.Needs.{needs}
 use Rattle.drive.proofs.drive.Drive.head_stepped.Statement.{statement}
 use Rattle.drive.proofs.drive.Drive.head_stepped.Tie as tie
-use Rattle.drive.proofs.drive.Drive.head_stepped.Reads as reads
-use Rattle.drive.proofs.drive.Drive.head_stepped.Lts as lts
-use Rattle.drive.proofs.setup.next_of.Reads as next-of-reads
 
 next-of-requires : tie.Need-next-of-requires
 next-of-requires c κs = search needs

@@ -8,11 +8,6 @@ use borrow.Author.Tests.{eq-eqb, ne-eqb}
 use native.Mathlib.Omega.{arith}
 use Rattle.drive.proofs.drive.Drive.opened.Statement.{statement}
 use Rattle.drive.proofs.drive.Drive.opened.Tie as tie
-use Rattle.drive.proofs.drive.Drive.opened.Reads as reads
-use Rattle.drive.proofs.drive.Drive.opened.Lts as lts
-use Rattle.drive.proofs.drive.Drive.ended.Reads as ended-reads
-use Rattle.drive.proofs.drive.Drive.told_status.Reads as told-status-reads
-use Rattle.drive.proofs.setup.Setup.words_to_come.Reads as words-to-come-reads
 
 words-to-come-requires : tie.Need-words-to-come-requires
 words-to-come-requires c κs = search needs

@@ -1,6 +1,6 @@
 -- `opening` meets its contract.
 -- Assumes nothing.
-use Rattle.drive.specs.Pending.{bit4}
+use Rattle.parts.specs.Pending.{bit4}
 use Rattle.drive.specs.Drive.{atItsTarget}
 use Rattle.drive.specs.Request.{opening}
 use Rattle.laws.specs.Pick.{pick}
@@ -8,12 +8,6 @@ use borrow.Author.Needs.{needs}
 use borrow.Author.Tests.{eq-eqb, ne-eqb}
 use Rattle.drive.proofs.drive.Drive.opening.Statement.{statement}
 use Rattle.drive.proofs.drive.Drive.opening.Tie as tie
-use Rattle.drive.proofs.drive.Drive.opening.Reads as reads
-use Rattle.drive.proofs.drive.Drive.opening.Lts as lts
-use Rattle.drive.proofs.control.is_at_target.Reads as is-at-target-reads
-use Rattle.drive.proofs.drive.Drive.at_target.Reads as at-target-reads
-use Rattle.drive.proofs.drive.Drive.bad_request.Reads as bad-request-reads
-use Rattle.drive.proofs.drive.Drive.opened.Reads as opened-reads
 
 is-at-target-requires : tie.Need-is-at-target-requires
 is-at-target-requires c κs = search needs

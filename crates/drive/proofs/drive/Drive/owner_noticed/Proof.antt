@@ -5,12 +5,8 @@ use Rattle.laws.specs.Pick.{pick}
 use borrow.Author.Needs.{needs}
 use Rattle.drive.proofs.drive.Drive.owner_noticed.Statement.{statement}
 use Rattle.drive.proofs.drive.Drive.owner_noticed.Tie as tie
-use Rattle.drive.proofs.drive.Drive.owner_noticed.Reads as reads
-use Rattle.drive.proofs.drive.Drive.owner_noticed.Lts as lts
-use Rattle.drive.proofs.drive.Drive.pending_on.Reads as pending-on-reads
-use Rattle.drive.proofs.drive.Drive.posted_on.Reads as posted-on-reads
-use Rattle.drive.proofs.holding.Holding.is_owned_by_other.Reads as is-owned-by-other-reads
-use Rattle.drive.proofs.pending.Pending.noticed.Reads as noticed-reads
+
+-- Assumes nothing.
 
 -- Assumes nothing.
 
@@ -20,8 +16,8 @@ is-owned-by-other-requires c κs = search needs
 pending-on-requires : tie.Need-pending-on-requires
 pending-on-requires c κs = search needs
 
-noticed-requires : tie.Need-noticed-requires
-noticed-requires c κs = search needs
+noticed-on-requires : tie.Need-noticed-on-requires
+noticed-on-requires c κs = search needs
 
 posted-on-requires : tie.Need-posted-on-requires
 posted-on-requires c κs = search needs
@@ -40,7 +36,7 @@ owner-noticed-spec =
     (tie.spec
     is-owned-by-other-requires
     pending-on-requires
-    noticed-requires
+    noticed-on-requires
     posted-on-requires
     returns
     returns-2)

@@ -1,19 +1,12 @@
 -- `positioned` meets its contract.
 -- Assumes nothing.
-use Rattle.drive.specs.Pending.{bit6}
+use Rattle.parts.specs.Pending.{bit6}
 use Rattle.drive.specs.Request.{positioned}
 use Rattle.laws.specs.Pick.{pick}
 use borrow.Author.Needs.{needs}
 use borrow.Author.Tests.{eq-eqb, ne-eqb}
 use Rattle.drive.proofs.drive.Drive.positioned.Statement.{statement}
 use Rattle.drive.proofs.drive.Drive.positioned.Tie as tie
-use Rattle.drive.proofs.drive.Drive.positioned.Reads as reads
-use Rattle.drive.proofs.drive.Drive.positioned.Lts as lts
-use Rattle.drive.proofs.drive.Drive.bad_request.Reads as bad-request-reads
-use Rattle.drive.proofs.drive.Drive.pending_on.Reads as pending-on-reads
-use Rattle.drive.proofs.drive.Drive.told_status.Reads as told-status-reads
-use Rattle.drive.proofs.drive.Drive.unsolicited.Reads as unsolicited-reads
-use Rattle.drive.proofs.setup.Setup.is_place.Reads as is-place-reads
 
 pending-on-requires : tie.Need-pending-on-requires
 pending-on-requires c κs = search needs

@@ -4,9 +4,6 @@ use Rattle.drive.specs.State.{postedOn}
 use borrow.Author.Needs.{needs}
 use Rattle.drive.proofs.drive.Drive.posted_on.Statement.{statement}
 use Rattle.drive.proofs.drive.Drive.posted_on.Tie as tie
-use Rattle.drive.proofs.drive.Drive.posted_on.Reads as reads
-use Rattle.drive.proofs.drive.Drive.posted_on.Lts as lts
-use Rattle.drive.proofs.drive.chosen.Reads as chosen-reads
 
 chosen-requires : tie.Need-chosen-requires
 chosen-requires c κs = search needs

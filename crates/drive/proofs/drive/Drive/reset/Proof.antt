@@ -4,10 +4,6 @@ use Rattle.drive.specs.Drive.{afterReset}
 use borrow.Author.Needs.{needs}
 use Rattle.drive.proofs.drive.Drive.reset.Statement.{statement}
 use Rattle.drive.proofs.drive.Drive.reset.Tie as tie
-use Rattle.drive.proofs.drive.Drive.reset.Reads as reads
-use Rattle.drive.proofs.drive.Drive.reset.Lts as lts
-use Rattle.drive.proofs.holding.no_holding.Reads as no-holding-reads
-use Rattle.drive.proofs.transfer.no_transfer.Reads as no-transfer-reads
 
 no-holding-requires : tie.Need-no-holding-requires
 no-holding-requires c κs = search needs

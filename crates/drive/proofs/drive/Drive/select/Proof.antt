@@ -4,11 +4,6 @@ use Rattle.drive.specs.Drive.{selected}
 use borrow.Author.Needs.{needs}
 use Rattle.drive.proofs.drive.Drive.select.Statement.{statement}
 use Rattle.drive.proofs.drive.Drive.select.Tie as tie
-use Rattle.drive.proofs.drive.Drive.select.Reads as reads
-use Rattle.drive.proofs.drive.Drive.select.Lts as lts
-use Rattle.drive.proofs.drive.Drive.owner_noticed.Reads as owner-noticed-reads
-use Rattle.drive.proofs.holding.granted_to.Reads as granted-to-reads
-use Rattle.drive.proofs.transfer.no_transfer.Reads as no-transfer-reads
 
 granted-to-requires : tie.Need-granted-to-requires
 granted-to-requires c κs = search needs

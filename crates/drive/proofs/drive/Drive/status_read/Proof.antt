@@ -4,11 +4,6 @@ use Rattle.drive.specs.Request.{statusRead}
 use borrow.Author.Needs.{needs}
 use Rattle.drive.proofs.drive.Drive.status_read.Statement.{statement}
 use Rattle.drive.proofs.drive.Drive.status_read.Tie as tie
-use Rattle.drive.proofs.drive.Drive.status_read.Reads as reads
-use Rattle.drive.proofs.drive.Drive.status_read.Lts as lts
-use Rattle.drive.proofs.drive.Drive.pending_on.Reads as pending-on-reads
-use Rattle.drive.proofs.drive.Drive.posted_on.Reads as posted-on-reads
-use Rattle.drive.proofs.pending.Pending.octet0.Reads as octet0-reads
 
 pending-on-requires : tie.Need-pending-on-requires
 pending-on-requires c κs = search needs

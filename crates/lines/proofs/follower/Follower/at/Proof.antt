@@ -4,8 +4,6 @@ use mathlib.Core.Path.{refl}
 use Rattle.lines.specs.Follower.{remembers}
 use Rattle.lines.proofs.follower.Follower.at.Statement.{statement}
 use Rattle.lines.proofs.follower.Follower.at.Tie as tie
-use Rattle.lines.proofs.follower.Follower.at.Reads as reads
-use Rattle.lines.proofs.follower.Follower.at.Lts as lts
 
 returns : tie.Need-returns
 unfolding remembers

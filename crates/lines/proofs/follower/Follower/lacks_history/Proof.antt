@@ -4,8 +4,6 @@ use mathlib.Core.Path.{refl}
 use Rattle.lines.specs.Follower.{lacksHistory}
 use Rattle.lines.proofs.follower.Follower.lacks_history.Statement.{statement}
 use Rattle.lines.proofs.follower.Follower.lacks_history.Tie as tie
-use Rattle.lines.proofs.follower.Follower.lacks_history.Reads as reads
-use Rattle.lines.proofs.follower.Follower.lacks_history.Lts as lts
 
 returns : tie.Need-returns
 unfolding lacksHistory

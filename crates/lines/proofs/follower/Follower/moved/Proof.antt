@@ -8,12 +8,6 @@ use Rattle.lines.specs.Follower.{movedBy, told}
 use Rattle.lines.specs.declared.follower.Answer.the-variants.{Controllers, Drives}
 use Rattle.lines.proofs.follower.Follower.moved.Statement.{statement}
 use Rattle.lines.proofs.follower.Follower.moved.Tie as tie
-use Rattle.lines.proofs.follower.Follower.moved.Reads as reads
-use Rattle.lines.proofs.follower.Follower.moved.Lts as lts
-use Rattle.lines.proofs.follower.Follower.at.Reads as at-reads
-use Rattle.lines.proofs.follower.Follower.lacks_history.Reads as lacks-history-reads
-use Rattle.lines.proofs.follower.undefined_at.Reads as undefined-at-reads
-use Rattle.lines.proofs.table.entry.Reads as entry-reads
 
 entry-requires : tie.Need-entry-requires
 entry-requires c κs = search needs

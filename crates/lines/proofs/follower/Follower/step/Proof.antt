@@ -10,11 +10,6 @@ use Rattle.lines.proofs.Step.{unreached-refused, step-reached, stepped}
 use Rattle.lines.proofs.Reached.{reached-below-32}
 use Rattle.lines.proofs.follower.Follower.step.Statement.{statement}
 use Rattle.lines.proofs.follower.Follower.step.Tie as tie
-use Rattle.lines.proofs.follower.Follower.step.Reads as reads
-use Rattle.lines.proofs.follower.Follower.step.Lts as lts
-use Rattle.lines.proofs.follower.Follower.is_reached.Reads as is-reached-reads
-use Rattle.lines.proofs.follower.Follower.moved.Reads as moved-reads
-use Rattle.lines.proofs.follower.while_lost.Reads as while-lost-reads
 
 is-reached-requires : tie.Need-is-reached-requires
 is-reached-requires c κs = search needs

@@ -1,0 +1,80 @@
+-- "Data controls": what an octet asks for, and the words that pass under it.
+use Prim.Native.Nat.{ℕ, _+_, _/_, _%_}
+use mathlib.Core.Bool.{Bool, true, false, _&&_, _||_}
+use mathlib.Core.List.{List, [], _++_}
+use lib.Dec.{ltb, leb, eqb}
+use lib.ListN.{take, drop}
+use Rattle.laws.specs.Pick.{pick}
+use Rattle.laws.specs.Octets.{bit}
+use Rattle.parts.specs.declared.setup.Setup.{Setup}
+use Rattle.parts.specs.declared.control.Control.{Control}
+use Rattle.parts.specs.declared.control.Control.the-variants.{Write, Read, StepHead, Reserved, Unsupported, Invalid}
+
+-- "Accepted: 84–8F, 94–9F, 90, C0–CF, D1–DF." "90 is Step Head .. and D0 is reserved."
+-- "D0 and controls outside 80–9F and C0–DF: bit 7." "80–83 and 91–93: bit 5." In the order of the codes:
+unfoldable pub controlOf : ℕ → Control
+controlOf c =
+    pick (ltb c 0x80) Invalid
+    (pick (ltb c 0x84) Unsupported
+    (pick (ltb c 0x90) Write
+    (pick (eqb c 0x90) StepHead
+    (pick (ltb c 0x94) Unsupported
+    (pick (ltb c 0xA0) Write
+    (pick (ltb c 0xC0) Invalid
+    (pick (eqb c 0xD0) Reserved
+    (pick (ltb c 0xE0) Read Invalid))))))))
+
+abbrev pub isWrite : Control → Bool
+isWrite Write = true
+isWrite Read = false
+isWrite StepHead = false
+isWrite Reserved = false
+isWrite Unsupported = false
+isWrite Invalid = false
+
+abbrev pub isRead : Control → Bool
+isRead Write = false
+isRead Read = true
+isRead StepHead = false
+isRead Reserved = false
+isRead Unsupported = false
+isRead Invalid = false
+
+-- "Bit 0 names field 1, bit 1 field 2."
+abbrev pub namesField1 : ℕ → Bool
+namesField1 c = bit 0 c
+
+abbrev pub namesField2 : ℕ → Bool
+namesField2 c = bit 1 c
+
+-- "Bits 3–2: on writes, 01 verify header, 10 write it, 11 write it at the target; on reads, 00 or 01 skip it, 10 read it, 11 read it at the target."
+abbrev pub headerBits : ℕ → ℕ
+headerBits c = c / 4 % 4
+
+abbrev pub verifiesHeader : ℕ → Bool
+verifiesHeader c = eqb (headerBits c) 1
+
+abbrev pub movesHeader : ℕ → Bool
+movesHeader c = leb 2 (headerBits c)
+
+abbrev pub isAtTarget : ℕ → Bool
+isAtTarget c = eqb (headerBits c) 3
+
+-- The words that pass of a part of the sector: all of them, or none.
+abbrev pub part : Bool → ℕ → ℕ
+part passes words = pick passes words 0
+
+-- A write takes the header's words whether it verifies or writes them.
+unfoldable pub headerPasses : ℕ → Bool
+headerPasses c = isWrite (controlOf c) || movesHeader c
+
+-- "the number of words to come"
+unfoldable pub wordsToCome : Setup → ℕ → ℕ
+wordsToCome s c = part (headerPasses c) (s .header) + part (namesField1 c) (s .field1) + part (namesField2 c) (s .field2)
+
+-- "Words pass header, field 1, field 2": what a read takes of a sector.
+unfoldable pub wordsRead : Setup → ℕ → List ℕ → List ℕ
+wordsRead s c sector =
+    pick (headerPasses c) (take (s .header) sector) []
+    ++ pick (namesField1 c) (take (s .field1) (drop (s .header) sector)) []
+    ++ pick (namesField2 c) (take (s .field2) (drop (s .header + s .field1) sector)) []

@@ -1,0 +1,6 @@
+pub mod Setup
+pub mod Control
+pub mod Holding
+pub mod Pending
+pub mod Kind
+pub mod Tests

@@ -1,0 +1,109 @@
+// Data controls: what an octet asks for, and how many words pass under it.
+use crate::setup::Setup;
+ghost use Prim.Native.Nat.{_≤_};
+ghost use mathlib.Core.Path.{_≡_};
+ghost use Rattle.parts.specs.Control.{controlOf, isWrite, isRead, namesField1, namesField2, verifiesHeader, movesHeader, isAtTarget, part, headerPasses, wordsToCome};
+
+pub enum Control {
+    Write,
+    Read,
+    StepHead,
+    Reserved,
+    Unsupported,
+    Invalid,
+}
+
+pub fn control_of(octet: u16) -> Control
+    ensures { λ r. ⌜ r ≡ controlOf octet ⌝ }
+{
+    match octet {
+        0x84..=0x8f | 0x94..=0x9f => Control::Write,
+        0xc0..=0xcf | 0xd1..=0xdf => Control::Read,
+        0x90 => Control::StepHead,
+        0xd0 => Control::Reserved,
+        0x80..=0x83 | 0x91..=0x93 => Control::Unsupported,
+        _ => Control::Invalid,
+    }
+}
+
+pub fn is_write(control: u16) -> bool
+    ensures { λ r. ⌜ r ≡ isWrite (controlOf control) ⌝ }
+{
+    let asked = control_of(control);
+    match asked {
+        Control::Write => true,
+        Control::Read => false,
+        Control::StepHead => false,
+        Control::Reserved => false,
+        Control::Unsupported => false,
+        Control::Invalid => false,
+    }
+}
+
+pub fn is_read(control: u16) -> bool
+    ensures { λ r. ⌜ r ≡ isRead (controlOf control) ⌝ }
+{
+    let asked = control_of(control);
+    match asked {
+        Control::Write => false,
+        Control::Read => true,
+        Control::StepHead => false,
+        Control::Reserved => false,
+        Control::Unsupported => false,
+        Control::Invalid => false,
+    }
+}
+
+pub fn names_field1(control: u16) -> bool
+    ensures { λ r. ⌜ r ≡ namesField1 control ⌝ }
+{
+    control / 1 % 2 == 1
+}
+
+pub fn names_field2(control: u16) -> bool
+    ensures { λ r. ⌜ r ≡ namesField2 control ⌝ }
+{
+    control / 2 % 2 == 1
+}
+
+pub fn verifies_header(control: u16) -> bool
+    ensures { λ r. ⌜ r ≡ verifiesHeader control ⌝ }
+{
+    control / 4 % 4 == 1
+}
+
+pub fn moves_header(control: u16) -> bool
+    ensures { λ r. ⌜ r ≡ movesHeader control ⌝ }
+{
+    2 <= control / 4 % 4
+}
+
+pub fn is_at_target(control: u16) -> bool
+    ensures { λ r. ⌜ r ≡ isAtTarget control ⌝ }
+{
+    control / 4 % 4 == 3
+}
+
+// The words that pass of a part of the sector: all of them, or none.
+pub fn part_of(passes: bool, words: u16) -> usize
+    ensures { λ r. ⌜ (r ≡ part passes words) × (r ≤ words) ⌝ }
+{
+    if passes { words as usize } else { 0 }
+}
+
+pub fn header_passes(control: u16) -> bool
+    ensures { λ r. ⌜ r ≡ headerPasses control ⌝ }
+{
+    is_write(control) | moves_header(control)
+}
+
+impl Setup {
+    pub fn words_to_come(self, control: u16) -> usize
+        ensures { λ r. ⌜ r ≡ wordsToCome self control ⌝ }
+    {
+        let header = part_of(header_passes(control), self.header);
+        let field1 = part_of(names_field1(control), self.field1);
+        let field2 = part_of(names_field2(control), self.field2);
+        header + field1 + field2
+    }
+}
