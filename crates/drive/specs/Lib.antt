@@ -9,3 +9,5 @@ pub mod Power
 pub mod Run
 pub mod Cases
 pub mod Able
+pub mod EveryAnswer
+pub mod Exactly

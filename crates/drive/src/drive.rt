@@ -7,7 +7,7 @@ use parts::Setup;
 use parts::Transfer;
 ghost use mathlib.Core.Path.{_≡_};
 ghost use Rattle.laws.specs.Pick.{pick};
-ghost use Rattle.drive.specs.State.{pendingOn, postedOn};
+ghost use Rattle.drive.specs.State.{postedOn};
 ghost use Rattle.drive.specs.Drive.{ownerNoticed, selected, deselected, afterReset, ended, atItsTarget, headStepped};
 
 pub struct Drive {
@@ -21,14 +21,6 @@ pub struct Drive {
 }
 
 impl Drive {
-    pub(crate) fn pending_on(self, port: u16) -> Pending
-        ensures { λ r. ⌜ r ≡ pendingOn self port ⌝ }
-    {
-        let p0 = self.pending0;
-        let p1 = self.pending1;
-        chosen(port == 0, p0, p1)
-    }
-
     pub(crate) fn posted_on(self, port: u16, pending: Pending) -> Drive
         ensures { λ r. ⌜ r ≡ postedOn self port pending ⌝ }
     {
@@ -95,8 +87,10 @@ impl Drive {
     {
         let h = self.holding;
         let owner = h.owner;
+        let p0 = self.pending0;
+        let p1 = self.pending1;
         if h.is_owned_by_other(port) {
-            let p = self.pending_on(owner);
+            let p = chosen(owner == 0, p0, p1);
             return self.posted_on(owner, posting::noticed_on(p));
         }
         self
@@ -151,7 +145,7 @@ impl Drive {
     }
 }
 
-fn chosen(first: bool, a: Pending, b: Pending) -> Pending
+pub(crate) fn chosen(first: bool, a: Pending, b: Pending) -> Pending
     ensures { λ r. ⌜ r ≡ pick first a b ⌝ }
 {
     if first { a } else { b }

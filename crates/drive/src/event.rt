@@ -6,7 +6,7 @@ use crate::kinds;
 use crate::refusal;
 use parts::Event;
 ghost use mathlib.Core.Path.{_≡_};
-ghost use Rattle.drive.specs.State.{told, result};
+ghost use Rattle.drive.specs.State.{result};
 ghost use Rattle.drive.specs.Event.{handled, Handled};
 ghost use Rattle.drive.specs.Able.{Passable};
 
@@ -19,21 +19,18 @@ impl Drive {
     {
         let s = self.setup;
         if refusal::is_unsound(self) {
-            return self.refused(parts::UNSOUND_STATE);
+            return Outcome {
+                answer: Answer::Refused(parts::UNSOUND_STATE),
+                drive: self,
+            };
         }
         if refusal::lacks_room(s, &sectors[..], &staging[..]) {
-            return self.refused(parts::SLICE_TOO_SHORT);
+            return Outcome {
+                answer: Answer::Refused(parts::SLICE_TOO_SHORT),
+                drive: self,
+            };
         }
         step(self, event, sectors, staging)
-    }
-
-    pub(crate) fn refused(self, number: u8) -> Outcome
-        ensures { λ r. ⌜ r ≡ told (Answer.Refused number) self ⌝ }
-    {
-        Outcome {
-            answer: Answer::Refused(number),
-            drive: self,
-        }
     }
 }
 
@@ -43,7 +40,10 @@ pub(crate) fn step(drive: Drive, event: Event, sectors: &mut [u16], staging: &mu
     ensures { λ r. ⌜ result r (now (sectors .exit)) (now (staging .exit)) ≡ handled drive event (now (sectors .entry)) (now (staging .entry)) ⌝ }
 {
     if LAST_PORT < event.port {
-        return drive.refused(parts::NO_SUCH_PORT);
+        return Outcome {
+            answer: Answer::Refused(parts::NO_SUCH_PORT),
+            drive,
+        };
     }
     let kind = event.kind;
     match kind {
@@ -57,6 +57,9 @@ pub(crate) fn step(drive: Drive, event: Event, sectors: &mut [u16], staging: &mu
         8 => kinds::on_target(drive, event),
         9 => kinds::on_read_status(drive, event),
         10 => kinds::on_reset(drive, event),
-        _ => drive.refused(parts::MALFORMED),
+        _ => Outcome {
+            answer: Answer::Refused(parts::MALFORMED),
+            drive,
+        },
     }
 }

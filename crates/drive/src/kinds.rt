@@ -40,7 +40,10 @@ pub(crate) fn on_select(drive: Drive, event: Event) -> Outcome
         busy,
     );
     if n != 0 {
-        return drive.refused(n);
+        return Outcome {
+            answer: Answer::Refused(n),
+            drive,
+        };
     }
     Outcome {
         answer: Answer::Done,
@@ -59,7 +62,10 @@ pub(crate) fn on_deselect(drive: Drive, event: Event) -> Outcome
         is_one_open(t),
     );
     if n != 0 {
-        return drive.refused(n);
+        return Outcome {
+            answer: Answer::Refused(n),
+            drive,
+        };
     }
     Outcome {
         answer: Answer::Done,
@@ -71,7 +77,10 @@ pub(crate) fn on_reset(drive: Drive, event: Event) -> Outcome
     ensures { λ r. ⌜ r ≡ unlessOwnRow Kind.Reset drive event (told Answer.Done (afterReset drive)) ⌝ }
 {
     if !parts::none_at_all(event) {
-        return drive.refused(parts::MALFORMED);
+        return Outcome {
+            answer: Answer::Refused(parts::MALFORMED),
+            drive,
+        };
     }
     Outcome {
         answer: Answer::Done,
@@ -91,7 +100,10 @@ pub(crate) fn on_data_control(drive: Drive, event: Event) -> Outcome
         is_one_open(t),
     );
     if n != 0 {
-        return drive.refused(n);
+        return Outcome {
+            answer: Answer::Refused(n),
+            drive,
+        };
     }
     drive.data_control(event.port as u16, event.a0 as u16)
 }
@@ -103,7 +115,10 @@ pub(crate) fn on_position(drive: Drive, event: Event) -> Outcome
     let t = drive.transfer;
     let n = parts::inside_refusal(true, is_selected(h, event), is_one_open(t));
     if n != 0 {
-        return drive.refused(n);
+        return Outcome {
+            answer: Answer::Refused(n),
+            drive,
+        };
     }
     let place = Place {
         cylinder: parts::word_of(event),
@@ -124,7 +139,10 @@ pub(crate) fn on_target(drive: Drive, event: Event) -> Outcome
         is_one_open(t),
     );
     if n != 0 {
-        return drive.refused(n);
+        return Outcome {
+            answer: Answer::Refused(n),
+            drive,
+        };
     }
     drive.targeted(event.port as u16, parts::word_of(event))
 }
@@ -140,7 +158,10 @@ pub(crate) fn on_read_status(drive: Drive, event: Event) -> Outcome
         is_one_open(t),
     );
     if n != 0 {
-        return drive.refused(n);
+        return Outcome {
+            answer: Answer::Refused(n),
+            drive,
+        };
     }
     drive.status_read(event.port as u16)
 }
@@ -156,9 +177,15 @@ pub(crate) fn on_end(drive: Drive, event: Event) -> Outcome
         !is_one_open(t),
     );
     if n != 0 {
-        return drive.refused(n);
+        return Outcome {
+            answer: Answer::Refused(n),
+            drive,
+        };
     }
-    drive.ended().told_status(answer::NORMAL)
+    Outcome {
+        answer: Answer::Status(answer::NORMAL),
+        drive: drive.ended(),
+    }
 }
 
 pub(crate) fn on_word_from_host(
@@ -178,7 +205,10 @@ pub(crate) fn on_word_from_host(
         !parts::is_write_open(t),
     );
     if n != 0 {
-        return drive.refused(n);
+        return Outcome {
+            answer: Answer::Refused(n),
+            drive,
+        };
     }
     transfer::word_staged(drive, parts::word_of(event), sectors, staging)
 }
@@ -195,7 +225,10 @@ pub(crate) fn on_take_word(drive: Drive, event: Event, sectors: &[u16], staging:
         !parts::is_read_open(t),
     );
     if n != 0 {
-        return drive.refused(n);
+        return Outcome {
+            answer: Answer::Refused(n),
+            drive,
+        };
     }
     transfer::word_taken(drive, sectors, staging)
 }

@@ -3,6 +3,7 @@ use crate::answer;
 use crate::answer::Answer;
 use crate::answer::Outcome;
 use crate::drive::Drive;
+use crate::drive::chosen;
 use crate::posting;
 use parts::Control;
 use parts::Pending;
@@ -12,60 +13,99 @@ ghost use mathlib.Core.Path.{_≡_};
 ghost use mathlib.Core.Bool.{true};
 ghost use Rattle.parts.specs.Setup.{withinLimits};
 ghost use Rattle.parts.specs.Pending.{OneBit};
-ghost use Rattle.drive.specs.State.{told};
-ghost use Rattle.drive.specs.Answer.{unsolicitedException};
-ghost use Rattle.drive.specs.Request.{badRequest, opened, opening, controlled, dataControl, positioned, targeted, statusRead};
-ghost use Rattle.parts.specs.Control.{controlOf};
+ghost use Rattle.drive.specs.Request.{badRequest, opened, dataControl, positioned, targeted, statusRead};
+ghost use Rattle.drive.specs.Able.{askedBy, askedOf};
+
+// What a data control asks for at a target.
+pub(crate) enum Asked {
+    Open,
+    OpenAtTarget,
+    StepHead,
+    // A bad request, and its bit of octet 2.
+    Nothing(u8),
+}
 
 impl Drive {
     pub(crate) fn data_control(self, port: u16, control: u16) -> Outcome
         requires { ⌜ withinLimits (self .setup) ≡ true ⌝ }
         ensures { λ r. ⌜ r ≡ dataControl self port control ⌝ }
     {
-        let p = self.pending_on(port);
-        if p.octet1 == 0 {
-            return self.controlled(port, control);
+        let p0 = self.pending0;
+        let p1 = self.pending1;
+        let p = chosen(port == 0, p0, p1);
+        if p.octet1 != 0 {
+            return Outcome {
+                answer: Answer::Status(answer::UNSOLICITED_EXCEPTION),
+                drive: self,
+            };
         }
-        self.unsolicited()
+        let asked = asked_of(control, self.target);
+        match asked {
+            Asked::Open => self.opened(control),
+            Asked::OpenAtTarget => self.at_target().opened(control),
+            Asked::StepHead => Outcome {
+                answer: Answer::Status(answer::NORMAL),
+                drive: self.head_stepped(),
+            },
+            Asked::Nothing(bit) => self.bad_request(port, bit),
+        }
     }
 
     pub(crate) fn positioned(self, port: u16, place: Place) -> Outcome
         ensures { λ r. ⌜ r ≡ positioned self port place ⌝ }
     {
-        let p = self.pending_on(port);
-        if p.octet1 == 0 {
-            let s = self.setup;
-            if s.is_place(place) {
-                let mut d = self;
-                d.place = place;
-                return d.told_status(answer::NORMAL);
-            }
-            return self.bad_request(port, parts::INVALID_PARAMETER);
+        let s = self.setup;
+        let p0 = self.pending0;
+        let p1 = self.pending1;
+        let p = chosen(port == 0, p0, p1);
+        if p.octet1 != 0 {
+            return Outcome {
+                answer: Answer::Status(answer::UNSOLICITED_EXCEPTION),
+                drive: self,
+            };
         }
-        self.unsolicited()
+        if s.is_place(place) {
+            let mut d = self;
+            d.place = place;
+            return Outcome {
+                answer: Answer::Status(answer::NORMAL),
+                drive: d,
+            };
+        }
+        self.bad_request(port, parts::INVALID_PARAMETER)
     }
 
     pub(crate) fn targeted(self, port: u16, target: u16) -> Outcome
         ensures { λ r. ⌜ r ≡ targeted self port target ⌝ }
     {
-        let p = self.pending_on(port);
-        if p.octet1 == 0 {
-            let s = self.setup;
-            if s.is_target(target) {
-                let mut d = self;
-                d.target = target;
-                return d.told_status(answer::NORMAL);
-            }
-            return self.bad_request(port, parts::INVALID_PARAMETER);
+        let s = self.setup;
+        let p0 = self.pending0;
+        let p1 = self.pending1;
+        let p = chosen(port == 0, p0, p1);
+        if p.octet1 != 0 {
+            return Outcome {
+                answer: Answer::Status(answer::UNSOLICITED_EXCEPTION),
+                drive: self,
+            };
         }
-        self.unsolicited()
+        if s.is_target(target) {
+            let mut d = self;
+            d.target = target;
+            return Outcome {
+                answer: Answer::Status(answer::NORMAL),
+                drive: d,
+            };
+        }
+        self.bad_request(port, parts::INVALID_PARAMETER)
     }
 
     // The status response, which clears what it tells.
     pub(crate) fn status_read(self, port: u16) -> Outcome
         ensures { λ r. ⌜ r ≡ statusRead self port ⌝ }
     {
-        let p = self.pending_on(port);
+        let p0 = self.pending0;
+        let p1 = self.pending1;
+        let p = chosen(port == 0, p0, p1);
         let octet0 = p.octet0();
         let nothing = Pending {
             octet1: 0,
@@ -78,34 +118,6 @@ impl Drive {
         }
     }
 
-    fn controlled(self, port: u16, control: u16) -> Outcome
-        requires { ⌜ withinLimits (self .setup) ≡ true ⌝ }
-        ensures { λ r. ⌜ r ≡ controlled (controlOf control) self port control ⌝ }
-    {
-        let asked = parts::control_of(control);
-        match asked {
-            Control::Write => self.opening(port, control),
-            Control::Read => self.opening(port, control),
-            Control::StepHead => self.head_stepped().told_status(answer::NORMAL),
-            Control::Reserved => self.bad_request(port, parts::INVALID_BUS_CONTROL),
-            Control::Unsupported => self.bad_request(port, parts::UNSUPPORTED_BUS_CONTROL),
-            Control::Invalid => self.bad_request(port, parts::INVALID_BUS_CONTROL),
-        }
-    }
-
-    fn opening(self, port: u16, control: u16) -> Outcome
-        requires { ⌜ withinLimits (self .setup) ≡ true ⌝ }
-        ensures { λ r. ⌜ r ≡ opening self port control ⌝ }
-    {
-        if parts::is_at_target(control) {
-            if self.target == parts::NO_TARGET {
-                return self.bad_request(port, parts::BUS_CONTROL_CONTEXT);
-            }
-            return self.at_target().opened(control);
-        }
-        self.opened(control)
-    }
-
     // A transfer opens at the position, or ends at once where no word is to come.
     fn opened(self, control: u16) -> Outcome
         requires { ⌜ withinLimits (self .setup) ≡ true ⌝ }
@@ -115,7 +127,10 @@ impl Drive {
         let p = self.place;
         let words = s.words_to_come(control);
         if words == 0 {
-            return self.ended().told_status(answer::NORMAL);
+            return Outcome {
+                answer: Answer::Status(answer::NORMAL),
+                drive: self.ended(),
+            };
         }
         let t = Transfer { control, moved: 0 };
         let mut d = self;
@@ -130,23 +145,38 @@ impl Drive {
         requires { ⌜ OneBit bit ⌝ }
         ensures { λ r. ⌜ r ≡ badRequest self port bit ⌝ }
     {
-        let p = self.pending_on(port);
-        self.posted_on(port, posting::faulted_on(p, bit))
-            .told_status(answer::OPERATION_EXCEPTION)
-    }
-
-    fn unsolicited(self) -> Outcome
-        ensures { λ r. ⌜ r ≡ told (Answer.Status unsolicitedException) self ⌝ }
-    {
-        self.told_status(answer::UNSOLICITED_EXCEPTION)
-    }
-
-    pub(crate) fn told_status(self, status: u8) -> Outcome
-        ensures { λ r. ⌜ r ≡ told (Answer.Status status) self ⌝ }
-    {
+        let p0 = self.pending0;
+        let p1 = self.pending1;
+        let p = chosen(port == 0, p0, p1);
         Outcome {
-            answer: Answer::Status(status),
-            drive: self,
+            answer: Answer::Status(answer::OPERATION_EXCEPTION),
+            drive: self.posted_on(port, posting::faulted_on(p, bit)),
         }
     }
+}
+
+fn asked_of(control: u16, target: u16) -> Asked
+    ensures { λ r. ⌜ r ≡ askedOf control target ⌝ }
+{
+    let kind = parts::control_of(control);
+    match kind {
+        Control::Write => opening(control, target),
+        Control::Read => opening(control, target),
+        Control::StepHead => Asked::StepHead,
+        Control::Reserved => Asked::Nothing(parts::INVALID_BUS_CONTROL),
+        Control::Unsupported => Asked::Nothing(parts::UNSUPPORTED_BUS_CONTROL),
+        Control::Invalid => Asked::Nothing(parts::INVALID_BUS_CONTROL),
+    }
+}
+
+fn opening(control: u16, target: u16) -> Asked
+    ensures { λ r. ⌜ r ≡ askedBy control target ⌝ }
+{
+    if parts::is_at_target(control) {
+        if target == parts::NO_TARGET {
+            return Asked::Nothing(parts::BUS_CONTROL_CONTEXT);
+        }
+        return Asked::OpenAtTarget;
+    }
+    Asked::Open
 }

@@ -51,11 +51,17 @@ fn after_word(
     let t = drive.transfer;
     let control = t.control;
     if header_miscompares(s, control, count, start, &sectors[..], staging) {
-        return drive.ended().told_status(answer::HEADER_MISCOMPARE);
+        return Outcome {
+            answer: Answer::Status(answer::HEADER_MISCOMPARE),
+            drive: drive.ended(),
+        };
     }
     if count == s.words_to_come(control) {
         commit(s, control, start, sectors, staging);
-        return drive.ended().told_status(answer::NORMAL);
+        return Outcome {
+            answer: Answer::Status(answer::NORMAL),
+            drive: drive.ended(),
+        };
     }
     let next = Transfer {
         control,

@@ -52,3 +52,12 @@ pub ruleset steps = (pick-t, pick-f, lt-ltb, le-ltb, le-leb, lt-leb, eq-eqb, ne-
 
 -- flags: a negated one, and one that a callee returned
 pub ruleset flags = (not-t, not-f, not-true, not-false, told)
+
+-- a choice that is made, as an equation
+pub pick-true : {A : Type 0} (a b : A) → pick true a b ≡ a
+unfolding pick
+pick-true a b = refl
+
+pub pick-false : {A : Type 0} (a b : A) → pick false a b ≡ b
+unfolding pick
+pick-false a b = refl

@@ -11,14 +11,9 @@ use mathlib.Core.Path.{_∙_, refl, sym}
 use Rattle.drive.proofs.event.step.Statement.{statement}
 use Rattle.drive.proofs.event.step.Tie as tie
 
--- Assumes nothing.
-
-refused-requires : tie.Need-refused-requires
-refused-requires c κs = search needs
-
 returns : tie.Need-returns
 unfolding kindOf pick
-returns c = rw (c .refused .ensures) (sym (refused-with-1 _ _ _ _ (c .before .before .before .before .before .pre) (lt-ltb _ _ (c .before .if1 .taken))))
+returns c = sym (refused-with-1 _ _ _ _ (c .before .before .before .before .pre) (lt-ltb _ _ (c .if1 .taken)))
 
 on-select-requires : tie.Need-on-select-requires
 on-select-requires c κs = search needs
@@ -49,9 +44,6 @@ on-read-status-requires c κs = search needs
 
 on-reset-requires : tie.Need-on-reset-requires
 on-reset-requires c κs = search needs
-
-refused-requires-2 : tie.Need-refused-requires-2
-refused-requires-2 c κs = search needs
 
 returns-2 : tie.Need-returns-2
 unfolding kindOf pick
@@ -107,14 +99,13 @@ returns-11 c = handled-quietly _ _ _ _ Reset _ _ (c .before .before .before .bef
 
 returns-12 : tie.Need-returns-12
 unfolding kindOf pick
-returns-12 c = let none = c .before .match .rest in
-    rw (c .refused2 .ensures) (sym (refused-with-8 _ _ _ _ (c .before .before .before .before .before .before .pre) (le-ltb _ _ (c .before .before .if1 .left)) (rw (ne-eqb _ 1 (none .0 .0 .0 .0 .0 .0 .0 .0 .0 .1), ne-eqb _ 2 (none .0 .0 .0 .0 .0 .0 .0 .0 .1), ne-eqb _ 3 (none .0 .0 .0 .0 .0 .0 .0 .1), ne-eqb _ 4 (none .0 .0 .0 .0 .0 .0 .1), ne-eqb _ 5 (none .0 .0 .0 .0 .0 .1), ne-eqb _ 6 (none .0 .0 .0 .0 .1), ne-eqb _ 7 (none .0 .0 .0 .1), ne-eqb _ 8 (none .0 .0 .1), ne-eqb _ 9 (none .0 .1), ne-eqb _ 10 (none .1)))))
+returns-12 c = let none = c .match .rest in
+    sym (refused-with-8 _ _ _ _ (c .before .before .before .before .before .pre) (le-ltb _ _ (c .before .if1 .left)) (rw (ne-eqb _ 1 (none .0 .0 .0 .0 .0 .0 .0 .0 .0 .1), ne-eqb _ 2 (none .0 .0 .0 .0 .0 .0 .0 .0 .1), ne-eqb _ 3 (none .0 .0 .0 .0 .0 .0 .0 .1), ne-eqb _ 4 (none .0 .0 .0 .0 .0 .0 .1), ne-eqb _ 5 (none .0 .0 .0 .0 .0 .1), ne-eqb _ 6 (none .0 .0 .0 .0 .1), ne-eqb _ 7 (none .0 .0 .0 .1), ne-eqb _ 8 (none .0 .0 .1), ne-eqb _ 9 (none .0 .1), ne-eqb _ 10 (none .1))))
 
 pub step-spec : {M : Type 1} → statement M
 step-spec =
     tie.close
     (tie.spec
-    refused-requires
     returns
     on-select-requires
     on-deselect-requires
@@ -126,7 +117,6 @@ step-spec =
     on-target-requires
     on-read-status-requires
     on-reset-requires
-    refused-requires-2
     returns-2
     returns-3
     returns-4

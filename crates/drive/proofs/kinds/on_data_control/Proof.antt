@@ -7,8 +7,6 @@ use mathlib.Core.Path.{_∙_}
 use Rattle.drive.proofs.kinds.on_data_control.Statement.{statement}
 use Rattle.drive.proofs.kinds.on_data_control.Tie as tie
 
--- Assumes nothing.
-
 none-after-1-requires : tie.Need-none-after-1-requires
 none-after-1-requires c κs = search needs
 
@@ -21,11 +19,8 @@ is-one-open-requires c κs = search needs
 inside-refusal-requires : tie.Need-inside-refusal-requires
 inside-refusal-requires c κs = search needs
 
-refused-requires : tie.Need-refused-requires
-refused-requires c κs = search needs
-
 returns : tie.Need-returns
-returns c = c .refused .ensures ∙ own-refused (Use DataControl) _ _ _ _ (c .before .before .inside-refusal .ensures ∙ (cc)) (c .before .if1 .taken)
+returns c = own-refused (Use DataControl) _ _ _ _ (c .before .inside-refusal .ensures ∙ (cc)) (c .if1 .taken)
 
 cast-data-control : tie.Need-cast-data-control
 cast-data-control c = search needs
@@ -47,7 +42,6 @@ on-data-control-spec =
     is-selected-requires
     is-one-open-requires
     inside-refusal-requires
-    refused-requires
     returns
     cast-data-control
     cast-data-control-2

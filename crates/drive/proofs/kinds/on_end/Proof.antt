@@ -7,8 +7,6 @@ use mathlib.Core.Path.{_∙_}
 use Rattle.drive.proofs.kinds.on_end.Statement.{statement}
 use Rattle.drive.proofs.kinds.on_end.Tie as tie
 
--- Assumes nothing.
-
 none-at-all-requires : tie.Need-none-at-all-requires
 none-at-all-requires c κs = search needs
 
@@ -21,20 +19,14 @@ is-one-open-requires c κs = search needs
 inside-refusal-requires : tie.Need-inside-refusal-requires
 inside-refusal-requires c κs = search needs
 
-refused-requires : tie.Need-refused-requires
-refused-requires c κs = search needs
-
 returns : tie.Need-returns
-returns c = c .refused .ensures ∙ own-refused (Use End) _ _ _ _ (c .before .before .inside-refusal .ensures ∙ (cc)) (c .before .if1 .taken)
+returns c = own-refused (Use End) _ _ _ _ (c .before .inside-refusal .ensures ∙ (cc)) (c .if1 .taken)
 
 ended-requires : tie.Need-ended-requires
 ended-requires c κs = search needs
 
-told-status-requires : tie.Need-told-status-requires
-told-status-requires c κs = search needs
-
 returns-2 : tie.Need-returns-2
-returns-2 c = own-accepted (Use End) _ _ _ _ _ (c .before .before .before .inside-refusal .ensures ∙ (cc)) (c .before .before .if1 .left) (cc)
+returns-2 c = own-accepted (Use End) _ _ _ _ _ (c .before .before .inside-refusal .ensures ∙ (cc)) (c .before .if1 .left) (cc)
 
 pub on-end-spec : {M : Type 1} → statement M
 on-end-spec =
@@ -44,8 +36,6 @@ on-end-spec =
     is-selected-requires
     is-one-open-requires
     inside-refusal-requires
-    refused-requires
     returns
     ended-requires
-    told-status-requires
     returns-2)

@@ -7,8 +7,6 @@ use mathlib.Core.Path.{_∙_}
 use Rattle.drive.proofs.kinds.on_position.Statement.{statement}
 use Rattle.drive.proofs.kinds.on_position.Tie as tie
 
--- Assumes nothing.
-
 is-selected-requires : tie.Need-is-selected-requires
 is-selected-requires c κs = search needs
 
@@ -18,20 +16,17 @@ is-one-open-requires c κs = search needs
 inside-refusal-requires : tie.Need-inside-refusal-requires
 inside-refusal-requires c κs = search needs
 
-refused-requires : tie.Need-refused-requires
-refused-requires c κs = search needs
-
 returns : tie.Need-returns
-returns c = c .refused .ensures ∙ own-refused (Use Position) _ _ _ _ (c .before .before .inside-refusal .ensures ∙ (cc)) (c .before .if1 .taken)
+returns c = own-refused (Use Position) _ _ _ _ (c .before .inside-refusal .ensures ∙ (cc)) (c .if1 .taken)
 
 word-of-requires : tie.Need-word-of-requires
 word-of-requires c κs = search needs
 
-cast-t10 : tie.Need-cast-t10
-cast-t10 c = search needs
-
 cast-t11 : tie.Need-cast-t11
 cast-t11 c = search needs
+
+cast-t12 : tie.Need-cast-t12
+cast-t12 c = search needs
 
 cast-positioned : tie.Need-cast-positioned
 cast-positioned c = search needs
@@ -49,11 +44,10 @@ on-position-spec =
     is-selected-requires
     is-one-open-requires
     inside-refusal-requires
-    refused-requires
     returns
     word-of-requires
-    cast-t10
     cast-t11
+    cast-t12
     cast-positioned
     positioned-requires
     returns-2)

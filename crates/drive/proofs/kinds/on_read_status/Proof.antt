@@ -7,8 +7,6 @@ use mathlib.Core.Path.{_∙_}
 use Rattle.drive.proofs.kinds.on_read_status.Statement.{statement}
 use Rattle.drive.proofs.kinds.on_read_status.Tie as tie
 
--- Assumes nothing.
-
 none-at-all-requires : tie.Need-none-at-all-requires
 none-at-all-requires c κs = search needs
 
@@ -21,11 +19,8 @@ is-one-open-requires c κs = search needs
 inside-refusal-requires : tie.Need-inside-refusal-requires
 inside-refusal-requires c κs = search needs
 
-refused-requires : tie.Need-refused-requires
-refused-requires c κs = search needs
-
 returns : tie.Need-returns
-returns c = c .refused .ensures ∙ own-refused (Use ReadStatus) _ _ _ _ (c .before .before .inside-refusal .ensures ∙ (cc)) (c .before .if1 .taken)
+returns c = own-refused (Use ReadStatus) _ _ _ _ (c .before .inside-refusal .ensures ∙ (cc)) (c .if1 .taken)
 
 cast-status-read : tie.Need-cast-status-read
 cast-status-read c = search needs
@@ -44,7 +39,6 @@ on-read-status-spec =
     is-selected-requires
     is-one-open-requires
     inside-refusal-requires
-    refused-requires
     returns
     cast-status-read
     status-read-requires

@@ -9,8 +9,6 @@ use Rattle.drive.specs.declared.answer.Answer.the-variants.{Done}
 use Rattle.drive.proofs.kinds.on_select.Statement.{statement}
 use Rattle.drive.proofs.kinds.on_select.Tie as tie
 
--- Assumes nothing.
-
 cast-port : tie.Need-cast-port
 cast-port c = search needs
 
@@ -32,11 +30,8 @@ is-selected-requires c κs = search needs
 select-refusal-requires : tie.Need-select-refusal-requires
 select-refusal-requires c κs = search needs
 
-refused-requires : tie.Need-refused-requires
-refused-requires c κs = search needs
-
 returns : tie.Need-returns
-returns c = c .refused .ensures ∙ own-refused Select _ _ _ _ (c .before .before .select-refusal .ensures ∙ rw (c .before .before .before .before .none-after-1 .ensures, c .before .before .before .is-selected .ensures, c .before .before .before .before .before .before .before .is-misaddressed .ensures, c .before .before .before .before .before .before .changes-mode .ensures, c .before .before .before .before .before .is-busy .ensures)) (c .before .if1 .taken)
+returns c = own-refused Select _ _ _ _ (c .before .select-refusal .ensures ∙ rw (c .before .before .before .none-after-1 .ensures, c .before .before .is-selected .ensures, c .before .before .before .before .before .before .is-misaddressed .ensures, c .before .before .before .before .before .changes-mode .ensures, c .before .before .before .before .is-busy .ensures)) (c .if1 .taken)
 
 select-requires : tie.Need-select-requires
 select-requires c κs = search needs
@@ -55,7 +50,6 @@ on-select-spec =
     none-after-1-requires
     is-selected-requires
     select-refusal-requires
-    refused-requires
     returns
     select-requires
     returns-2)

@@ -8,8 +8,6 @@ use mathlib.Core.Path.{_∙_, sym}
 use Rattle.drive.proofs.kinds.on_take_word.Statement.{statement}
 use Rattle.drive.proofs.kinds.on_take_word.Tie as tie
 
--- Assumes nothing.
-
 none-at-all-requires : tie.Need-none-at-all-requires
 none-at-all-requires c κs = search needs
 
@@ -22,11 +20,8 @@ is-read-open-requires c κs = search needs
 inside-refusal-requires : tie.Need-inside-refusal-requires
 inside-refusal-requires c κs = search needs
 
-refused-requires : tie.Need-refused-requires
-refused-requires c κs = search needs
-
 returns : tie.Need-returns
-returns c = c .refused .ensures ∙ own-refused (Use TakeWord) _ _ _ _ (c .before .before .inside-refusal .ensures ∙ (cc)) (c .before .if1 .taken)
+returns c = own-refused (Use TakeWord) _ _ _ _ (c .before .inside-refusal .ensures ∙ (cc)) (c .if1 .taken)
 
 word-taken-requires : tie.Need-word-taken-requires
 word-taken-requires c κs = let late = timely _ _ _ (sym (c .before .inside-refusal .ensures) ∙ c .if1 .left) in
@@ -43,7 +38,6 @@ on-take-word-spec =
     is-selected-requires
     is-read-open-requires
     inside-refusal-requires
-    refused-requires
     returns
     word-taken-requires
     returns-2)

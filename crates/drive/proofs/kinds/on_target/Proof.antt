@@ -7,8 +7,6 @@ use mathlib.Core.Path.{_∙_}
 use Rattle.drive.proofs.kinds.on_target.Statement.{statement}
 use Rattle.drive.proofs.kinds.on_target.Tie as tie
 
--- Assumes nothing.
-
 none-after-2-requires : tie.Need-none-after-2-requires
 none-after-2-requires c κs = search needs
 
@@ -21,11 +19,8 @@ is-one-open-requires c κs = search needs
 inside-refusal-requires : tie.Need-inside-refusal-requires
 inside-refusal-requires c κs = search needs
 
-refused-requires : tie.Need-refused-requires
-refused-requires c κs = search needs
-
 returns : tie.Need-returns
-returns c = c .refused .ensures ∙ own-refused (Use Target) _ _ _ _ (c .before .before .inside-refusal .ensures ∙ (cc)) (c .before .if1 .taken)
+returns c = own-refused (Use Target) _ _ _ _ (c .before .inside-refusal .ensures ∙ (cc)) (c .if1 .taken)
 
 cast-targeted : tie.Need-cast-targeted
 cast-targeted c = search needs
@@ -47,7 +42,6 @@ on-target-spec =
     is-selected-requires
     is-one-open-requires
     inside-refusal-requires
-    refused-requires
     returns
     cast-targeted
     word-of-requires

@@ -8,8 +8,6 @@ use mathlib.Core.Path.{_∙_, sym}
 use Rattle.drive.proofs.kinds.on_word_from_host.Statement.{statement}
 use Rattle.drive.proofs.kinds.on_word_from_host.Tie as tie
 
--- Assumes nothing.
-
 none-after-2-requires : tie.Need-none-after-2-requires
 none-after-2-requires c κs = search needs
 
@@ -22,11 +20,8 @@ is-write-open-requires c κs = search needs
 inside-refusal-requires : tie.Need-inside-refusal-requires
 inside-refusal-requires c κs = search needs
 
-refused-requires : tie.Need-refused-requires
-refused-requires c κs = search needs
-
 returns : tie.Need-returns
-returns c = rw (c .refused .ensures) (own-refused-in (Use WordFromHost) _ _ _ _ _ _ (c .before .before .inside-refusal .ensures ∙ (cc)) (c .before .if1 .taken))
+returns c = own-refused-in (Use WordFromHost) _ _ _ _ _ _ (c .before .inside-refusal .ensures ∙ (cc)) (c .if1 .taken)
 
 word-of-requires : tie.Need-word-of-requires
 word-of-requires c κs = search needs
@@ -52,7 +47,6 @@ on-word-from-host-spec =
     is-selected-requires
     is-write-open-requires
     inside-refusal-requires
-    refused-requires
     returns
     word-of-requires
     word-staged-requires

@@ -8,23 +8,18 @@ use borrow.Author.Tests.{eq-eqb, ne-eqb}
 use Rattle.drive.proofs.transfer.after_word.Statement.{statement}
 use Rattle.drive.proofs.transfer.after_word.Tie as tie
 
--- Assumes nothing.
-
 header-miscompares-requires : tie.Need-header-miscompares-requires
 header-miscompares-requires c κs = search needs
 
 ended-requires : tie.Need-ended-requires
 ended-requires c κs = search needs
 
-told-status-requires : tie.Need-told-status-requires
-told-status-requires c κs = search needs
-
 same-length : tie.Need-same-length
 same-length c = search needs
 
 returns : tie.Need-returns
 unfolding staged pick
-returns c = rw (← (c .before .before .before .header-miscompares .ensures), c .before .before .if1 .taken, c .told-status .ensures, c .before .ended .ensures)
+returns c = rw (← (c .before .before .header-miscompares .ensures), c .before .if1 .taken, c .ended .ensures)
 
 words-to-come-requires : tie.Need-words-to-come-requires
 words-to-come-requires c κs = search needs
@@ -35,18 +30,15 @@ commit-requires c κs = search needs
 ended-requires-2 : tie.Need-ended-requires-2
 ended-requires-2 c κs = search needs
 
-told-status-requires-2 : tie.Need-told-status-requires-2
-told-status-requires-2 c κs = search needs
-
 same-length-2 : tie.Need-same-length-2
 same-length-2 c = search needs
 
 returns-2 : tie.Need-returns-2
 unfolding staged pick
-returns-2 c = rw (← (c .before .before .before .before .before .before .before .before .before .header-miscompares .ensures), c .before .before .before .before .before .before .before .before .if1 .left, ← (c .before .before .before .before .before .before .before .words-to-come .ensures), eq-eqb _ _ (c .before .before .before .before .before .before .if2 .taken), c .told-status2 .ensures, c .before .ended2 .ensures, c .before .before .before .before .commit .ensures)
+returns-2 c = rw (← (c .before .before .before .before .before .before .before .before .header-miscompares .ensures), c .before .before .before .before .before .before .before .if1 .left, ← (c .before .before .before .before .before .before .words-to-come .ensures), eq-eqb _ _ (c .before .before .before .before .before .if2 .taken), c .ended2 .ensures, c .before .before .before .commit .ensures)
 
-cast-t21 : tie.Need-cast-t21
-cast-t21 c = search needs
+cast-t23 : tie.Need-cast-t23
+cast-t23 c = search needs
 
 same-length-3 : tie.Need-same-length-3
 same-length-3 c = search needs
@@ -61,15 +53,13 @@ after-word-spec =
     (tie.spec
     header-miscompares-requires
     ended-requires
-    told-status-requires
     same-length
     returns
     words-to-come-requires
     commit-requires
     ended-requires-2
-    told-status-requires-2
     same-length-2
     returns-2
-    cast-t21
+    cast-t23
     same-length-3
     returns-3)

@@ -1,5 +1,6 @@
 -- `handle` meets its contract: 11, then 10, then the step.
 -- Assumes nothing.
+use Rattle.drive.proofs.Bounds.{limits}
 use Rattle.drive.proofs.Sound.{room, sound}
 use Rattle.drive.proofs.Step.{as-promised, refused-with-10, refused-with-11}
 use borrow.Author.Needs.{needs}
@@ -10,17 +11,11 @@ use Rattle.drive.proofs.drive.Drive.handle.Tie as tie
 is-unsound-requires : tie.Need-is-unsound-requires
 is-unsound-requires c κs = search needs
 
-refused-requires : tie.Need-refused-requires
-refused-requires c κs = search needs
-
 returns : tie.Need-returns
-returns c = as-promised (rw (c .refused .ensures) (sym (refused-with-11 _ _ _ _ (sym (c .before .before .is-unsound .ensures) ∙ c .before .if1 .taken))))
+returns c = as-promised (sym (refused-with-11 _ _ _ _ (sym (c .before .is-unsound .ensures) ∙ c .if1 .taken)))
 
 lacks-room-requires : tie.Need-lacks-room-requires
 lacks-room-requires c κs = sound _ (sym (c .before .before .before .is-unsound .ensures) ∙ c .before .before .if1 .left) .limits
-
-refused-requires-2 : tie.Need-refused-requires-2
-refused-requires-2 c κs = search needs
 
 same-length : tie.Need-same-length
 same-length c = search needs
@@ -29,7 +24,7 @@ same-length-2 : tie.Need-same-length-2
 same-length-2 c = search needs
 
 returns-2 : tie.Need-returns-2
-returns-2 c = as-promised (rw (c .refused2 .ensures) (sym (refused-with-10 _ _ _ _ (sym (c .before .before .before .before .before .before .is-unsound .ensures) ∙ c .before .before .before .before .before .if1 .left) (sym (c .before .before .lacks-room .ensures) ∙ c .before .if2 .taken))))
+returns-2 c = as-promised (sym (refused-with-10 _ _ _ _ (sym (c .before .before .before .before .before .is-unsound .ensures) ∙ c .before .before .before .before .if1 .left) (sym (c .before .lacks-room .ensures) ∙ c .if2 .taken)))
 
 step-requires : tie.Need-step-requires
 step-requires c κs = record { sound = sym (c .before .before .before .before .before .before .before .is-unsound .ensures) ∙ c .before .before .before .before .before .before .if1 .left; room = sym (c .before .before .before .lacks-room .ensures) ∙ c .before .before .if2 .left }
@@ -48,10 +43,8 @@ handle-spec =
     tie.close
     (tie.spec
     is-unsound-requires
-    refused-requires
     returns
     lacks-room-requires
-    refused-requires-2
     same-length
     same-length-2
     returns-2

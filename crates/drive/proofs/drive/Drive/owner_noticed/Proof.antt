@@ -1,6 +1,7 @@
 -- `owner_noticed` meets its contract.
 -- Assumes nothing.
 use Rattle.drive.specs.Drive.{ownerNoticed}
+use Rattle.drive.specs.State.{pendingOn}
 use Rattle.laws.specs.Pick.{pick}
 use borrow.Author.Needs.{needs}
 use Rattle.drive.proofs.drive.Drive.owner_noticed.Statement.{statement}
@@ -13,8 +14,8 @@ use Rattle.drive.proofs.drive.Drive.owner_noticed.Tie as tie
 is-owned-by-other-requires : tie.Need-is-owned-by-other-requires
 is-owned-by-other-requires c κs = search needs
 
-pending-on-requires : tie.Need-pending-on-requires
-pending-on-requires c κs = search needs
+chosen-requires : tie.Need-chosen-requires
+chosen-requires c κs = search needs
 
 noticed-on-requires : tie.Need-noticed-on-requires
 noticed-on-requires c κs = search needs
@@ -23,11 +24,11 @@ posted-on-requires : tie.Need-posted-on-requires
 posted-on-requires c κs = search needs
 
 returns : tie.Need-returns
-unfolding ownerNoticed pick
+unfolding ownerNoticed pendingOn pick
 returns c = rw (← (c .before .before .before .before .is-owned-by-other .ensures), c .before .before .before .if1 .taken) (cc)
 
 returns-2 : tie.Need-returns-2
-unfolding ownerNoticed pick
+unfolding ownerNoticed pendingOn pick
 returns-2 c = rw (← (c .before .is-owned-by-other .ensures), c .if1 .left)
 
 pub owner-noticed-spec : {M : Type 1} → statement M
@@ -35,7 +36,7 @@ owner-noticed-spec =
     tie.close
     (tie.spec
     is-owned-by-other-requires
-    pending-on-requires
+    chosen-requires
     noticed-on-requires
     posted-on-requires
     returns

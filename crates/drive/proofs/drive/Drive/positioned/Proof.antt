@@ -1,49 +1,38 @@
 -- `positioned` meets its contract.
 -- Assumes nothing.
-use Rattle.parts.specs.Pending.{bit6}
 use Rattle.drive.specs.Request.{positioned}
-use Rattle.laws.specs.Pick.{pick}
+use Rattle.drive.specs.State.{pendingOn}
+use Rattle.laws.proofs.Pick.{pick-false, pick-true}
+use Rattle.parts.specs.Pending.{bit6}
 use borrow.Author.Needs.{needs}
 use borrow.Author.Tests.{eq-eqb, ne-eqb}
 use Rattle.drive.proofs.drive.Drive.positioned.Statement.{statement}
 use Rattle.drive.proofs.drive.Drive.positioned.Tie as tie
 
-pending-on-requires : tie.Need-pending-on-requires
-pending-on-requires c κs = search needs
+-- Assumes nothing.
+
+chosen-requires : tie.Need-chosen-requires
+chosen-requires c κs = search needs
+
+returns : tie.Need-returns
+unfolding positioned pendingOn
+returns c = rw (← (c .before .before .chosen .ensures), ne-eqb _ _ (c .if1 .taken), pick-false)
 
 is-place-requires : tie.Need-is-place-requires
 is-place-requires c κs = search needs
 
-told-status-requires : tie.Need-told-status-requires
-told-status-requires c κs = search needs
-
-returns : tie.Need-returns
-unfolding positioned pick
-returns c = rw (← (c .before .before .before .before .before .before .pending-on .ensures), eq-eqb _ _ (c .before .before .before .before .if1 .taken), ← (c .before .before .is-place .ensures), c .before .if2 .taken) (c .told-status .ensures)
+returns-2 : tie.Need-returns-2
+unfolding positioned pendingOn
+returns-2 c = rw (← (c .before .before .before .before .chosen .ensures), eq-eqb _ _ (c .before .before .if1 .left), pick-true, ← (c .before .is-place .ensures), c .if2 .taken, pick-true)
 
 bad-request-requires : tie.Need-bad-request-requires
 bad-request-requires c κs = bit6
 
-returns-2 : tie.Need-returns-2
-unfolding positioned pick
-returns-2 c = rw (← (c .before .before .before .before .before .before .pending-on .ensures), eq-eqb _ _ (c .before .before .before .before .if1 .taken), ← (c .before .before .is-place .ensures), c .before .if2 .left) (c .bad-request .ensures)
-
-unsolicited-requires : tie.Need-unsolicited-requires
-unsolicited-requires c κs = search needs
-
 returns-3 : tie.Need-returns-3
-unfolding positioned pick
-returns-3 c = rw (← (c .before .before .before .pending-on .ensures), ne-eqb _ _ (c .before .if1 .left)) (c .unsolicited .ensures)
+unfolding positioned pendingOn
+returns-3 c = rw (← (c .before .before .before .before .before .chosen .ensures), eq-eqb _ _ (c .before .before .before .if1 .left), pick-true, ← (c .before .before .is-place .ensures), c .before .if2 .left, pick-false) (c .bad-request .ensures)
 
 pub positioned-spec : {M : Type 1} → statement M
 positioned-spec =
     tie.close
-    (tie.spec
-    pending-on-requires
-    is-place-requires
-    told-status-requires
-    returns
-    bad-request-requires
-    returns-2
-    unsolicited-requires
-    returns-3)
+    (tie.spec chosen-requires returns is-place-requires returns-2 bad-request-requires returns-3)

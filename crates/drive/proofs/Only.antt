@@ -1,0 +1,61 @@
+-- No second outcome satisfies a promise of this crate, and no two different answers have the same paper.
+-- Assumes nothing.
+use Prim.Native.Nat.{ℕ}
+use mathlib.Core.Path.{_≡_, refl, sym, ap, _∙_}
+use mathlib.Core.List.{List, [], _∷_}
+use mathlib.Core.Option.{Option, some, none}
+use Rattle.parts.specs.declared.setup.Setup.{Setup}
+use Rattle.parts.specs.declared.setup.Place.{Place}
+use Rattle.parts.specs.declared.event.Event.{Event}
+use Rattle.drive.specs.Answer.{Paper, paper}
+use Rattle.drive.specs.Event.{Handled}
+use Rattle.drive.specs.Power.{PoweredUp}
+use Rattle.drive.specs.declared.drive.Drive.{Drive}
+use Rattle.drive.specs.declared.power.Powered.{Powered}
+use Rattle.drive.specs.declared.answer.Outcome.{Outcome}
+use Rattle.drive.specs.declared.answer.Answer.{Answer}
+use Rattle.drive.specs.declared.answer.Answer.the-variants.{Refused, Done, Status, Opened, Word, LastWord, Response}
+
+pub power-up-only : {s : Setup} {sectors staging : List ℕ} {r r′ : Powered} → PoweredUp s sectors staging r → PoweredUp s sectors staging r′ → r ≡ r′
+power-up-only h k = h .answer ∙ sym (k .answer)
+
+-- the outcome and both lent slices
+pub handle-only : {d : Drive} {e : Event} {sectors staging : List ℕ} {r r′ : Outcome} {sectors′ staging′ sectors″ staging″ : List ℕ}
+    → Handled d e sectors staging r sectors′ staging′ → Handled d e sectors staging r′ sectors″ staging″
+    → (r ≡ r′) × (sectors′ ≡ sectors″) × (staging′ ≡ staging″)
+handle-only h k =
+    (λ i. record { answer = (h .answer ∙ sym (k .answer)) i; drive = (h .drive ∙ sym (k .drive)) i }, h .sectors ∙ sym (k .sectors), h .staging ∙ sym (k .staging))
+
+-- ---- the paper tells answers apart: each can be read back from its paper
+
+octets-back : List ℕ → Answer
+octets-back [] = Done
+octets-back (a ∷ []) = Done
+octets-back (a ∷ b ∷ []) = Done
+octets-back (a ∷ b ∷ c ∷ rest) = Response a b c
+
+unrefused-back : Option ℕ → Option ℕ → Option Place → Option ℕ → Option (List ℕ) → Answer
+unrefused-back status words place word (some octets) = octets-back octets
+unrefused-back (some s) words place (some w) none = LastWord w
+unrefused-back (some s) words place none none = Status s
+unrefused-back none words place (some w) none = Word w
+unrefused-back none (some n) (some p) none none = Opened n p
+unrefused-back none (some n) none none none = Done
+unrefused-back none none place none none = Done
+
+back : Option ℕ → Paper → Answer
+back (some n) p = Refused n
+back none p = unrefused-back (p .status) (p .wordCount) (p .place) (p .word) (p .response)
+
+read-back : (a : Answer) → back (paper a .refusal) (paper a) ≡ a
+unfolding paper back unrefused-back octets-back
+read-back (Refused n) = refl
+read-back Done = refl
+read-back (Status s) = refl
+read-back (Opened n p) = refl
+read-back (Word w) = refl
+read-back (LastWord w) = refl
+read-back (Response a b c) = refl
+
+pub paper-tells-apart : (a b : Answer) → paper a ≡ paper b → a ≡ b
+paper-tells-apart a b e = sym (read-back a) ∙ ap (λ (p : Paper). back (p .refusal) p) e ∙ read-back b
