@@ -4,5 +4,6 @@ pub mod Own
 pub mod Asked
 pub mod Step
 pub mod Only
+pub mod EveryAnswer
 pub mod Sound
 pub mod Cases

@@ -1,7 +1,7 @@
 -- The first row that holds is the one that is given: both directions, for every table and every number.
 -- Assumes nothing.
 use Prim.Native.Nat.{ℕ, zero, suc}
-use mathlib.Core.Path.{_≡_, refl}
+use mathlib.Core.Path.{_≡_, refl, subst}
 use mathlib.Core.Bool.{Bool, true, false, _&&_}
 use mathlib.Core.List.{List, [], _∷_}
 use mathlib.Core.Logic.{_↔_}
@@ -105,3 +105,15 @@ declined {A} {B} rows refused answer new old′ new′ other e = by-refusal (fir
 pub exactly : {A : Type 0} (report : A → ℕ) (refused : ℕ → A) (new answer : A) (rows : List Row) → ((n : ℕ) → report (refused n) ≡ n) → report new ≡ 0
     → answer ≡ unlessRefused (first rows) (refused (first rows)) new → (n : ℕ) → report answer ≡ suc n ↔ Given (suc n) rows
 exactly report refused new answer rows told z e n = rw (e, reported report refused told (first rows) new z) (first-is-exact n rows)
+
+-- what holds of every row's number holds of the number that is given
+abbrev pub EachNumber : (ℕ → Type 0) → List Row → Type 0
+EachNumber P [] = Unit
+EachNumber P (row ∷ rows) = P (row .number) × EachNumber P rows
+
+pub first-among : (P : ℕ → Type 0) (rows : List Row) → EachNumber P rows → (n : ℕ) → first rows ≡ suc n → P (suc n)
+first-among P rows each n e = go (given-of n rows e) each
+  where
+    go : {n : ℕ} {rows : List Row} → Given n rows → EachNumber P rows → P n
+    go (here p h) each = subst P p (each .0)
+    go (later h g) each = go g (each .1)
