@@ -7,6 +7,8 @@ use mathlib.Core.Path.{_∙_}
 use Rattle.drive.proofs.kinds.on_data_control.Statement.{statement}
 use Rattle.drive.proofs.kinds.on_data_control.Tie as tie
 
+-- Assumes nothing.
+
 none-after-1-requires : tie.Need-none-after-1-requires
 none-after-1-requires c κs = search needs
 
@@ -20,7 +22,7 @@ inside-refusal-requires : tie.Need-inside-refusal-requires
 inside-refusal-requires c κs = search needs
 
 returns : tie.Need-returns
-returns c = own-refused (Use DataControl) _ _ _ _ (c .before .inside-refusal .ensures ∙ (cc)) (c .if1 .taken)
+returns c = own-refused (Use DataControl) _ _ _ _ (c .before .inside-refusal .ensures ∙ rw (c .before .before .before .before .none-after-1 .ensures, c .before .before .before .is-selected .ensures, c .before .before .is-one-open .ensures)) (c .if1 .taken)
 
 cast-data-control : tie.Need-cast-data-control
 cast-data-control c = search needs
@@ -32,7 +34,7 @@ data-control-requires : tie.Need-data-control-requires
 data-control-requires c κs = search needs
 
 returns-2 : tie.Need-returns-2
-returns-2 c = own-accepted (Use DataControl) _ _ _ _ _ (c .before .before .before .before .inside-refusal .ensures ∙ (cc)) (c .before .before .before .if1 .left) (cc)
+returns-2 c = own-accepted (Use DataControl) _ _ _ _ _ (c .before .before .before .before .inside-refusal .ensures ∙ rw (c .before .before .before .before .before .before .before .none-after-1 .ensures, c .before .before .before .before .before .before .is-selected .ensures, c .before .before .before .before .before .is-one-open .ensures)) (c .before .before .before .if1 .left) (c .data-control .ensures)
 
 pub on-data-control-spec : {M : Type 1} → statement M
 on-data-control-spec =

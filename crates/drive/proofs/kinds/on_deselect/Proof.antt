@@ -1,11 +1,15 @@
 -- `on_deselect` meets its contract.
 -- Assumes nothing.
 use Rattle.drive.proofs.Own.{own-accepted, own-refused}
+use Rattle.drive.specs.State.{told}
 use Rattle.parts.specs.Kind.{Deselect}
 use borrow.Author.Needs.{needs}
-use mathlib.Core.Path.{_∙_}
+use mathlib.Core.Path.{_∙_, ap}
+use Rattle.drive.specs.declared.answer.Answer.the-variants.{Done}
 use Rattle.drive.proofs.kinds.on_deselect.Statement.{statement}
 use Rattle.drive.proofs.kinds.on_deselect.Tie as tie
+
+-- Assumes nothing.
 
 none-at-all-requires : tie.Need-none-at-all-requires
 none-at-all-requires c κs = search needs
@@ -20,13 +24,13 @@ inside-refusal-requires : tie.Need-inside-refusal-requires
 inside-refusal-requires c κs = search needs
 
 returns : tie.Need-returns
-returns c = own-refused Deselect _ _ _ _ (c .before .inside-refusal .ensures ∙ (cc)) (c .if1 .taken)
+returns c = own-refused Deselect _ _ _ _ (c .before .inside-refusal .ensures ∙ rw (c .before .before .before .before .none-at-all .ensures, c .before .before .before .is-selected .ensures, c .before .before .is-one-open .ensures)) (c .if1 .taken)
 
 deselect-requires : tie.Need-deselect-requires
 deselect-requires c κs = search needs
 
 returns-2 : tie.Need-returns-2
-returns-2 c = own-accepted Deselect _ _ _ _ _ (c .before .before .inside-refusal .ensures ∙ (cc)) (c .before .if1 .left) (cc)
+returns-2 c = own-accepted Deselect _ _ _ _ _ (c .before .before .inside-refusal .ensures ∙ rw (c .before .before .before .before .before .none-at-all .ensures, c .before .before .before .before .is-selected .ensures, c .before .before .before .is-one-open .ensures)) (c .before .if1 .left) (ap (told Done) (c .deselect .ensures))
 
 pub on-deselect-spec : {M : Type 1} → statement M
 on-deselect-spec =

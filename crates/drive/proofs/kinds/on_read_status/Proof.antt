@@ -7,6 +7,8 @@ use mathlib.Core.Path.{_∙_}
 use Rattle.drive.proofs.kinds.on_read_status.Statement.{statement}
 use Rattle.drive.proofs.kinds.on_read_status.Tie as tie
 
+-- Assumes nothing.
+
 none-at-all-requires : tie.Need-none-at-all-requires
 none-at-all-requires c κs = search needs
 
@@ -20,7 +22,7 @@ inside-refusal-requires : tie.Need-inside-refusal-requires
 inside-refusal-requires c κs = search needs
 
 returns : tie.Need-returns
-returns c = own-refused (Use ReadStatus) _ _ _ _ (c .before .inside-refusal .ensures ∙ (cc)) (c .if1 .taken)
+returns c = own-refused (Use ReadStatus) _ _ _ _ (c .before .inside-refusal .ensures ∙ rw (c .before .before .before .before .none-at-all .ensures, c .before .before .before .is-selected .ensures, c .before .before .is-one-open .ensures)) (c .if1 .taken)
 
 cast-status-read : tie.Need-cast-status-read
 cast-status-read c = search needs
@@ -29,7 +31,7 @@ status-read-requires : tie.Need-status-read-requires
 status-read-requires c κs = search needs
 
 returns-2 : tie.Need-returns-2
-returns-2 c = own-accepted (Use ReadStatus) _ _ _ _ _ (c .before .before .before .inside-refusal .ensures ∙ (cc)) (c .before .before .if1 .left) (cc)
+returns-2 c = own-accepted (Use ReadStatus) _ _ _ _ _ (c .before .before .before .inside-refusal .ensures ∙ rw (c .before .before .before .before .before .before .none-at-all .ensures, c .before .before .before .before .before .is-selected .ensures, c .before .before .before .before .is-one-open .ensures)) (c .before .before .if1 .left) (c .status-read .ensures)
 
 pub on-read-status-spec : {M : Type 1} → statement M
 on-read-status-spec =

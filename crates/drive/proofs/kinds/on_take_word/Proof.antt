@@ -8,6 +8,8 @@ use mathlib.Core.Path.{_∙_, sym}
 use Rattle.drive.proofs.kinds.on_take_word.Statement.{statement}
 use Rattle.drive.proofs.kinds.on_take_word.Tie as tie
 
+-- Assumes nothing.
+
 none-at-all-requires : tie.Need-none-at-all-requires
 none-at-all-requires c κs = search needs
 
@@ -21,14 +23,14 @@ inside-refusal-requires : tie.Need-inside-refusal-requires
 inside-refusal-requires c κs = search needs
 
 returns : tie.Need-returns
-returns c = own-refused (Use TakeWord) _ _ _ _ (c .before .inside-refusal .ensures ∙ (cc)) (c .if1 .taken)
+returns c = own-refused (Use TakeWord) _ _ _ _ (c .before .inside-refusal .ensures ∙ rw (c .before .before .before .before .none-at-all .ensures, c .before .before .before .is-selected .ensures, c .before .before .is-read-open .ensures)) (c .if1 .taken)
 
 word-taken-requires : tie.Need-word-taken-requires
 word-taken-requires c κs = let late = timely _ _ _ (sym (c .before .inside-refusal .ensures) ∙ c .if1 .left) in
     able-to-read (c .before .before .before .before .before .before .before .before .before .pre) (sym (c .before .before .is-read-open .ensures) ∙ not-false _ late)
 
 returns-2 : tie.Need-returns-2
-returns-2 c = own-accepted (Use TakeWord) _ _ _ _ _ (c .before .before .inside-refusal .ensures ∙ (cc)) (c .before .if1 .left) (cc)
+returns-2 c = own-accepted (Use TakeWord) _ _ _ _ _ (c .before .before .inside-refusal .ensures ∙ rw (c .before .before .before .before .before .none-at-all .ensures, c .before .before .before .before .is-selected .ensures, c .before .before .before .is-read-open .ensures)) (c .before .if1 .left) (c .word-taken .ensures)
 
 pub on-take-word-spec : {M : Type 1} → statement M
 on-take-word-spec =

@@ -1,11 +1,14 @@
 -- `on_target` meets its contract.
 -- Assumes nothing.
 use Rattle.drive.proofs.Own.{own-accepted, own-refused}
+use Rattle.drive.specs.Request.{targeted}
 use Rattle.parts.specs.Kind.{Target, Use}
 use borrow.Author.Needs.{needs}
 use mathlib.Core.Path.{_∙_}
 use Rattle.drive.proofs.kinds.on_target.Statement.{statement}
 use Rattle.drive.proofs.kinds.on_target.Tie as tie
+
+-- Assumes nothing.
 
 none-after-2-requires : tie.Need-none-after-2-requires
 none-after-2-requires c κs = search needs
@@ -20,7 +23,7 @@ inside-refusal-requires : tie.Need-inside-refusal-requires
 inside-refusal-requires c κs = search needs
 
 returns : tie.Need-returns
-returns c = own-refused (Use Target) _ _ _ _ (c .before .inside-refusal .ensures ∙ (cc)) (c .if1 .taken)
+returns c = own-refused (Use Target) _ _ _ _ (c .before .inside-refusal .ensures ∙ rw (c .before .before .before .before .none-after-2 .ensures, c .before .before .before .is-selected .ensures, c .before .before .is-one-open .ensures)) (c .if1 .taken)
 
 cast-targeted : tie.Need-cast-targeted
 cast-targeted c = search needs
@@ -32,7 +35,7 @@ targeted-requires : tie.Need-targeted-requires
 targeted-requires c κs = search needs
 
 returns-2 : tie.Need-returns-2
-returns-2 c = own-accepted (Use Target) _ _ _ _ _ (c .before .before .before .before .inside-refusal .ensures ∙ (cc)) (c .before .before .before .if1 .left) (cc)
+returns-2 c = own-accepted (Use Target) _ _ _ _ _ (c .before .before .before .before .inside-refusal .ensures ∙ rw (c .before .before .before .before .before .before .before .none-after-2 .ensures, c .before .before .before .before .before .before .is-selected .ensures, c .before .before .before .before .before .is-one-open .ensures)) (c .before .before .before .if1 .left) (c .targeted .ensures ∙ rw (c .before .word-of .ensures))
 
 pub on-target-spec : {M : Type 1} → statement M
 on-target-spec =

@@ -8,6 +8,8 @@ use mathlib.Core.Path.{_∙_, sym}
 use Rattle.drive.proofs.kinds.on_word_from_host.Statement.{statement}
 use Rattle.drive.proofs.kinds.on_word_from_host.Tie as tie
 
+-- Assumes nothing.
+
 none-after-2-requires : tie.Need-none-after-2-requires
 none-after-2-requires c κs = search needs
 
@@ -21,7 +23,7 @@ inside-refusal-requires : tie.Need-inside-refusal-requires
 inside-refusal-requires c κs = search needs
 
 returns : tie.Need-returns
-returns c = own-refused-in (Use WordFromHost) _ _ _ _ _ _ (c .before .inside-refusal .ensures ∙ (cc)) (c .if1 .taken)
+returns c = own-refused-in (Use WordFromHost) _ _ _ _ _ _ (c .before .inside-refusal .ensures ∙ rw (c .before .before .before .before .none-after-2 .ensures, c .before .before .before .is-selected .ensures, c .before .before .is-write-open .ensures)) (c .if1 .taken)
 
 word-of-requires : tie.Need-word-of-requires
 word-of-requires c κs = search needs
@@ -37,7 +39,7 @@ same-length-2 : tie.Need-same-length-2
 same-length-2 c = search needs
 
 returns-2 : tie.Need-returns-2
-returns-2 c = own-accepted-in (Use WordFromHost) _ _ _ _ _ _ _ (c .before .before .before .before .before .before .before .before .before .inside-refusal .ensures ∙ (cc)) (c .before .before .before .before .before .before .before .before .if1 .left) (c .before .before .before .before .word-staged .ensures ∙ rw (c .before .before .before .before .before .before .before .word-of .ensures))
+returns-2 c = own-accepted-in (Use WordFromHost) _ _ _ _ _ _ _ (c .before .before .before .before .before .before .before .before .before .inside-refusal .ensures ∙ rw (c .before .before .before .before .before .before .before .before .before .before .before .before .none-after-2 .ensures, c .before .before .before .before .before .before .before .before .before .before .before .is-selected .ensures, c .before .before .before .before .before .before .before .before .before .before .is-write-open .ensures)) (c .before .before .before .before .before .before .before .before .if1 .left) (c .before .before .before .before .word-staged .ensures ∙ rw (c .before .before .before .before .before .before .before .word-of .ensures))
 
 pub on-word-from-host-spec : {M : Type 1} → statement M
 on-word-from-host-spec =
