@@ -7,3 +7,15 @@ pub mod Only
 pub mod EveryAnswer
 pub mod Sound
 pub mod Cases
+pub mod Outcomes
+pub mod Laws
+pub mod SoundPlace
+pub mod SoundHolding
+pub mod Frame
+pub mod StaysSound
+pub mod StruckOut
+pub mod Sessions
+pub mod Journal
+pub mod Demand3
+pub mod Calls
+pub mod Demand3Examples

@@ -11,3 +11,11 @@ pub mod Cases
 pub mod Able
 pub mod EveryAnswer
 pub mod Exactly
+pub mod Accepted
+pub mod StaysSound
+pub mod Frame
+pub mod Sessions
+pub mod Journal
+pub mod Demand3
+pub mod Calls
+pub mod Demand3Examples

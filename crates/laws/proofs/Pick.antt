@@ -61,3 +61,22 @@ pick-true a b = refl
 pub pick-false : {A : Type 0} (a b : A) → pick false a b ≡ b
 unfolding pick
 pick-false a b = refl
+
+-- a choice has what each side has when the test chose it
+pub cases : {A : Type 0} (P : A → Type 0) (test : Bool) {x y : A} → (test ≡ true → P x) → (test ≡ false → P y) → P (pick test x y)
+unfolding pick
+cases P true yes′ no′ = yes′ refl
+cases P false yes′ no′ = no′ refl
+
+-- two choices whose tests never hold together can change places
+pub picks-apart : {A : Type 0} (a b : Bool) (x y z : A) → (a ≡ true → b ≡ true → ⊥) → pick a x (pick b y z) ≡ pick b y (pick a x z)
+unfolding pick
+picks-apart true true x y z apart = absurd (apart refl refl)
+picks-apart true false x y z apart = refl
+picks-apart false b x y z apart = refl
+
+-- two choices by one test that say the same where they are made
+pub pick-alike : {A : Type 0} (test : Bool) {x x′ y y′ : A} → (test ≡ true → x ≡ x′) → y ≡ y′ → pick test x y ≡ pick test x′ y′
+unfolding pick
+pick-alike true p q = p refl
+pick-alike false p q = q

@@ -1,13 +1,13 @@
 -- The first row that holds is the one that is given: both directions, for every table and every number.
 -- Assumes nothing.
-use Prim.Native.Nat.{ℕ, zero, suc}
+use Prim.Native.Nat.{ℕ, zero, suc, _≤_}
 use mathlib.Core.Path.{_≡_, refl, subst}
 use mathlib.Core.Bool.{Bool, true, false, _&&_}
 use mathlib.Core.List.{List, [], _∷_}
 use mathlib.Core.Logic.{_↔_}
 use native.Mathlib.Omega.{arith}
-use borrow.Author.Tests.{ltb-true}
-use lib.Dec.{ltb}
+use borrow.Author.Tests.{ltb-true, leb-true}
+use lib.Dec.{ltb, leb}
 use Rattle.laws.specs.Pick.{pick}
 use Rattle.laws.proofs.Tests.{and-l, and-r}
 use Rattle.laws.specs.Rows.{Row, first, Given, here, later, unlessRefused}
@@ -117,3 +117,19 @@ first-among P rows each n e = go (given-of n rows e) each
     go : {n : ℕ} {rows : List Row} → Given n rows → EachNumber P rows → P n
     go (here p h) each = subst P p (each .0)
     go (later h g) each = go g (each .1)
+
+-- no number over the largest of the table's is given
+abbrev pub numberedUpTo : ℕ → List Row → Bool
+numberedUpTo bound [] = true
+numberedUpTo bound (row ∷ rows) = leb (row .number) bound && numberedUpTo bound rows
+
+pub first-up-to : (bound : ℕ) (rows : List Row) → numberedUpTo bound rows ≡ true → first rows ≤ bound
+unfolding pick
+first-up-to bound [] n = omega arith
+first-up-to bound (row ∷ rows) n =
+    by-test (row .holds) (leb-true (row .number) bound (and-l (leb (row .number) bound) (numberedUpTo bound rows) n))
+    (first-up-to bound rows (and-r (leb (row .number) bound) (numberedUpTo bound rows) n))
+  where
+    by-test : (test : Bool) → row .number ≤ bound → first rows ≤ bound → pick test (row .number) (first rows) ≤ bound
+    by-test true h below = h
+    by-test false h below = below

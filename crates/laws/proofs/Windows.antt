@@ -2,11 +2,15 @@
 -- Assumes nothing.
 use Prim.Native.Nat.{ℕ, suc, _+_, _-_, _<_, _≤_}
 use mathlib.Core.Path.{_≡_, refl, sym, ap, _∙_}
+use mathlib.Core.Bool.{Bool, true, false, _&&_}
 use mathlib.Core.List.{List, _∷_, _++_}
 use native.Mathlib.Numerals.{add-one}
 use native.Mathlib.Omega.{arith}
+use borrow.Author.Tests.{ltb-true, ltb-false, leb-true, leb-false}
+use lib.Dec.{ltb, leb}
 use lib.ListN.{length, getD, take, drop, set, length-drop, List·getD-append}
 use lib.Seq.{drop-cons, paste, paste-suc, getD-drop, getD-take, getD-append-add, length-take-le, length-paste-head}
+use Rattle.laws.specs.Pick.{pick}
 
 -- the first of a run, and the rest of it
 pub cut : (l : List ℕ) (p m r : ℕ) → p < length l → m ≡ suc r → take m (drop p l) ≡ getD l p 0 ∷ take r (drop (p + 1) l)
@@ -45,3 +49,22 @@ paste-after d at s n i hd hs =
     ap (λ (k : ℕ). getD (paste d at s n) (k + i) 0) (sym e)
     ∙ getD-append-add (take at d ++ take n s) (drop (at + n) d) i 0
     ∙ getD-drop (at + n) d i 0
+
+-- the same by the range that an index lies in
+pub paste-at : (d : List ℕ) (at : ℕ) (s : List ℕ) (n i : ℕ) → at ≤ length d → n ≤ length s
+    → getD (paste d at s n) i 0 ≡ pick (leb at i && ltb i (at + n)) (getD s (i - at) 0) (getD d i 0)
+unfolding pick
+paste-at d at s n i hd hs = by-range (leb at i) refl (ltb i (at + n)) refl
+  where
+    by-range : (low : Bool) → leb at i ≡ low → (high : Bool) → ltb i (at + n) ≡ high
+        → getD (paste d at s n) i 0 ≡ pick (low && high) (getD s (i - at) 0) (getD d i 0)
+    by-range false p high q = let h = leb-false at i p in paste-before d at s n i hd hs (omega arith)
+    by-range true p true q =
+        let l = leb-true at i p in
+        let h = ltb-true i (at + n) q in
+        let e : i ≡ at + (i - at) = omega arith in
+        ap (λ (k : ℕ). getD (paste d at s n) k 0) e ∙ paste-in d at s n (i - at) hd hs (omega arith)
+    by-range true p false q =
+        let h = ltb-false i (at + n) q in
+        let e : i ≡ at + n + (i - (at + n)) = omega arith in
+        ap (λ (k : ℕ). getD (paste d at s n) k 0) e ∙ paste-after d at s n (i - (at + n)) hd hs ∙ ap (λ (k : ℕ). getD d k 0) (sym e)

@@ -1,0 +1,109 @@
+-- What an accepted event of kinds 3 to 9 can have done: its outcomes one by one, each with the tests that led to it.
+-- Assumes nothing.
+use Prim.Native.Nat.{ℕ, _+_}
+use mathlib.Core.Path.{_≡_, refl}
+use mathlib.Core.Bool.{true, false, _||_}
+use mathlib.Core.List.{List}
+use lib.Dec.{eqb}
+use lib.ListN.{set, getD}
+use Rattle.laws.proofs.Pick.{either, cases}
+use Rattle.parts.specs.Setup.{sectorStart, sectorAt, isPlace, isTarget, noTarget}
+use Rattle.parts.specs.Control.{controlOf, isWrite, isRead, wordsToCome, wordsRead}
+use Rattle.parts.specs.Pending.{OneBit, bit7, bit6, bit5, bit4, nothingPending, faulted, octet0}
+use Rattle.drive.specs.Answer.{normal, headerMiscompare, operationException, unsolicitedException}
+use Rattle.drive.specs.State.{withPlace, withTarget, withTransfer, pendingOn, postedOn, told, Result, result}
+use Rattle.parts.specs.Tests.{transferring}
+use Rattle.drive.specs.Drive.{headStepped, atItsTarget, ended}
+use Rattle.drive.specs.Request.{unlessUnsolicited, badRequest, controlled, dataControl, opened, opening, positioned, targeted, statusRead}
+use Rattle.drive.specs.Transfer.{committed, staged, wordStaged, wordTaken}
+use Rattle.parts.specs.Kind.{Use, Work, DataControl, WordFromHost, TakeWord, End, Position, Target, ReadStatus, wordOf, placeOf}
+use Rattle.drive.specs.Event.{act}
+use Rattle.parts.specs.declared.control.Control.{Control}
+use Rattle.parts.specs.declared.control.Control.the-variants.{Write, Read, StepHead, Reserved, Unsupported, Invalid}
+use Rattle.drive.specs.declared.drive.Drive.{Drive}
+use Rattle.parts.specs.declared.event.Event.{Event}
+use Rattle.drive.specs.declared.answer.Outcome.{Outcome}
+use Rattle.drive.specs.declared.answer.Answer.the-variants.{Done, Status, Opened, Word, LastWord, Response}
+
+-- kinds 3, 7 and 8, which an unsolicited exception stops and which can be bad requests
+pub data Request : Work → Type 0 where
+  control : Request DataControl
+  position : Request Position
+  target : Request Target
+
+-- the drive as a transfer opens on it: where it was, or at its target
+pub data Sought (d : Drive) : Drive → Type 0 where
+  inPlace : Sought d d
+  atTarget : eqb (d .target) noTarget ≡ false → Sought d (atItsTarget d)
+
+-- the next word of an open read
+abbrev wordAt : Drive → List ℕ → ℕ
+wordAt d sectors = getD (wordsRead (d .setup) (d .transfer .control) (sectorAt (d .setup) (d .place) sectors)) (d .transfer .moved) 0
+
+-- what leaves the lent words as they were
+pub data Quiet (d : Drive) (e : Event) (sectors : List ℕ) : Work → Outcome → Type 0 where
+  unsolicited : {work : Work} → Request work → Quiet d e sectors work (told (Status unsolicitedException) d)
+  bad : {work : Work} {bit : ℕ} → Request work → OneBit bit
+      → Quiet d e sectors work (told (Status operationException) (postedOn d (e .port) (faulted (pendingOn d (e .port)) bit)))
+  stepped : Quiet d e sectors DataControl (told (Status normal) (headStepped d))
+  nothingToCome : {at : Drive} → Sought d at → Quiet d e sectors DataControl (told (Status normal) (ended at))
+  opens : {at : Drive} → Sought d at → (isWrite (controlOf (e .a0)) || isRead (controlOf (e .a0))) ≡ true → eqb (wordsToCome (at .setup) (e .a0)) 0 ≡ false
+      → Quiet d e sectors DataControl (told (Opened (wordsToCome (at .setup) (e .a0)) (at .place)) (withTransfer at (transferring (e .a0) 0)))
+  takenLast : Quiet d e sectors TakeWord (told (LastWord (wordAt d sectors)) (ended d))
+  taken : eqb (d .transfer .moved + 1) (wordsToCome (d .setup) (d .transfer .control)) ≡ false
+      → Quiet d e sectors TakeWord (told (Word (wordAt d sectors)) (withTransfer d (transferring (d .transfer .control) (d .transfer .moved + 1))))
+  ends : Quiet d e sectors End (told (Status normal) (ended d))
+  placed : isPlace (d .setup) (placeOf e) ≡ true → Quiet d e sectors Position (told (Status normal) (withPlace d (placeOf e)))
+  aimed : isTarget (d .setup) (wordOf e) ≡ true → Quiet d e sectors Target (told (Status normal) (withTarget d (wordOf e)))
+  statusTold : {octet0 octet1 octet2 : ℕ} → Quiet d e sectors ReadStatus (told (Response octet0 octet1 octet2) (postedOn d (e .port) nothingPending))
+
+-- the same, or a word from the host: it is staged, and it can be one that differs, the last, or one before that
+pub data WorkDone (d : Drive) (e : Event) (sectors staging : List ℕ) : Work → Result → Type 0 where
+  quiet : {work : Work} {o : Outcome} → Quiet d e sectors work o → WorkDone d e sectors staging work (result o sectors staging)
+  miscompared : WorkDone d e sectors staging WordFromHost
+      (result (told (Status headerMiscompare) (ended d)) sectors (set staging (d .transfer .moved) (wordOf e)))
+  completed : eqb (d .transfer .moved + 1) (wordsToCome (d .setup) (d .transfer .control)) ≡ true → WorkDone d e sectors staging WordFromHost
+      (result (told (Status normal) (ended d))
+      (committed (d .setup) (d .transfer .control) (sectorStart (d .setup) (d .place)) sectors (set staging (d .transfer .moved) (wordOf e)))
+      (set staging (d .transfer .moved) (wordOf e)))
+  more : eqb (d .transfer .moved + 1) (wordsToCome (d .setup) (d .transfer .control)) ≡ false → WorkDone d e sectors staging WordFromHost
+      (result (told Done (withTransfer d (transferring (d .transfer .control) (d .transfer .moved + 1)))) sectors (set staging (d .transfer .moved) (wordOf e)))
+
+module _ (d : Drive) (e : Event) (sectors staging : List ℕ) where
+  transfer-opened : {at : Drive} → Sought d at → (isWrite (controlOf (e .a0)) || isRead (controlOf (e .a0))) ≡ true
+      → Quiet d e sectors DataControl (opened at (e .a0))
+  unfolding opened
+  transfer-opened {at} q o =
+      cases (Quiet d e sectors DataControl) (eqb (wordsToCome (at .setup) (e .a0)) 0) (λ z. nothingToCome q) (λ z. opens q o z)
+
+  transfer-sought : (isWrite (controlOf (e .a0)) || isRead (controlOf (e .a0))) ≡ true → Quiet d e sectors DataControl (opening d (e .port) (e .a0))
+  unfolding opening badRequest
+  transfer-sought o =
+      either (Quiet d e sectors DataControl) _
+      (cases (Quiet d e sectors DataControl) _ (λ z. bad control bit4) (λ z. transfer-opened (atTarget z) o))
+      (transfer-opened inPlace o)
+
+  control-done : (k : Control) → controlOf (e .a0) ≡ k → Quiet d e sectors DataControl (controlled k d (e .port) (e .a0))
+  unfolding badRequest
+  control-done Write q = transfer-sought (rw q)
+  control-done Read q = transfer-sought (rw q)
+  control-done StepHead q = stepped
+  control-done Reserved q = bad control bit7
+  control-done Unsupported q = bad control bit5
+  control-done Invalid q = bad control bit7
+
+  unless-stopped : {work : Work} {o : Outcome} → Request work → Quiet d e sectors work o
+      → Quiet d e sectors work (unlessUnsolicited d (e .port) o)
+  unless-stopped {work} q p = either (Quiet d e sectors work) _ p (unsolicited q)
+
+  pub work-done : (work : Work) → WorkDone d e sectors staging work (act (Use work) d e sectors staging)
+  unfolding dataControl positioned targeted statusRead badRequest wordStaged staged wordTaken
+  work-done DataControl = quiet (unless-stopped control (control-done (controlOf (e .a0)) refl))
+  work-done WordFromHost =
+      either (WorkDone d e sectors staging WordFromHost) _ miscompared
+      (cases (WorkDone d e sectors staging WordFromHost) _ completed more)
+  work-done TakeWord = quiet (cases (Quiet d e sectors TakeWord) _ (λ z. takenLast) taken)
+  work-done End = quiet ends
+  work-done Position = quiet (unless-stopped position (cases (Quiet d e sectors Position) _ placed (λ z. bad position bit6)))
+  work-done Target = quiet (unless-stopped target (cases (Quiet d e sectors Target) _ aimed (λ z. bad target bit6)))
+  work-done ReadStatus = quiet statusTold
