@@ -1,9 +1,8 @@
 -- What a data control asks for, and that carrying it out is the rule.
 -- Assumes nothing.
 use Prim.Native.Nat.{ℕ}
-use mathlib.Core.Path.{_≡_, refl, sym, ap, subst}
+use mathlib.Core.Path.{_≡_, refl, subst}
 use lib.Dec.{eqb}
-use Rattle.laws.specs.Pick.{pick}
 use Rattle.laws.proofs.Pick.{pick-map, either}
 use Rattle.parts.specs.Setup.{noTarget}
 use Rattle.parts.specs.Control.{controlOf, isAtTarget}

@@ -1,13 +1,12 @@
 -- The set-up's numbers are small, so no product of them wraps, and a sector of the drive lies within the words of all sectors.
 -- Assumes nothing.
 use Prim.Native.Nat.{ℕ, _+_, _*_, _≤_, _<_}
-use mathlib.Core.Path.{_≡_, refl}
+use mathlib.Core.Path.{_≡_}
 use mathlib.Core.Bool.{true}
 use native.Mathlib.Nat.{mul-le-mul, mul-le-mul-right, suc-mul}
 use native.Mathlib.Numerals.{add-one}
 use native.Mathlib.Omega.{arith}
 use borrow.Author.Tests.{leb-true, ltb-true}
-use lib.Dec.{leb, ltb}
 use Rattle.laws.proofs.Tests.{and-l, and-r}
 use Rattle.laws.proofs.Pick.{pick-le}
 use Rattle.parts.specs.Control.{headerPasses, namesField1, namesField2, wordsToCome}

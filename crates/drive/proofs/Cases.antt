@@ -15,7 +15,7 @@ use Rattle.parts.specs.Tests.{isOutsideLimits, isDisowned, isBrokenTransfer, ha
 use Rattle.drive.specs.Transfer.{sameWords, miscompares, committed, staged, wordStaged, wordTaken}
 use Rattle.drive.specs.Event.{handled}
 use Rattle.drive.specs.Run.{answerTo, after, answers, final}
-use Rattle.drive.specs.Cases.{Case, Holds, CasesHold, p1-p2-p3, p4-p5-p6, p7, p8, p9, p10, p11, p12}
+use Rattle.drive.specs.Cases.{CasesHold}
 
 pub cases-hold : CasesHold
 unfolding pick withinLimits allWords sectorNumber sectorStart isPlace isTarget following controlOf headerPasses wordsToCome wordsRead holdSet isBusy grantedTo released withBit noticed faulted octet0 pendingOn postedOn ownerNoticed selected deselected afterReset headStepped atItsTarget ended badRequest opened opening dataControl positioned targeted statusRead kindOf isOutsideLimits isDisowned isBrokenTransfer hasStrayBit row11 row10 refusalOf sameWords miscompares committed staged wordStaged wordTaken handled answerTo after answers final

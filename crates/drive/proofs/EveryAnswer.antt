@@ -1,30 +1,27 @@
 -- Every answer is listed, and each refusal is given exactly when its row says so.
 -- Assumes nothing.
 use Prim.Native.Nat.{ℕ, zero, suc}
-use mathlib.Core.Path.{_≡_, refl, sym, ap, _∙_}
-use mathlib.Core.Bool.{Bool, true, false, true≢false}
-use mathlib.Core.List.{List, [], _∷_}
-use native.Mathlib.Omega.{arith}
+use mathlib.Core.Path.{_≡_, refl}
+use mathlib.Core.Bool.{true, true≢false}
+use mathlib.Core.List.{List}
 use lib.Dec.{eqb}
-use Rattle.laws.specs.Pick.{pick}
 use Rattle.laws.specs.Lists.{oneOf}
 use mathlib.Core.Logic.{_↔_}
 use Rattle.laws.specs.Rows.{first, Given, unlessRefused}
 use Rattle.laws.proofs.Pick.{either}
 use Rattle.laws.proofs.Rows.{first-among, EachNumber, exactly, row-off, rows-rest}
-use Rattle.parts.specs.Setup.{noTarget, isPlace, isTarget}
+use Rattle.parts.specs.Setup.{noTarget}
 use Rattle.parts.specs.Control.{controlOf, isAtTarget, wordsToCome}
 use Rattle.parts.specs.Kind.{Kind, Select, Deselect, Use, Reset, Unknown, Work, DataControl, WordFromHost, TakeWord, End, Position, Target, ReadStatus, kindOf}
 use Rattle.parts.specs.declared.control.Control.{Control}
 use Rattle.parts.specs.declared.control.Control.the-variants as control
-use Rattle.parts.specs.declared.setup.Place.{Place}
 use Rattle.parts.specs.declared.event.Event.{Event}
 use Rattle.drive.specs.Answer.{refusalIn}
 use Rattle.drive.specs.State.{Result}
 use Rattle.drive.specs.Refusal.{rows, rowsOf, row8, row1, row10, row11, refusalOf}
 use Rattle.drive.specs.Request.{badRequest, opened, opening, controlled, dataControl, positioned, targeted, statusRead}
-use Rattle.drive.specs.Transfer.{wordStaged, staged, wordTaken, miscompares}
-use Rattle.drive.specs.Event.{act, refusedWith, handled, Handled}
+use Rattle.drive.specs.Transfer.{wordStaged, staged, wordTaken}
+use Rattle.drive.specs.Event.{act, refusedWith, handled}
 use Rattle.drive.specs.Power.{atRest, powerUpRows}
 use Rattle.drive.specs.Power as power
 use Rattle.drive.specs.EveryAnswer as every

@@ -1,11 +1,11 @@
 -- A state that row 11 lets pass, part by part, and the room that row 10 leaves.
 -- Assumes nothing.
-use Prim.Native.Nat.{ℕ, _+_, _≤_, _<_}
-use mathlib.Core.Path.{_≡_, refl}
-use mathlib.Core.Bool.{Bool, true, false, not, _||_, _&&_}
+use Prim.Native.Nat.{ℕ}
+use mathlib.Core.Path.{_≡_}
+use mathlib.Core.Bool.{true, false}
 use mathlib.Core.List.{List}
 use native.Mathlib.Omega.{arith}
-use borrow.Author.Tests.{not-false, ltb-false, leb-false}
+use borrow.Author.Tests.{not-false, ltb-false}
 use lib.Dec.{ltb}
 use lib.ListN.{length}
 use Rattle.laws.proofs.Tests.{or-l, or-r}
@@ -13,8 +13,7 @@ use Rattle.parts.specs.Setup.{withinLimits, sectorWords, allWords, sectorStart,
 use Rattle.parts.specs.Holding.{nobody}
 use Rattle.drive.specs.Refusal.{row11, row10}
 use Rattle.parts.specs.Tests.{isOutsideLimits, isDisowned, isBrokenTransfer, hasStrayBit}
-use Rattle.drive.specs.Able.{Room, Able}
-use Rattle.parts.specs.declared.setup.Setup.{Setup}
+use Rattle.drive.specs.Able.{Room}
 use Rattle.drive.specs.declared.drive.Drive.{Drive}
 use Rattle.drive.proofs.Bounds.{inside, sector-in-room}
 

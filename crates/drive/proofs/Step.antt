@@ -1,7 +1,7 @@
 -- From a kind's own outcome to the whole rule, on a state that rows 11 and 10 let pass.
 -- Assumes nothing.
 use Prim.Native.Nat.{ℕ, zero, suc}
-use mathlib.Core.Path.{_≡_, refl, sym, ap, _∙_}
+use mathlib.Core.Path.{_≡_, refl, ap}
 use mathlib.Core.Bool.{true, false}
 use mathlib.Core.List.{List}
 use Rattle.laws.specs.Pick.{pick}

@@ -1,27 +1,27 @@
 -- What the private functions under `Drive::handle` ask of it: a state that rows 11 and 10 let pass. No public call asks anything.
 use Prim.Native.Nat.{ℕ, _+_, _≤_, _<_}
 use mathlib.Core.Path.{_≡_}
-use mathlib.Core.Bool.{false, true}
+use mathlib.Core.Bool.{false}
 use mathlib.Core.List.{List}
 use lib.ListN.{length, getD}
-use Rattle.parts.specs.Setup.{withinLimits, sectorWords, isPlace, noTarget}
 use lib.Dec.{eqb}
 use Rattle.laws.specs.Pick.{pick}
+use Rattle.laws.specs.Rows.{first, unlessRefused}
+use Rattle.parts.specs.Setup.{sectorWords, noTarget}
 use Rattle.parts.specs.Control.{controlOf, isAtTarget, wordsToCome, wordsRead}
 use Rattle.parts.specs.Pending.{invalidBusControl, unsupportedBusControl, busControlContext}
 use Rattle.parts.specs.declared.control.Control.{Control}
 use Rattle.parts.specs.declared.control.Control.the-variants as control
+use Rattle.parts.specs.Kind.{Kind}
+use Rattle.parts.specs.declared.event.Event.{Event}
+use Rattle.parts.specs.declared.setup.Setup.{Setup}
 use Rattle.drive.specs.declared.request.Asked.{Asked}
 use Rattle.drive.specs.declared.request.Asked.the-variants.{Open, OpenAtTarget, StepHead, Nothing}
-use Rattle.laws.specs.Rows.{first, unlessRefused}
-use Rattle.parts.specs.Kind.{Kind}
 use Rattle.drive.specs.State.{told, Result}
 use Rattle.drive.specs.Refusal.{row11, row10, ownRows}
 use Rattle.drive.specs.Event.{refusedWith}
-use Rattle.parts.specs.declared.event.Event.{Event}
 use Rattle.drive.specs.declared.answer.Outcome.{Outcome}
 use Rattle.drive.specs.declared.answer.Answer.the-variants.{Refused}
-use Rattle.parts.specs.declared.setup.Setup.{Setup}
 use Rattle.drive.specs.declared.drive.Drive.{Drive}
 
 -- Rows 11 and 10 let the state pass.

@@ -9,7 +9,7 @@ use Rattle.drive.specs.Run.{Machine, machine, answers, final}
 use Rattle.parts.specs.declared.setup.Setup.{Setup}
 use Rattle.parts.specs.declared.event.Event.{Event}
 use Rattle.drive.specs.declared.answer.Answer.{Answer}
-use Rattle.drive.specs.declared.answer.Answer.the-variants.{Refused, Done, Status, Opened, Word, LastWord, Response}
+use Rattle.drive.specs.declared.answer.Answer.the-variants.{Refused, Done, Status, Opened, Response}
 
 -- "Address 3; 2 cylinders, 2 heads, 3 sectors; header 1, field 1 of 2, field 2 of 1: 48 words."
 abbrev pub bench : Setup

@@ -5,7 +5,7 @@ use mathlib.Core.List.{List}
 use Rattle.laws.specs.Rows.{unlessRefused}
 use Rattle.drive.specs.Answer.{normal}
 use Rattle.drive.specs.State.{told, Result, result}
-use Rattle.parts.specs.Kind.{Kind, Select, Deselect, Use, Reset, Unknown, Work, DataControl, WordFromHost, TakeWord, End, Position, Target, ReadStatus, kindOf, wordOf, placeOf}
+use Rattle.parts.specs.Kind.{Kind, Select, Deselect, Use, Reset, Unknown, DataControl, WordFromHost, TakeWord, End, Position, Target, ReadStatus, kindOf, wordOf, placeOf}
 use Rattle.drive.specs.Refusal.{refusalOf}
 use Rattle.drive.specs.Drive.{selected, deselected, afterReset, ended}
 use Rattle.drive.specs.Request.{dataControl, positioned, targeted, statusRead}

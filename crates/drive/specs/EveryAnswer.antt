@@ -4,7 +4,7 @@ use mathlib.Core.Path.{_≡_}
 use mathlib.Core.Bool.{true}
 use mathlib.Core.List.{List, [], _∷_}
 use Rattle.laws.specs.Lists.{oneOf}
-use Rattle.parts.specs.Kind.{Kind, Select, Deselect, Use, Reset, Work, DataControl, WordFromHost, TakeWord, End, Position, Target, ReadStatus, kindOf}
+use Rattle.parts.specs.Kind.{Kind, Select, Deselect, Use, Reset, DataControl, WordFromHost, TakeWord, End, Position, Target, ReadStatus, kindOf}
 use Rattle.parts.specs.declared.setup.Place.{Place}
 use Rattle.parts.specs.declared.event.Event.{Event}
 use Rattle.drive.specs.Event.{handled}

@@ -1,20 +1,15 @@
 -- "Events and refusals": the rows by their numbers, and the order in which they are tested.
-use Prim.Native.Nat.{ℕ, _%_, _/_}
-use mathlib.Core.Bool.{Bool, true, false, not, _&&_, _||_}
+use Prim.Native.Nat.{ℕ}
+use mathlib.Core.Bool.{Bool, not, _||_}
 use mathlib.Core.List.{List, [], _∷_}
-use lib.Dec.{ltb, leb, eqb}
+use lib.Dec.{ltb, eqb}
 use lib.ListN.{length}
 use Rattle.laws.specs.Rows.{Row, first, _when_}
-use Rattle.laws.specs.Octets.{bit}
 use Rattle.parts.specs.Tests.{isWriteOpen, isReadOpen, isOutsideLimits, isDisowned, isBrokenTransfer, hasStrayBit, isMisaddressed, changesMode}
-use Rattle.parts.specs.Setup.{withinLimits, sectorWords, allWords, isPlace, isTarget}
-use Rattle.parts.specs.Control.{controlOf, isWrite, isRead, wordsToCome}
-use Rattle.parts.specs.Holding.{nobody, holds, isBusy}
-use Rattle.parts.specs.Kind.{Kind, Select, Deselect, Use, Reset, Unknown, Work, DataControl, WordFromHost, TakeWord, End, Position, Target, ReadStatus, kindOf, usesOnlyItsOwn}
+use Rattle.parts.specs.Setup.{sectorWords, allWords, isPlace, isTarget}
+use Rattle.parts.specs.Holding.{isBusy}
+use Rattle.parts.specs.Kind.{Kind, Select, Deselect, Use, Reset, Unknown, Work, DataControl, WordFromHost, TakeWord, End, Position, Target, ReadStatus, usesOnlyItsOwn}
 use Rattle.parts.specs.declared.setup.Setup.{Setup}
-use Rattle.parts.specs.declared.holding.Holding.{Holding}
-use Rattle.parts.specs.declared.pending.Pending.{Pending}
-use Rattle.parts.specs.declared.transfer.Transfer.{Transfer}
 use Rattle.drive.specs.declared.drive.Drive.{Drive}
 use Rattle.parts.specs.declared.event.Event.{Event}
 

@@ -1,7 +1,7 @@
 -- The follower's mark is as good as the whole way: after each setting it is what the way says, so the answers are the same.
 -- Assumes nothing.
-use Prim.Native.Nat.{ℕ, _<_}
-use mathlib.Core.Path.{_≡_, refl, sym, ap, ap₂, _∙_}
+use Prim.Native.Nat.{ℕ}
+use mathlib.Core.Path.{_≡_, refl, ap, _∙_}
 use mathlib.Core.Bool.{Bool, true, false, not, _&&_, _||_, and-true, and-false, or-false}
 use mathlib.Core.List.{List, [], _∷_}
 use borrow.Author.Tests.{eqb-true}
@@ -10,7 +10,7 @@ use Rattle.laws.specs.Pick.{pick}
 use Rattle.laws.proofs.Pick.{pick-map, pick-not}
 use Rattle.lines.specs.Moves.{entryOf}
 use Rattle.lines.specs.Follower.{isReached, _with-history_, idle, lost, told, lacksHistory, remembers, undefinedAt, whileLost, movedBy, moved, stepOf}
-use Rattle.lines.specs.Traces.{after, answers, Way, came-to, astray, Watched, cameFrom, hasHistory, sawUndefined, sawMove, sawSetting, watch, watchedAnswers, HistoryKept}
+use Rattle.lines.specs.Traces.{answers, Way, came-to, astray, Watched, cameFrom, hasHistory, sawUndefined, sawMove, sawSetting, watch, watchedAnswers, HistoryKept}
 use Rattle.lines.specs.declared.follower.Follower.{Follower}
 use Rattle.lines.specs.declared.follower.Followed.{Followed}
 use Rattle.lines.specs.declared.follower.Answer.the-variants.{Undefined, Controllers, Drives}

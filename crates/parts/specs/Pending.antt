@@ -1,6 +1,5 @@
 -- "Status": what is pending on a port, octets 1 and 2 of its response.
 use Prim.Native.Nat.{ℕ, _+_, _/_, _%_}
-use mathlib.Core.Bool.{Bool}
 use lib.Dec.{eqb}
 use Rattle.laws.specs.Pick.{pick}
 use Rattle.parts.specs.declared.pending.Pending.{Pending}

@@ -1,6 +1,6 @@
 -- "Events and refusals": the tests on the parts of the state and on a selection octet that the rows are made of.
 use Prim.Native.Nat.{ℕ, _%_, _/_}
-use mathlib.Core.Bool.{Bool, true, false, not, _&&_, _||_}
+use mathlib.Core.Bool.{Bool, not, _&&_, _||_}
 use lib.Dec.{ltb, leb, eqb}
 use Rattle.laws.specs.Octets.{bit}
 use Rattle.parts.specs.Setup.{withinLimits}

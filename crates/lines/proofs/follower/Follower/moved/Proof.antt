@@ -1,6 +1,6 @@
 -- `Follower::moved` meets its contract: the table's entry decides, and for the controller's moves the history.
 -- Assumes nothing.
-use mathlib.Core.Path.{ap, sym, _∙_}
+use mathlib.Core.Path.{ap}
 use borrow.Author.Needs.{needs}
 use borrow.Author.Tests.{ne-eqb}
 use Rattle.laws.specs.Pick.{pick}
