@@ -13,6 +13,8 @@ pub mod SoundPlace
 pub mod SoundHolding
 pub mod Frame
 pub mod StaysSound
+pub mod AnswerWords
+pub mod Turns
 pub mod StruckOut
 pub mod Sessions
 pub mod Journal

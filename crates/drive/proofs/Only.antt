@@ -4,12 +4,15 @@ use Prim.Native.Nat.{ℕ}
 use mathlib.Core.Path.{_≡_, refl, sym, ap, _∙_}
 use mathlib.Core.List.{List, [], _∷_}
 use mathlib.Core.Option.{Option, some, none}
+use Rattle.laws.proofs.Only.{answer-only}
 use Rattle.parts.specs.declared.setup.Setup.{Setup}
 use Rattle.parts.specs.declared.setup.Place.{Place}
 use Rattle.parts.specs.declared.event.Event.{Event}
 use Rattle.drive.specs.Answer.{Paper, paper}
 use Rattle.drive.specs.Event.{Handled}
 use Rattle.drive.specs.Power.{PoweredUp}
+use Rattle.drive.specs.Batch.{RunThrough}
+use Rattle.drive.specs.declared.batch.Batch.{Batch}
 use Rattle.drive.specs.declared.drive.Drive.{Drive}
 use Rattle.drive.specs.declared.power.Powered.{Powered}
 use Rattle.drive.specs.declared.answer.Outcome.{Outcome}
@@ -17,14 +20,21 @@ use Rattle.drive.specs.declared.answer.Answer.{Answer}
 use Rattle.drive.specs.declared.answer.Answer.the-variants.{Refused, Done, Status, Opened, Word, LastWord, Response}
 
 pub power-up-only : {s : Setup} {sectors staging : List ℕ} {r r′ : Powered} → PoweredUp s sectors staging r → PoweredUp s sectors staging r′ → r ≡ r′
-power-up-only h k = h .answer ∙ sym (k .answer)
+power-up-only h k = answer-only (h .answer) (k .answer)
 
 -- the outcome and both lent slices
 pub handle-only : {d : Drive} {e : Event} {sectors staging : List ℕ} {r r′ : Outcome} {sectors′ staging′ sectors″ staging″ : List ℕ}
     → Handled d e sectors staging r sectors′ staging′ → Handled d e sectors staging r′ sectors″ staging″
     → (r ≡ r′) × (sectors′ ≡ sectors″) × (staging′ ≡ staging″)
 handle-only h k =
-    (λ i. record { answer = (h .answer ∙ sym (k .answer)) i; drive = (h .drive ∙ sym (k .drive)) i }, h .sectors ∙ sym (k .sectors), h .staging ∙ sym (k .staging))
+    (λ i. record { answer = answer-only (h .answer) (k .answer) i; drive = answer-only (h .drive) (k .drive) i }, answer-only (h .sectors) (k .sectors), answer-only (h .staging) (k .staging))
+
+-- the answer and the lent slices of a batch
+pub run-only : {d : Drive} {records sectors staging out : List ℕ} {r r′ : Batch} {sectors′ staging′ out′ sectors″ staging″ out″ : List ℕ}
+    → RunThrough d records sectors staging out r sectors′ staging′ out′ → RunThrough d records sectors staging out r′ sectors″ staging″ out″
+    → (r ≡ r′) × (sectors′ ≡ sectors″) × (staging′ ≡ staging″) × (out′ ≡ out″)
+run-only h k =
+    (answer-only (h .answer) (k .answer), answer-only (h .sectors) (k .sectors), answer-only (h .staging) (k .staging), answer-only (h .out) (k .out))
 
 -- ---- the paper tells answers apart: each can be read back from its paper
 

@@ -14,6 +14,8 @@ ownerNoticed d port =
     let owner = d .holding .owner in
     pick (isOwnedByOther (d .holding) port) (postedOn d owner (noticed (pendingOn d owner))) d
 
+-- "Free, or owned by the asker: granted." The selection and the hold are the asker's, and a transfer that a takeover cuts is gone: where there is
+-- none to take over, none is open.
 unfoldable pub selected : Drive → ℕ → ℕ → Drive
 selected d port octet = withTransfer (withHolding (ownerNoticed d port) (grantedTo port octet)) noTransfer
 

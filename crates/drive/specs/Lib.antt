@@ -7,6 +7,8 @@ pub mod Transfer
 pub mod Event
 pub mod Power
 pub mod Run
+pub mod AnswerWords
+pub mod Batch
 pub mod Cases
 pub mod Able
 pub mod EveryAnswer

@@ -15,6 +15,9 @@ use Rattle.parts.specs.declared.event.Event.{Event}
 
 -- ---- the rows
 
+-- "state handed in with a number outside its limits or a position or target outside the drive; a port selected, a hold or a transfer without
+-- that port as owner; an owner neither selected nor holding; a transfer open with nobody selected, with a control that opens none, or with all
+-- its words moved or more; a pending bit the base never sets"
 unfoldable pub row11 : Drive → Bool
 row11 d =
     isOutsideLimits (d .setup) (d .holding)
@@ -41,9 +44,11 @@ row8 k e = not (usesOnlyItsOwn k e)
 abbrev pub row3 : Drive → Event → Bool
 row3 d e = eqb (d .holding .selected) (e .port)
 
+-- "Select, octet bit 7 set or address (bits 6 to 4) not ours"
 abbrev pub row4 : Drive → Event → Bool
 row4 d e = isMisaddressed (e .a0) (d .setup .address)
 
+-- "Select, bit 3 or 2 set (IPI-2 modes can't change)"
 abbrev pub row5 : Event → Bool
 row5 e = changesMode (e .a0)
 

@@ -5,3 +5,4 @@ pub mod Octets
 pub mod Lists
 pub mod Windows
 pub mod Runs
+pub mod Only

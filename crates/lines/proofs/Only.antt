@@ -6,6 +6,7 @@ use mathlib.Core.Logic.{_↔_}
 use lib.Dec.{eqb}
 use Rattle.laws.specs.Pick.{pick}
 use Rattle.laws.specs.Rows.{Given, first}
+use Rattle.laws.proofs.Only.{answer-only}
 use Rattle.laws.proofs.Pick.{either}
 use Rattle.laws.proofs.Rows.{first-is-exact, reported}
 use Rattle.lines.specs.Line.{WeightSaid, OwnerSaid}
@@ -22,19 +23,19 @@ use Rattle.lines.specs.declared.follower.Followed.{Followed}
 use Rattle.lines.specs.declared.follower.Answer.the-variants as answer
 
 pub weight-only : {line : Line} {r r′ : ℕ} → WeightSaid line r → WeightSaid line r′ → r ≡ r′
-weight-only h k = h .answer ∙ sym (k .answer)
+weight-only h k = answer-only (h .answer) (k .answer)
 
 pub owner-only : {line : Line} {r r′ : Side} → OwnerSaid line r → OwnerSaid line r′ → r ≡ r′
-owner-only h k = h .answer ∙ sym (k .answer)
+owner-only h k = answer-only (h .answer) (k .answer)
 
 pub move-of-only : {old new : ℕ} {r r′ : Move} → MoveSaid old new r → MoveSaid old new r′ → r ≡ r′
-move-of-only h k = h .answer ∙ sym (k .answer)
+move-of-only h k = answer-only (h .answer) (k .answer)
 
 pub start-only : {r r′ : Follower} → Started r → Started r′ → r ≡ r′
-start-only h k = h .follower ∙ sym (k .follower)
+start-only h k = answer-only (h .follower) (k .follower)
 
 pub step-only : {f : Follower} {new : ℕ} {r r′ : Followed} → Stepped f new r → Stepped f new r′ → r ≡ r′
-step-only h k = λ i. record { answer = (h .answer ∙ sym (k .answer)) i; follower = (h .follower ∙ sym (k .follower)) i }
+step-only h k = λ i. record { answer = answer-only (h .answer) (k .answer) i; follower = answer-only (h .follower) (k .follower) i }
 
 -- ---- refusals
 

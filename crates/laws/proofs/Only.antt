@@ -1,4 +1,4 @@
--- No second answer: two values that satisfy the equation that a call of this crate promises are equal.
+-- No second answer: two values that satisfy the equation that a call promises are equal.
 -- Assumes nothing.
 use mathlib.Core.Path.{_≡_, sym, _∙_}
 

@@ -1,0 +1,51 @@
+-- The answer as 13 words of 16 bits, for callers that lend numbers and slices alone. Word 0 is the refusal, 1 the status, 2 the words to come,
+-- 3 to 5 the place, 6 and 7 whether there is a word and the word, 8 whether there is a response, 9 to 12 its octets.
+use Prim.Native.Nat.{ℕ, _+_, _*_}
+use mathlib.Core.List.{List, [], _∷_, _++_}
+use mathlib.Core.Option.{Option, some, none}
+use Rattle.parts.specs.declared.setup.Place.{Place}
+use Rattle.drive.specs.Answer.{Paper, paper}
+use Rattle.drive.specs.declared.answer.Answer.{Answer}
+
+-- "0 refusal": 0 where there is none.
+abbrev pub refusalWord : Option ℕ → ℕ
+refusalWord none = 0
+refusalWord (some n) = n
+
+-- "1 status or FFFF, 2 words to come or FFFF"
+abbrev pub orFFFF : Option ℕ → ℕ
+orFFFF none = 0xFFFF
+orFFFF (some n) = n
+
+-- "3 to 5 place or FFFF three times"
+abbrev pub placeWords : Option Place → List ℕ
+placeWords none = 0xFFFF ∷ 0xFFFF ∷ 0xFFFF ∷ []
+placeWords (some p) = p .cylinder ∷ p .head ∷ p .sector ∷ []
+
+-- "6 is there a word (0, 1), 7 the word or 0"
+abbrev pub wordWords : Option ℕ → List ℕ
+wordWords none = 0 ∷ 0 ∷ []
+wordWords (some w) = 1 ∷ w ∷ []
+
+-- Octets two by two, high first.
+abbrev pub pairs : List ℕ → List ℕ
+pairs [] = []
+pairs (high ∷ []) = high * 256 ∷ []
+pairs (high ∷ low ∷ octets) = (high * 256 + low) ∷ pairs octets
+
+-- "8 is there a response (0, 1), 9 to 12 its octets, high first, or 0"
+abbrev pub responseWords : Option (List ℕ) → List ℕ
+responseWords none = 0 ∷ 0 ∷ 0 ∷ 0 ∷ 0 ∷ []
+responseWords (some octets) = 1 ∷ pairs octets
+
+abbrev pub paperWords : Paper → List ℕ
+paperWords p =
+    refusalWord (p .refusal) ∷ orFFFF (p .status) ∷ orFFFF (p .wordCount) ∷ placeWords (p .place) ++ wordWords (p .word) ++ responseWords (p .response)
+
+unfoldable pub answerWords : Answer → List ℕ
+answerWords answer = paperWords (paper answer)
+
+-- The words of answers one after another.
+unfoldable pub allWords : List Answer → List ℕ
+allWords [] = []
+allWords (answer ∷ answers) = answerWords answer ++ allWords answers

@@ -1,0 +1,76 @@
+-- A batch: the events of a capture's records one after another, each on what the last one left, and the words of each answer.
+use Prim.Native.Nat.{ℕ, zero, suc, _*_, _/_, _%_}
+use mathlib.Core.Path.{_≡_}
+use mathlib.Core.Bool.{not}
+use mathlib.Core.List.{List, [], _∷_}
+use lib.Dec.{eqb, ltb}
+use lib.ListN.{length, getD, drop}
+use Rattle.laws.specs.Pick.{pick}
+use Rattle.laws.specs.Rows.{Row, first, _when_, unlessRefused}
+use Rattle.laws.specs.Lists.{writtenOver}
+use Rattle.parts.specs.declared.event.Event.{Event}
+use Rattle.drive.specs.Refusal.{row11, row10}
+use Rattle.drive.specs.Run.{Machine, machine, after, answerTo, answers, final}
+use Rattle.drive.specs.AnswerWords.{answerWords, allWords}
+use Rattle.drive.specs.declared.drive.Drive.{Drive}
+use Rattle.drive.specs.declared.batch.Batch.{Batch}
+use Rattle.drive.specs.declared.batch.Batch.the-variants.{Ran, Refused}
+
+-- "Records of 8 octets: tick (2, high first), port, kind, four argument octets". The tick is not the drive's.
+unfoldable pub eventOf : List ℕ → Event
+eventOf octets =
+    record {
+      port = getD octets 2 0;
+      kind = getD octets 3 0;
+      a0 = getD octets 4 0;
+      a1 = getD octets 5 0;
+      a2 = getD octets 6 0;
+      a3 = getD octets 7 0;
+    }
+
+-- The events of so many records, one after another.
+unfoldable pub eventsIn : ℕ → List ℕ → List Event
+eventsIn zero octets = []
+eventsIn (suc count) octets = eventOf octets ∷ eventsIn count (drop 8 octets)
+
+abbrev pub recordCount : List ℕ → ℕ
+recordCount octets = length octets / 8
+
+abbrev pub eventsOf : List ℕ → List Event
+eventsOf octets = eventsIn (recordCount octets) octets
+
+-- "10 where the .. answers are too short, 8 where the records are not whole, and nothing changed."
+abbrev pub batchRows : List ℕ → List ℕ → List Row
+batchRows records out = 10 when ltb (length out) (13 * recordCount records) ∷ 8 when not (eqb (length records % 8) 0) ∷ []
+
+abbrev pub batchRefusal : List ℕ → List ℕ → ℕ
+batchRefusal records out = first (batchRows records out)
+
+-- The promise of `Drive::run`: "the 8-octet records of a capture one after another, 13 answer words each". `answers` and `final` are those of
+-- so many single events.
+pub record RunThrough (d : Drive) (records sectors₀ staging₀ out₀ : List ℕ) (r : Batch) (sectors₁ staging₁ out₁ : List ℕ) : Type 0 where
+  pub answer : r ≡ unlessRefused (batchRefusal records out₀) (Refused (batchRefusal records out₀)) (Ran ((final (machine d sectors₀ staging₀) (eventsOf records)) .drive))
+  pub sectors : sectors₁ ≡ unlessRefused (batchRefusal records out₀) sectors₀ ((final (machine d sectors₀ staging₀) (eventsOf records)) .sectors)
+  pub staging : staging₁ ≡ unlessRefused (batchRefusal records out₀) staging₀ ((final (machine d sectors₀ staging₀) (eventsOf records)) .staging)
+  pub out : out₁ ≡ unlessRefused (batchRefusal records out₀) out₀ (writtenOver out₀ (allWords (answers (machine d sectors₀ staging₀) (eventsOf records))))
+
+-- The number of a refused batch, 0 for the others.
+abbrev pub refusalIn : Batch → ℕ
+refusalIn (Ran d) = 0
+refusalIn (Refused n) = n
+
+-- ---- what the private functions under `Drive::run` ask
+
+-- What rows 11 and 10 say of a state, 0 where both let it pass.
+unfoldable pub judgement : Drive → List ℕ → List ℕ → ℕ
+judgement d sectors staging = first (11 when row11 d ∷ 10 when row10 (d .setup) sectors staging ∷ [])
+
+-- One of them: the machine after the event, and the words of its answer at the front of a slice.
+pub record TurnTaken (m : Machine) (e : Event) (out₀ : List ℕ) (m′ : Machine) (out₁ : List ℕ) : Type 0 where
+  pub machine : m′ ≡ after m e
+  pub out : out₁ ≡ writtenOver out₀ (answerWords (answerTo m e))
+
+-- After the events: the drive, the lent words, and the words of the answers at the front of a slice.
+pub record Gone (d : Drive) (events : List Event) (sectors₀ staging₀ out₀ : List ℕ) (r : Drive) (sectors₁ staging₁ out₁ : List ℕ) : Type 0 where
+  pub end : machine r sectors₁ staging₁ ≡ final (machine d sectors₀ staging₀) events
+  pub out : out₁ ≡ writtenOver out₀ (allWords (answers (machine d sectors₀ staging₀) events))
