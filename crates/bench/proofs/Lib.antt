@@ -1,0 +1,10 @@
+pub mod Pieces
+pub mod Digits
+pub mod Lines
+pub mod Bench
+pub mod Size
+pub mod Captured
+pub mod Fits
+pub mod Cases
+pub mod Only
+pub mod Exactly

@@ -1,0 +1,5 @@
+pub mod Text
+pub mod Line
+pub mod Run
+pub mod Report
+pub mod Cases

@@ -1,0 +1,30 @@
+-- "a line each: event, port, refusal, status in two hex digits or `--` where the answer has none."
+use Prim.Native.Nat.{ℕ}
+use mathlib.Core.List.{List, [], _∷_, _++_}
+use mathlib.Core.Option.{Option, some, none}
+use lib.Dec.{eqb}
+use Rattle.laws.specs.Pick.{pick}
+use Rattle.drive.specs.Answer.{refusalIn, paper}
+use Rattle.drive.specs.declared.answer.Answer.{Answer}
+use Rattle.bench.specs.Text.{digit, newline, field, twoHexDigits}
+
+-- "status in two hex digits or `--` where the answer has none"
+abbrev pub statusText : Option ℕ → List ℕ
+statusText (some status) = twoHexDigits status
+statusText none = 0x2D ∷ 0x2D ∷ []
+
+-- "a line each: event, port, refusal, status". The refusal is 0 where there is none.
+unfoldable pub lineOf : ℕ → ℕ → Answer → List ℕ
+lineOf number port answer = field number ++ field port ++ field (refusalIn answer) ++ statusText (paper answer .status) ++ (newline ∷ [])
+
+-- "owner "
+abbrev pub ownerWord : List ℕ
+ownerWord = 0x6F ∷ 0x77 ∷ 0x6E ∷ 0x65 ∷ 0x72 ∷ 0x20 ∷ []
+
+-- "none"
+abbrev pub noneWord : List ℕ
+noneWord = 0x6E ∷ 0x6F ∷ 0x6E ∷ 0x65 ∷ []
+
+-- "`owner none`, a line each .. The last line may also be `owner 0` or `owner 1`."
+unfoldable pub ownerLine : ℕ → List ℕ
+ownerLine owner = ownerWord ++ pick (eqb owner 0) (digit 0 ∷ []) (pick (eqb owner 1) (digit 1 ∷ []) noneWord) ++ (newline ∷ [])
