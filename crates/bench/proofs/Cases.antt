@@ -16,10 +16,11 @@ use Rattle.drive.specs.Event.{handled}
 use Rattle.drive.specs.Run.{answerTo, after, answers, final}
 use Rattle.bench.specs.Text.{decimalWithin, decimal, numberedLine, hexDigit}
 use Rattle.bench.specs.Line.{lineOf, ownerLine}
-use Rattle.bench.specs.Run.{eventIn, eventsOf, eventsIn, linesFrom, linesOfRun, runReport}
+use Rattle.drive.specs.Batch.{eventOf, eventsIn, eventsOf}
+use Rattle.bench.specs.Run.{linesFrom, linesOfRun, runReport}
 use Rattle.bench.specs.Report.{captureReport, reportOf}
 use Rattle.bench.specs.Cases.{ReplayCases}
 
 pub replay-cases : ReplayCases
-unfolding pick withinLimits allWords isPlace isTarget controlOf wordsToCome holdSet isBusy grantedTo released kindOf isOutsideLimits isDisowned isBrokenTransfer hasStrayBit recordOf recordsOf paper ownerNoticed selected deselected row11 row10 refusalOf handled answerTo after answers final decimalWithin decimal numberedLine hexDigit lineOf ownerLine eventIn eventsOf eventsIn linesFrom linesOfRun runReport captureReport reportOf
+unfolding pick withinLimits allWords isPlace isTarget controlOf wordsToCome holdSet isBusy grantedTo released kindOf isOutsideLimits isDisowned isBrokenTransfer hasStrayBit recordOf recordsOf paper ownerNoticed selected deselected row11 row10 refusalOf handled answerTo after answers final decimalWithin decimal numberedLine hexDigit lineOf ownerLine eventOf eventsIn linesFrom linesOfRun runReport captureReport reportOf
 replay-cases = record { three = refl; empty = refl }

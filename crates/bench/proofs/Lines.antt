@@ -18,7 +18,8 @@ use Rattle.drive.specs.declared.answer.Outcome.{Outcome}
 use Rattle.drive.proofs.Calls.{demand-3-of-calls}
 use Rattle.bench.specs.Text.{field, numberedLine}
 use Rattle.bench.specs.Line.{statusText, lineOf, ownerLine}
-use Rattle.bench.specs.Run.{benchAtRest, eventIn, eventsOf, eventsIn, eventsWord, linesFrom, linesOfRun, runReport}
+use Rattle.drive.specs.Batch.{eventOf, eventsIn, eventsOf}
+use Rattle.bench.specs.Run.{benchAtRest, eventsWord, linesFrom, linesOfRun, runReport}
 
 pub status-size : (status : Option ℕ) → length (statusText status) ≡ 2
 status-size (some status) = refl
@@ -45,35 +46,34 @@ next-line number m e later = append-assoc (lineOf number (e .port) (answerTo m e
 
 -- what is left to write once i of count records are done
 abbrev pub left : List ℕ → ℕ → ℕ → Machine → List ℕ
-left records count i m = linesOfRun (i + 1) m (eventsOf (count - i) (drop (i * 8) records))
+left records count i m = linesOfRun (i + 1) m (eventsIn (count - i) (drop (i * 8) records))
 
 module _ (records : List ℕ) (count : ℕ) where
   events-left : (i : ℕ) → i < count
-      → eventsOf (count - i) (drop (i * 8) records) ≡ eventIn (drop (i * 8) records) ∷ eventsOf (count - (i + 1)) (drop ((i + 1) * 8) records)
-  unfolding eventsOf
+      → eventsIn (count - i) (drop (i * 8) records) ≡ eventOf (drop (i * 8) records) ∷ eventsIn (count - (i + 1)) (drop ((i + 1) * 8) records)
+  unfolding eventsIn
   events-left i h =
       let one : count - i ≡ suc (count - (i + 1)) = omega arith in
       let behind : (i + 1) * 8 ≡ i * 8 + 8 = omega arith in
       rw (one, behind, drop-drop 8 (i * 8) records)
 
-  pub left-next : (i : ℕ) {d : Drive} {e : Event} {sectors staging sectors′ staging′ : List ℕ} {r : Outcome} → i < count → e ≡ eventIn (drop (i * 8) records)
+  pub left-next : (i : ℕ) {d : Drive} {e : Event} {sectors staging sectors′ staging′ : List ℕ} {r : Outcome} → i < count → e ≡ eventOf (drop (i * 8) records)
       → Handled d e sectors staging r sectors′ staging′
       → left records count i (machine d sectors staging) ≡ lineOf (i + 1) (e .port) (r .answer) ++ left records count (i + 1) (machine (r .drive) sectors′ staging′)
   left-next i h is kept = rw (events-left i h, ← is, next-line, call-told kept, call-left kept)
 
   pub left-none : (i : ℕ) (m : Machine) → i ≡ count → left records count i m ≡ ownerLine (m .drive .holding .owner)
-  unfolding linesOfRun linesFrom answers final eventsOf
+  unfolding linesOfRun linesFrom answers final eventsIn
   left-none i m e = let done : count - i ≡ 0 = omega arith in rw done
 
-pub left-all : (records : List ℕ) (m : Machine) → linesOfRun 1 m (eventsIn records) ≡ left records (length records / 8) 0 m
-unfolding eventsIn
+pub left-all : (records : List ℕ) (m : Machine) → linesOfRun 1 m (eventsOf records) ≡ left records (length records / 8) 0 m
 left-all records m = let all : length records / 8 - 0 ≡ length records / 8 = omega arith in rw all
 
-length-events : (count : ℕ) (records : List ℕ) → length (eventsOf count records) ≡ count
-unfolding eventsOf
+length-events : (count : ℕ) (records : List ℕ) → length (eventsIn count records) ≡ count
+unfolding eventsIn
 length-events zero records = refl
 length-events (suc count) records = ap suc (length-events count (drop 8 records))
 
-pub run-report : (records : List ℕ) → runReport records ≡ numberedLine eventsWord (length records / 8) ++ linesOfRun 1 benchAtRest (eventsIn records)
-unfolding runReport eventsIn
+pub run-report : (records : List ℕ) → runReport records ≡ numberedLine eventsWord (length records / 8) ++ linesOfRun 1 benchAtRest (eventsOf records)
+unfolding runReport
 run-report records = rw (length-events (length records / 8) records)

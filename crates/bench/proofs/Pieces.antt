@@ -8,7 +8,8 @@ use native.Mathlib.Omega.{arith}
 use lib.ListN.{length, take, drop, length-append, length-drop, take-append-drop}
 use lib.Seq.{length-take-le, take-at, drop-append-add, drop-drop}
 use Rattle.laws.specs.Lists.{writtenOver}
-use Rattle.bench.specs.Text.{writtenAt, Put}
+use Rattle.laws.specs.Lists.{writtenAt}
+use Rattle.bench.specs.Text.{Put}
 
 module _ (slice : List ℕ) (at : ℕ) (x : List ℕ) (room : at + length x ≤ length slice) where
   front-size : length (take at slice ++ x) ≡ at + length x

@@ -16,7 +16,8 @@ use Rattle.drive.specs.StaysSound.{Never11Or10}
 use Rattle.drive.specs.declared.answer.Answer.{Answer}
 use Rattle.bench.specs.Text.{newline, decimal, field, numberedLine}
 use Rattle.bench.specs.Line.{ownerWord, lineOf, ownerLine}
-use Rattle.bench.specs.Run.{benchAtRest, eventIn, eventsOf, eventsIn, eventsWord, linesFrom, linesOfRun, runReport}
+use Rattle.drive.specs.Batch.{eventOf, eventsIn, eventsOf}
+use Rattle.bench.specs.Run.{benchAtRest, eventsWord, linesFrom, linesOfRun, runReport}
 use Rattle.bench.proofs.Digits.{decimal-size}
 use Rattle.bench.proofs.Lines.{line-size, run-report}
 use Rattle.bench.proofs.Bench.{bench-answers}
@@ -29,8 +30,8 @@ unfolding numberedLine
 numbered-size word size n h =
     omega (arith, length-append (word ++ decimal n) (newline ∷ []), length-append word (decimal n), decimal-size size n h)
 
-port-size : (octets : List ℕ) → AllOctets octets → length (field (eventIn octets .port)) ≤ 4
-unfolding eventIn recordOf
+port-size : (octets : List ℕ) → AllOctets octets → length (field (eventOf octets .port)) ≤ 4
+unfolding eventOf recordOf
 port-size octets all = field-size 2 _ (omega (arith, all 2))
 
 owner-size : (owner : ℕ) → length (ownerLine owner) ≤ 11
@@ -40,16 +41,16 @@ owner-size owner =
     either Fits (eqb owner 0) (omega arith) (either Fits (eqb owner 1) (omega arith) (omega arith))
 
 lines-size : (count number : ℕ) (octets : List ℕ) (told : List Answer) → AllOctets octets → Never11Or10 told → number + count ≤ 10000
-    → length (linesFrom number (eventsOf count octets) told) ≤ 14 * count
-unfolding linesFrom eventsOf
+    → length (linesFrom number (eventsIn count octets) told) ≤ 14 * count
+unfolding linesFrom eventsIn
 lines-size zero number octets told all never h = omega arith
 lines-size (suc count) number octets [] all never h = omega arith
 lines-size (suc count) number octets (answer ∷ told) all never h =
-    let port = eventIn octets .port in
+    let port = eventOf octets .port in
     let later = lines-size count (number + 1) (drop 8 octets) told (octets-dropped 8 octets all) (never .1) (omega arith) in
     omega (
       arith,
-      length-append (lineOf number port answer) (linesFrom (number + 1) (eventsOf count (drop 8 octets)) told),
+      length-append (lineOf number port answer) (linesFrom (number + 1) (eventsIn count (drop 8 octets)) told),
       line-size number port answer,
       field-size 3 number (omega arith),
       port-size octets all,
@@ -58,10 +59,10 @@ lines-size (suc count) number octets (answer ∷ told) all never h =
     )
 
 pub run-size : (records : List ℕ) → AllOctets records → length records ≤ 65528 → length (runReport records) ≤ 114697
-unfolding linesOfRun eventsIn
+unfolding linesOfRun
 run-size records all h =
     let count = length records / 8 in
-    let events = eventsIn records in
+    let events = eventsOf records in
     let lines = linesFrom 1 events (answers benchAtRest events) in
     let owner = (final benchAtRest events) .drive .holding .owner in
     omega (

@@ -1,12 +1,12 @@
 -- The run of a capture's records over the bench drive, as the lines of a report.
-use Prim.Native.Nat.{ℕ, zero, suc, _+_, _/_}
+use Prim.Native.Nat.{ℕ, _+_}
 use mathlib.Core.List.{List, [], _∷_, _++_}
-use lib.ListN.{length, drop, replicate}
-use Rattle.capture.specs.Record.{recordOf}
+use lib.ListN.{length, replicate}
 use Rattle.parts.specs.declared.event.Event.{Event}
 use Rattle.drive.specs.declared.answer.Answer.{Answer}
 use Rattle.drive.specs.Power.{atRest}
 use Rattle.drive.specs.Run.{Machine, machine, answers, final}
+use Rattle.drive.specs.Batch.{eventsOf}
 use Rattle.drive.specs.Cases.{bench}
 use Rattle.bench.specs.Text.{numberedLine}
 use Rattle.bench.specs.Line.{lineOf, ownerLine}
@@ -15,20 +15,6 @@ use Rattle.bench.specs.Line.{lineOf, ownerLine}
 -- below with all words zero".
 abbrev pub benchAtRest : Machine
 benchAtRest = machine (atRest bench) (replicate 48 0) (replicate 4 0)
-
--- The event of a record: all of it but the tick.
-unfoldable pub eventIn : List ℕ → Event
-eventIn octets =
-    let r = recordOf octets in
-    record { port = r .port; kind = r .kind; a0 = r .a0; a1 = r .a1; a2 = r .a2; a3 = r .a3 }
-
--- "Records of 8 octets": the events of so many records.
-unfoldable pub eventsOf : ℕ → List ℕ → List Event
-eventsOf zero records = []
-eventsOf (suc count) records = eventIn records ∷ eventsOf count (drop 8 records)
-
-unfoldable pub eventsIn : List ℕ → List Event
-eventsIn records = eventsOf (length records / 8) records
 
 -- "events "
 abbrev pub eventsWord : List ℕ
@@ -46,4 +32,4 @@ linesOfRun number m events = linesFrom number events (answers m events) ++ owner
 
 -- "the replay writes exactly: `events 3`, .. `owner none`, a line each", with the events counted from 1.
 unfoldable pub runReport : List ℕ → List ℕ
-runReport records = numberedLine eventsWord (length (eventsIn records)) ++ linesOfRun 1 benchAtRest (eventsIn records)
+runReport records = numberedLine eventsWord (length (eventsOf records)) ++ linesOfRun 1 benchAtRest (eventsOf records)

@@ -3,8 +3,9 @@ use Prim.Native.Nat.{ℕ, zero, suc, _+_, _-_, _/_, _%_, _≤_}
 use mathlib.Core.Path.{_≡_}
 use mathlib.Core.List.{List, [], _∷_, _++_}
 use lib.Dec.{ltb}
-use lib.ListN.{length, take, drop}
+use lib.ListN.{length}
 use Rattle.laws.specs.Pick.{pick}
+use Rattle.laws.specs.Lists.{writtenAt}
 
 abbrev pub space : ℕ
 space = 0x20
@@ -39,10 +40,6 @@ hexDigit n = pick (ltb n 10) (digit n) (0x41 + (n - 10))
 
 abbrev pub twoHexDigits : ℕ → List ℕ
 twoHexDigits octet = hexDigit (octet / 16) ∷ hexDigit (octet % 16) ∷ []
-
--- The slice with a part of it replaced, from an index on.
-abbrev pub writtenAt : List ℕ → ℕ → List ℕ → List ℕ
-writtenAt slice at part = take at slice ++ part ++ drop (at + length part) slice
 
 -- What a call that puts text into a slice promises: the text is there, the rest as it was, and the answer is the index behind it.
 pub record Put (before : List ℕ) (at : ℕ) (part after : List ℕ) (r : ℕ) : Type 0 where

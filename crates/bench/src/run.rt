@@ -10,7 +10,8 @@ ghost use mathlib.Core.Path.{_≡_};
 ghost use lib.ListN.{length, drop};
 ghost use Rattle.drive.specs.Run.{machine};
 ghost use Rattle.bench.specs.Text.{Put};
-ghost use Rattle.bench.specs.Run.{eventIn, eventsIn, linesOfRun, runReport};
+ghost use Rattle.drive.specs.Batch.{eventOf, eventsOf};
+ghost use Rattle.bench.specs.Run.{linesOfRun, runReport};
 
 const CYLINDERS: u16 = 2;
 
@@ -62,8 +63,8 @@ fn put_lines(
     sectors: &mut [u16],
     staging: &mut [u16],
 ) -> usize
-    requires { ⌜ at + length (linesOfRun 1 (machine bench (now sectors) (now staging)) (eventsIn (now records))) ≤ length (now text) ⌝ }
-    ensures { λ r. ⌜ Put (now (text .entry)) at (linesOfRun 1 (machine bench (now (sectors .entry)) (now (staging .entry))) (eventsIn (now (records .entry)))) (now (text .exit)) r ⌝ }
+    requires { ⌜ at + length (linesOfRun 1 (machine bench (now sectors) (now staging)) (eventsOf (now records))) ≤ length (now text) ⌝ }
+    ensures { λ r. ⌜ Put (now (text .entry)) at (linesOfRun 1 (machine bench (now (sectors .entry)) (now (staging .entry))) (eventsOf (now (records .entry)))) (now (text .exit)) r ⌝ }
 {
     let count = records.len() / RECORD_LENGTH;
     let mut drive = bench;
@@ -85,7 +86,7 @@ fn put_lines(
 // The event of the record that starts at an index.
 fn event_at(records: &[u8], at: usize) -> Event
     requires { ⌜ at + 8 ≤ length (now records) ⌝ }
-    ensures { λ r. ⌜ r ≡ eventIn (drop at (now (records .entry))) ⌝ }
+    ensures { λ r. ⌜ r ≡ eventOf (drop at (now (records .entry))) ⌝ }
 {
     match capture::decode_record(&records[at..]) {
         RecordRead::Decoded(r) => Event {

@@ -6,8 +6,7 @@ use mathlib.Core.List.{List, _++_}
 use native.Mathlib.Nat.{zero-add}
 use lib.ListN.{length, drop, length-append}
 use lib.Seq.{take-append-seam, drop-append-add, drop-drop}
-use Rattle.laws.specs.Lists.{writtenOver}
-use Rattle.capture.specs.Encoding.{writtenAt}
+use Rattle.laws.specs.Lists.{writtenOver, writtenAt}
 
 written-first : (list part : List ℕ) → writtenAt list 0 part ≡ writtenOver list part
 written-first list part = rw zero-add

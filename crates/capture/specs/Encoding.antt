@@ -44,7 +44,3 @@ refusalIn (Refused n) = n
 pub record EncodedCapture (notes records before after : List ℕ) (r : CaptureEncoded) : Type 0 where
   pub answer : r ≡ unlessRefused (encodeRefusal notes records before) (Refused (encodeRefusal notes records before)) (Written (captureLength notes records))
   pub slice : after ≡ unlessRefused (encodeRefusal notes records before) before (writtenOver before (captureOctets notes records))
-
--- The list with a part of it replaced, from an index on.
-abbrev pub writtenAt : List ℕ → ℕ → List ℕ → List ℕ
-writtenAt list at part = take at list ++ part ++ drop (at + length part) list

@@ -6,8 +6,8 @@ ghost use Prim.Native.Nat.{_+_, _^_, _<_, _≤_};
 ghost use mathlib.Core.Path.{_≡_};
 ghost use lib.Dec.{ltb};
 ghost use lib.ListN.{length};
-ghost use Rattle.laws.specs.Lists.{writtenOver};
-ghost use Rattle.capture.specs.Encoding.{captureLength, captureOctets, trailerFor, writtenAt, EncodedCapture};
+ghost use Rattle.laws.specs.Lists.{writtenOver, writtenAt};
+ghost use Rattle.capture.specs.Encoding.{captureLength, captureOctets, trailerFor, EncodedCapture};
 
 pub enum CaptureEncoded {
     // How many octets the capture has.

@@ -3,12 +3,16 @@ use Prim.Native.Nat.{ℕ, zero, suc, _+_}
 use mathlib.Core.Bool.{Bool, false, _||_}
 use mathlib.Core.List.{List, [], _∷_, _++_}
 use lib.Dec.{eqb}
-use lib.ListN.{length, drop}
+use lib.ListN.{length, take, drop}
 use Rattle.laws.specs.Pick.{pick}
 
 -- The list with its first elements replaced, the rest as it was.
 abbrev pub writtenOver : {A : Type 0} → List A → List A → List A
 writtenOver list front = front ++ drop (length front) list
+
+-- The list with a part of it replaced, from an index on.
+abbrev pub writtenAt : {A : Type 0} → List A → ℕ → List A → List A
+writtenAt list at part = take at list ++ part ++ drop (at + length part) list
 
 -- The values of a rule at `count` numbers one after another, from `start`.
 abbrev pub tableFrom : (ℕ → ℕ) → ℕ → ℕ → List ℕ

@@ -8,7 +8,8 @@ use borrow.Author.Needs.{needs}
 use lib.ListN.{length, length-append}
 use Rattle.drive.specs.Run.{machine}
 use Rattle.bench.specs.Line.{lineOf, ownerLine}
-use Rattle.bench.specs.Run.{eventsIn, linesOfRun}
+use Rattle.drive.specs.Batch.{eventsOf}
+use Rattle.bench.specs.Run.{linesOfRun}
 use Rattle.bench.proofs.Pieces.{Going, going-from, going-on}
 use Rattle.bench.proofs.Lines.{left, left-next, left-none, left-all}
 use Rattle.bench.proofs.run.put_lines.Statement.{statement}
@@ -17,7 +18,7 @@ use Rattle.bench.proofs.run.put_lines.Tie as tie
 abbrev Inv-loop : tie.InvT-loop
 Inv-loop text₀ at records sectors₀ staging₀ count drive₀ end₀ i₀ text sectors staging drive end i =
     (i ≤ count) × (length text ≡ length text₀) × (length sectors ≡ length sectors₀) × (length staging ≡ length staging₀)
-    × Going text₀ at (linesOfRun 1 (machine drive₀ sectors₀ staging₀) (eventsIn records)) text end (left records count i (machine drive sectors staging))
+    × Going text₀ at (linesOfRun 1 (machine drive₀ sectors₀ staging₀) (eventsOf records)) text end (left records count i (machine drive sectors staging))
 
 abbrev μ-loop : tie.MeasureT-loop
 μ-loop text₀ at records sectors₀ staging₀ count drive₀ end₀ i₀ text sectors staging drive end i = count - i
@@ -27,7 +28,7 @@ going : (c : tie.After-handle Inv-loop μ-loop)
     → let loop = c .before .before .before .before .before in
     let start = loop .before .before .before .before .before .args in
     let records = start .records .now in
-    Going (start .text .now) (start .at) (linesOfRun 1 (machine (start .bench) (start .sectors .now) (start .staging .now)) (eventsIn records)) (loop .loop .text) (loop .loop .end)
+    Going (start .text .now) (start .at) (linesOfRun 1 (machine (start .bench) (start .sectors .now) (start .staging .now)) (eventsOf records)) (loop .loop .text) (loop .loop .end)
     (lineOf (loop .loop .i + 1) (c .before .before .before .event-at .result .port) (c .handle .result .answer)
     ++ left records (length records / 8) (loop .loop .i + 1) (machine (c .handle .result .drive) (c .handle .last .1 .1 .0) (c .handle .last .1 .1 .1 .0)))
 going c =
@@ -41,7 +42,7 @@ ending : (c : tie.At-loop Inv-loop μ-loop)
     → let start = c .before .before .before .before .before .args in
     let records = start .records .now in
     c .loop .i ≡ length records / 8
-    → Going (start .text .now) (start .at) (linesOfRun 1 (machine (start .bench) (start .sectors .now) (start .staging .now)) (eventsIn records)) (c .loop .text) (c .loop .end)
+    → Going (start .text .now) (start .at) (linesOfRun 1 (machine (start .bench) (start .sectors .now) (start .staging .now)) (eventsOf records)) (c .loop .text) (c .loop .end)
     (ownerLine (c .loop .drive .holding .owner))
 ending c e =
     let records = c .before .before .before .before .before .args .records .now in

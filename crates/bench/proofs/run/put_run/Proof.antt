@@ -7,7 +7,8 @@ use lib.ListN.{length, length-append}
 use Rattle.drive.specs.Power.{atRest}
 use Rattle.drive.specs.Cases.{bench}
 use Rattle.drive.specs.declared.power.Powered.the-variants.{Up}
-use Rattle.bench.specs.Run.{benchAtRest, eventsIn, linesOfRun, runReport}
+use Rattle.drive.specs.Batch.{eventsOf}
+use Rattle.bench.specs.Run.{benchAtRest, linesOfRun, runReport}
 use Rattle.bench.proofs.Pieces.{Going, going-from, going-on}
 use Rattle.bench.proofs.Lines.{run-report}
 use Rattle.bench.proofs.Bench.{bench-is-up}
@@ -23,7 +24,7 @@ put-numbered-requires c κs = omega (arith, simp length-append at (rw (run-repor
 
 going : (c : tie.After-put-numbered)
     → let a = c .before .before .before .before .before .args in
-    Going (a .text .now) 0 (runReport (a .records .now)) (c .put-numbered .last .0) (c .put-numbered .result) (linesOfRun 1 benchAtRest (eventsIn (a .records .now)))
+    Going (a .text .now) 0 (runReport (a .records .now)) (c .put-numbered .last .0) (c .put-numbered .result) (linesOfRun 1 benchAtRest (eventsOf (a .records .now)))
 going c =
     let start = c .before .before .before .before .before in
     let room : 0 + length (runReport (start .args .records .now)) ≤ length (start .args .text .now) = omega (arith, start .pre) in
