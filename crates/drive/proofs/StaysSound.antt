@@ -133,7 +133,7 @@ small-refusal : (k : Kind) (m : Machine) (e : Event) → IsSound m → refusalOf
 unfolding refusalOf pick
 small-refusal k m e s = rw (s .sound, s .room) (first-up-to 8 (1 when row1 e ∷ ownRows k (m .drive) e) (small-numbers k (m .drive) e))
 
-no-refusal : (answer : Answer) → isRefused answer ≡ false → refusalIn answer ≡ 0
+pub no-refusal : (answer : Answer) → isRefused answer ≡ false → refusalIn answer ≡ 0
 no-refusal (Refused n) h = absurd (true≢false h)
 no-refusal Done h = refl
 no-refusal (Status s) h = refl

@@ -1,0 +1,5 @@
+pub mod State
+pub mod Power
+pub mod Event
+pub mod Run
+pub mod Line

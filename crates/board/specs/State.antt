@@ -1,0 +1,86 @@
+-- The drive's state as 18 words of 16 bits.
+use Prim.Native.Nat.{ℕ, _+_, _*_, _/_, _%_}
+use mathlib.Core.Bool.{Bool}
+use mathlib.Core.List.{List, [], _∷_, _++_}
+use lib.Dec.{eqb, ltb}
+use lib.ListN.{getD, take, drop}
+use Rattle.laws.specs.Pick.{pick}
+use Rattle.parts.specs.Holding.{held}
+use Rattle.parts.specs.Pending.{pendingOf}
+use Rattle.parts.specs.Tests.{transferring}
+use Rattle.parts.specs.declared.holding.Hold.{Hold}
+use Rattle.parts.specs.declared.holding.Hold.the-variants.{None, Plain, Strong}
+use Rattle.parts.specs.declared.pending.Pending.{Pending}
+use Rattle.parts.specs.declared.setup.Setup.{Setup}
+use Rattle.drive.specs.State.{atPlace}
+use Rattle.drive.specs.Power.{setupOf}
+use Rattle.drive.specs.declared.drive.Drive.{Drive}
+
+-- "9 hold (0 none, 1 plain, 2 strong)"
+unfoldable pub holdWord : Hold → ℕ
+holdWord None = 0
+holdWord Plain = 1
+holdWord Strong = 2
+
+unfoldable pub holdOf : ℕ → Hold
+holdOf word = pick (eqb word 0) None (pick (eqb word 1) Plain Strong)
+
+-- "16 pending of port 0 (octet 1 times 256 plus octet 2), 17 pending of port 1"
+unfoldable pub pendingWord : Pending → ℕ
+pendingWord p = p .octet1 * 256 + p .octet2
+
+unfoldable pub pendingIn : ℕ → Pending
+pendingIn word = pendingOf (word / 256) (word % 256)
+
+-- "0 cylinders, 1 heads, 2 sectors per track, 3 header, 4 field 1, 5 field 2, 6 address"
+abbrev pub setupWords : Setup → List ℕ
+setupWords s = s .cylinders ∷ s .heads ∷ s .sectors ∷ s .header ∷ s .field1 ∷ s .field2 ∷ s .address ∷ []
+
+-- "7 selected port (0, 1, 2 nobody), 8 owner (the same), 9 hold .., 10 cylinder, 11 head, 12 sector, 13 target, 14 control of the open transfer
+-- (0 none), 15 words moved, 16 pending of port 0 .., 17 pending of port 1": the words that events change.
+unfoldable pub movingWords : Drive → List ℕ
+movingWords d =
+    d .holding .selected
+    ∷ d .holding .owner
+    ∷ holdWord (d .holding .hold)
+    ∷ d .place .cylinder
+    ∷ d .place .head
+    ∷ d .place .sector
+    ∷ d .target
+    ∷ d .transfer .control
+    ∷ d .transfer .moved
+    ∷ pendingWord (d .pending0)
+    ∷ pendingWord (d .pending1)
+    ∷ []
+
+unfoldable pub stateWords : Drive → List ℕ
+stateWords d = setupWords (d .setup) ++ movingWords d
+
+-- A hold that is none of the three is a number outside its limits. The drive by value cannot hold one, so that the selected port says it: 3, which
+-- row 11 refuses too.
+abbrev pub holdIsKnown : List ℕ → Bool
+holdIsKnown state = ltb (getD state 9 0) 3
+
+unfoldable pub selectedIn : List ℕ → ℕ
+selectedIn state = pick (holdIsKnown state) (getD state 7 0) 3
+
+-- The drive that the words stand for.
+unfoldable pub driveIn : List ℕ → Drive
+driveIn state =
+    record {
+      setup = setupOf (getD state 0 0) (getD state 1 0) (getD state 2 0) (getD state 3 0) (getD state 4 0) (getD state 5 0) (getD state 6 0);
+      holding = held (selectedIn state) (getD state 8 0) (holdOf (getD state 9 0));
+      place = atPlace (getD state 10 0) (getD state 11 0) (getD state 12 0);
+      target = getD state 13 0;
+      transfer = transferring (getD state 14 0) (getD state 15 0);
+      pending0 = pendingIn (getD state 16 0);
+      pending1 = pendingIn (getD state 17 0);
+    }
+
+-- The state words with those that events change replaced, "State words beyond 18 .. are never changed."
+unfoldable pub movedTo : List ℕ → Drive → List ℕ
+movedTo state d = take 7 state ++ movingWords d ++ drop 18 state
+
+-- The words after events that lead to a drive. Where the hold is none of the three, every event is refused and the words stay.
+unfoldable pub stateAfter : List ℕ → Drive → List ℕ
+stateAfter state d = pick (holdIsKnown state) (movedTo state d) state

@@ -1,0 +1,15 @@
+//! Document 01 once more, in plain safe Rust and independent of the proved code: what the tests
+//! compare the archive with, and what the speed program measures it against.
+//!
+//! The helpers are inlined because a drive that is handed to a function left out of line must be
+//! built in memory, which costs half as many instructions again.
+
+mod answer;
+mod control;
+mod drive;
+mod follower;
+mod setup;
+mod words;
+
+pub use follower::line;
+pub use words::{event, power_up, run, ANSWER_WORDS, RECORD_OCTETS, STATE_WORDS};

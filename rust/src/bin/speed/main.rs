@@ -1,0 +1,80 @@
+//! Compares the speed of the proved drive with that of the plain one. `rust/measure` runs it;
+//! `docs/SPEED.md` says how to read what it prints.
+//!
+//! With four numbers (workload, side, call, cycles) it only does that work, for callgrind to count.
+
+mod figures;
+mod sides;
+mod workloads;
+
+use figures::{instructions, nanoseconds, Sides, ROUNDS};
+use sides::{Bench, Call, Side};
+use workloads::Workload;
+
+#[allow(dead_code, unused_imports)] // the tests use the rest
+#[path = "../../../shared/mod.rs"]
+mod shared;
+
+const SIDES: [Side; 3] = [Side::Rattle, Side::Plain, Side::Nothing];
+const CALLS: [Call; 2] = [Call::Single, Call::Run];
+
+fn main() {
+    let numbers: Vec<usize> = std::env::args()
+        .skip(1)
+        .map(|argument| argument.parse().expect("numbers only"))
+        .collect();
+    match numbers[..] {
+        [] => print_tables(),
+        [number, side, call, cycles] => {
+            let workload = &workloads::all()[number];
+            Bench::new(workload).cycles(SIDES[side], CALLS[call], cycles);
+        }
+        _ => panic!("either no number or workload, side, call and cycles"),
+    }
+}
+
+fn print_tables() {
+    let workloads = workloads::all();
+    for call in CALLS {
+        println!("{}", title(call));
+        println!(
+            "{:40} {:^27}   {:^27}",
+            "", "instructions per event", "ns per event, median"
+        );
+        println!("{:40} {}   {}", "workload", column_names(), column_names());
+        for (number, workload) in workloads.iter().enumerate() {
+            print_row(workload, number, call);
+        }
+        println!();
+    }
+    println!(
+        "Times are medians of {ROUNDS} interleaved rounds. Aims: a ratio of 1.0; at most 1.30"
+    );
+    println!("in instructions and 1.15 in time.");
+}
+
+fn title(call: Call) -> &'static str {
+    match call {
+        Call::Single => "pg_event; both sides test rows 11 and 10 at every event",
+        Call::Run => "pg_run; the plain side tests rows 11 and 10 once in a run",
+    }
+}
+
+fn column_names() -> String {
+    format!("{:>9}{:>9}{:>9}", "Rattle", "plain", "ratio")
+}
+
+fn print_row(workload: &Workload, number: usize, call: Call) {
+    let counted = instructions(workload, number, call);
+    let timed = nanoseconds(workload, call);
+    let counted = match counted {
+        Some(sides) => columns(&sides, 1),
+        None => format!("{:>27}", "no callgrind"),
+    };
+    println!("{:40} {}   {}", workload.name, counted, columns(&timed, 2));
+}
+
+fn columns(sides: &Sides, places: usize) -> String {
+    let (rattle, plain, ratio) = (sides.rattle, sides.plain, sides.ratio());
+    format!("{rattle:9.places$}{plain:9.places$}{ratio:9.2}")
+}

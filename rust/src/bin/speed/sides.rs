@@ -1,0 +1,129 @@
+//! The two implementations behind one loop, and a third that does nothing.
+
+use crate::shared::plain::{self, ANSWER_WORDS};
+use crate::workloads::{Words, Workload};
+use pantoglide::raw;
+use std::hint::black_box;
+
+/// Records in one call of a run.
+const RUN_RECORDS: usize = 1024;
+
+#[derive(Clone, Copy)]
+pub enum Side {
+    Rattle,
+    Plain,
+    /// Calls a function that returns at once: what the loop itself costs.
+    Nothing,
+}
+
+#[derive(Clone, Copy)]
+pub enum Call {
+    Single,
+    Run,
+}
+
+/// One side's own words and its answers.
+pub struct Bench<'a> {
+    workload: &'a Workload,
+    words: Words,
+    answers: Vec<u16>,
+}
+
+type EventCall = fn(&mut [u16], u8, u8, u8, u8, u8, u8, &mut [u16], &mut [u16], &mut [u16]) -> u8;
+type RunCall = fn(&mut [u16], &[u8], &mut [u16], &mut [u16], &mut [u16]) -> u8;
+
+#[allow(clippy::too_many_arguments)] // it stands in for a call with as many
+#[inline(never)]
+fn no_event(
+    _: &mut [u16],
+    _: u8,
+    _: u8,
+    _: u8,
+    _: u8,
+    _: u8,
+    _: u8,
+    _: &mut [u16],
+    _: &mut [u16],
+    _: &mut [u16],
+) -> u8 {
+    0
+}
+
+#[inline(never)]
+fn no_run(_: &mut [u16], _: &[u8], _: &mut [u16], _: &mut [u16], _: &mut [u16]) -> u8 {
+    0
+}
+
+impl<'a> Bench<'a> {
+    pub fn new(workload: &'a Workload) -> Bench<'a> {
+        Bench {
+            workload,
+            words: workload.words.clone(),
+            answers: vec![0; ANSWER_WORDS * RUN_RECORDS],
+        }
+    }
+
+    /// Sends the workload's records so many times.
+    pub fn cycles(&mut self, side: Side, call: Call, cycles: usize) {
+        // Hidden from the optimiser, so that the arguments of a call that ignores them are passed.
+        let (no_event, no_run): (EventCall, RunCall) = black_box((no_event, no_run));
+        for _ in 0..cycles {
+            match (call, side) {
+                (Call::Single, Side::Rattle) => self.single_events(raw::event),
+                (Call::Single, Side::Plain) => self.single_events(plain::event),
+                (Call::Single, Side::Nothing) => self.single_events(no_event),
+                (Call::Run, Side::Rattle) => self.runs(raw::run),
+                (Call::Run, Side::Plain) => self.runs(plain::run),
+                (Call::Run, Side::Nothing) => self.runs(no_run),
+            }
+        }
+    }
+
+    #[inline(never)]
+    fn single_events<F>(&mut self, event: F)
+    where
+        F: Fn(&mut [u16], u8, u8, u8, u8, u8, u8, &mut [u16], &mut [u16], &mut [u16]) -> u8,
+    {
+        let Words {
+            state,
+            sectors,
+            staging,
+        } = &mut self.words;
+        for &[_, _, port, kind, a0, a1, a2, a3] in &self.workload.records {
+            let answer = &mut self.answers;
+            black_box(event(
+                state, port, kind, a0, a1, a2, a3, sectors, staging, answer,
+            ));
+        }
+    }
+
+    #[inline(never)]
+    fn runs<F>(&mut self, run: F)
+    where
+        F: Fn(&mut [u16], &[u8], &mut [u16], &mut [u16], &mut [u16]) -> u8,
+    {
+        let Words {
+            state,
+            sectors,
+            staging,
+        } = &mut self.words;
+        for records in self.workload.records.chunks(RUN_RECORDS) {
+            let answers = &mut self.answers;
+            black_box(run(
+                state,
+                records.as_flattened(),
+                sectors,
+                staging,
+                answers,
+            ));
+        }
+    }
+
+    /// Whether two sides that did the same work came to the same words.
+    pub fn agrees_with(&self, other: &Bench) -> bool {
+        self.words.state == other.words.state
+            && self.words.sectors == other.words.sectors
+            && self.words.staging == other.words.staging
+            && self.answers == other.answers
+    }
+}

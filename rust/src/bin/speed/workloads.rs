@@ -1,0 +1,196 @@
+//! The streams of events that are measured.
+
+use crate::shared::plain::{self, ANSWER_WORDS, RECORD_OCTETS, STATE_WORDS};
+use crate::shared::random::Random;
+use crate::shared::streams::{likely_event, record, EventOctets};
+
+/// The number of cylinders of the big drives.
+const MANY_CYLINDERS: u16 = 4096;
+const ADDRESS: u16 = 3;
+
+pub struct Workload {
+    pub name: &'static str,
+    pub words: Words,
+    /// The records of one cycle, which may be sent again and again.
+    pub records: Vec<[u8; RECORD_OCTETS]>,
+}
+
+/// What is lent to a drive.
+#[derive(Clone)]
+pub struct Words {
+    pub state: Vec<u16>,
+    pub sectors: Vec<u16>,
+    pub staging: Vec<u16>,
+}
+
+struct Stream {
+    random: Random,
+    words: Words,
+    records: Vec<[u8; RECORD_OCTETS]>,
+}
+
+/// All workloads, in the order of the table.
+pub fn all() -> Vec<Workload> {
+    vec![
+        verify_writes("a  verify-writes", 2),
+        long_writes("b  1,024-word writes", 2),
+        long_reads("c  1,024-word reads", 2),
+        mixed("d  mixed", 2),
+        verify_writes("ea verify-writes, 4,096 cylinders", MANY_CYLINDERS),
+        long_writes("eb 1,024-word writes, 4,096 cylinders", MANY_CYLINDERS),
+        long_reads("ec 1,024-word reads, 4,096 cylinders", MANY_CYLINDERS),
+        mixed("ed mixed, 4,096 cylinders", MANY_CYLINDERS),
+    ]
+}
+
+/// Header 1, field 1 of 2, field 2 of 1.
+fn bench_drive(cylinders: u16) -> Words {
+    Words::powered_up([cylinders, 2, 3, 1, 2, 1, ADDRESS])
+}
+
+/// No header, field 1 of 1,024.
+fn long_sector_drive(cylinders: u16) -> Words {
+    Words::powered_up([cylinders, 2, 3, 0, 1024, 0, ADDRESS])
+}
+
+fn verify_writes(name: &'static str, cylinders: u16) -> Workload {
+    let mut stream = Stream::selected(bench_drive(cylinders));
+    for _ in 0..400 {
+        stream.position();
+        for (control, field_words) in [(0x85, 2), (0x86, 1), (0x87, 3)] {
+            stream.push(3, [control, 0, 0, 0]);
+            stream.push(4, [0; 4]); // the stored headers are 0
+            stream.words_from_host(field_words);
+        }
+    }
+    stream.deselected(name)
+}
+
+fn long_writes(name: &'static str, cylinders: u16) -> Workload {
+    let mut stream = Stream::selected(long_sector_drive(cylinders));
+    for _ in 0..8 {
+        stream.position();
+        stream.push(3, [0x89, 0, 0, 0]);
+        stream.words_from_host(1024);
+    }
+    stream.deselected(name)
+}
+
+fn long_reads(name: &'static str, cylinders: u16) -> Workload {
+    let mut stream = Stream::selected(long_sector_drive(cylinders));
+    for _ in 0..8 {
+        stream.position();
+        stream.push(3, [0xC1, 0, 0, 0]);
+        for _ in 0..1024 {
+            stream.push(5, [0; 4]);
+        }
+    }
+    stream.deselected(name)
+}
+
+/// All kinds of events from both ports, with refusals and takeovers.
+fn mixed(name: &'static str, cylinders: u16) -> Workload {
+    let mut stream = Stream::new(bench_drive(cylinders));
+    let mut drive = stream.words.clone();
+    for _ in 0..16_384 {
+        let event = drive.likely_event(&mut stream.random);
+        stream.records.push(record(0, event));
+    }
+    stream.named(name)
+}
+
+impl Words {
+    fn powered_up(setup: [u16; 7]) -> Words {
+        let [cylinders, heads, per_track, header, field1, field2, address] = setup;
+        let one = usize::from(header + field1 + field2);
+        let count = usize::from(cylinders) * usize::from(heads) * usize::from(per_track);
+        let (sectors, staging) = (vec![0; count * one], vec![0; one]);
+        let mut state = vec![0; STATE_WORDS];
+        let returned = plain::power_up(
+            cylinders, heads, per_track, header, field1, field2, address, &sectors, &staging,
+            &mut state,
+        );
+        assert_eq!(returned, 0, "the set-up of a workload");
+        Words {
+            state,
+            sectors,
+            staging,
+        }
+    }
+
+    /// Sends itself an event that suits its state, and says which.
+    fn likely_event(&mut self, random: &mut Random) -> EventOctets {
+        let Words {
+            state,
+            sectors,
+            staging,
+        } = self;
+        let sound = state.first_chunk().expect("a whole state");
+        let event = likely_event(random, sound, sectors);
+        let [port, kind, a0, a1, a2, a3] = event;
+        let mut answer = [0; ANSWER_WORDS];
+        plain::event(
+            state,
+            port,
+            kind,
+            a0,
+            a1,
+            a2,
+            a3,
+            sectors,
+            staging,
+            &mut answer,
+        );
+        event
+    }
+}
+
+impl Stream {
+    fn new(words: Words) -> Stream {
+        Stream {
+            random: Random::new(0x5EED),
+            words,
+            records: Vec::new(),
+        }
+    }
+
+    /// A stream of port 0's that begins with its selection.
+    fn selected(words: Words) -> Stream {
+        let mut stream = Stream::new(words);
+        stream.push(1, [(ADDRESS << 4) as u8, 0, 0, 0]);
+        stream
+    }
+
+    fn deselected(mut self, name: &'static str) -> Workload {
+        self.push(2, [0; 4]);
+        self.named(name)
+    }
+
+    fn named(self, name: &'static str) -> Workload {
+        let Stream { words, records, .. } = self;
+        Workload {
+            name,
+            words,
+            records,
+        }
+    }
+
+    fn push(&mut self, kind: u8, [a0, a1, a2, a3]: [u8; 4]) {
+        self.records.push(record(0, [0, kind, a0, a1, a2, a3]));
+    }
+
+    /// To a random place in the drive.
+    fn position(&mut self) {
+        let mut below = |at: usize| self.random.below(self.words.state[at].into());
+        let (cylinder, head, sector) = (below(0), below(1), below(2));
+        let [high, low] = (cylinder as u16).to_be_bytes();
+        self.push(7, [high, low, head as u8, sector as u8]);
+    }
+
+    fn words_from_host(&mut self, count: usize) {
+        for _ in 0..count {
+            let [high, low] = self.random.word().to_be_bytes();
+            self.push(4, [high, low, 0, 0]);
+        }
+    }
+}

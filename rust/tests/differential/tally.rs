@@ -1,0 +1,131 @@
+//! How often each behaviour occurred, so that a comparison that saw little is noticed.
+
+use crate::shared::streams::EventOctets;
+use pantoglide::raw::{ABSENT, ANSWER_WORDS, STATE_WORDS};
+use std::collections::BTreeMap;
+use std::fmt;
+
+const REFUSALS: [u16; 11] = [0, 1, 2, 3, 4, 5, 6, 7, 8, 10, 11];
+const STATUSES: [u16; 4] = [0x0, 0x7, 0x8, 0xC];
+const BEHAVIOURS: [&str; 10] = [
+    "a write finished",
+    "a verify went past its header",
+    "a read finished",
+    "a transfer ended early",
+    "a transfer opened at target",
+    "a transfer without words",
+    "a takeover",
+    "a takeover cut a transfer short",
+    "a holder selected again",
+    "a reset",
+];
+
+#[derive(Default)]
+pub struct Tally {
+    events: usize,
+    refusals: BTreeMap<u16, usize>,
+    statuses: BTreeMap<u16, usize>,
+    behaviours: BTreeMap<&'static str, usize>,
+    runs: BTreeMap<u8, usize>,
+}
+
+impl Tally {
+    pub fn events(&self) -> usize {
+        self.events
+    }
+
+    /// One event: the state before it, what it returned and the answer if it was accepted.
+    pub fn single(
+        &mut self,
+        before: &[u16; STATE_WORDS],
+        event: EventOctets,
+        returned: u8,
+        answer: &[u16],
+    ) {
+        self.events += 1;
+        *self.refusals.entry(returned.into()).or_default() += 1;
+        if returned == 0 {
+            self.status(answer[1]);
+            for behaviour in behaviours(before, event, answer) {
+                *self.behaviours.entry(behaviour).or_default() += 1;
+            }
+        }
+    }
+
+    /// A run and its answers.
+    pub fn run(&mut self, returned: u8, answers: &[u16]) {
+        *self.runs.entry(returned).or_default() += 1;
+        for answer in answers.chunks_exact(ANSWER_WORDS) {
+            self.events += 1;
+            *self.refusals.entry(answer[0]).or_default() += 1;
+            self.status(answer[1]);
+        }
+    }
+
+    fn status(&mut self, status: u16) {
+        if status != ABSENT {
+            *self.statuses.entry(status).or_default() += 1;
+        }
+    }
+
+    pub fn assert_all_occurred(&self) {
+        for number in REFUSALS {
+            assert!(self.refusals.contains_key(&number), "no refusal {number}");
+        }
+        for status in STATUSES {
+            assert!(self.statuses.contains_key(&status), "no status {status:X}");
+        }
+        for behaviour in BEHAVIOURS {
+            assert!(self.behaviours.contains_key(behaviour), "never {behaviour}");
+        }
+        for returned in [0, 8, 10] {
+            assert!(self.runs.contains_key(&returned), "no run gave {returned}");
+        }
+    }
+}
+
+/// What an accepted event showed.
+fn behaviours(
+    before: &[u16; STATE_WORDS],
+    [port, kind, octet, ..]: EventOctets,
+    answer: &[u16],
+) -> Vec<&'static str> {
+    let (owner, header, control, moved) = (before[8], before[3], before[14], before[15]);
+    let (finished, opened) = (answer[1] == 0, answer[2] != ABSENT);
+    let taken_over = kind == 1 && owner == 1 - u16::from(port);
+    let shown = [
+        kind == 4 && finished,
+        kind == 4 && control & 0xC == 4 && moved + 1 == header && answer[1] != 7,
+        kind == 5 && finished,
+        kind == 6,
+        kind == 3 && opened && octet & 0xC == 0xC,
+        kind == 3 && finished && octet != 0x90,
+        taken_over,
+        taken_over && control != 0,
+        kind == 1 && owner == u16::from(port),
+        kind == 10,
+    ];
+    let named = BEHAVIOURS.into_iter().zip(shown);
+    named
+        .filter_map(|(name, shown)| shown.then_some(name))
+        .collect()
+}
+
+impl fmt::Display for Tally {
+    fn fmt(&self, out: &mut fmt::Formatter<'_>) -> fmt::Result {
+        writeln!(out, "{} events", self.events)?;
+        for (number, count) in &self.refusals {
+            writeln!(out, "refusal {number:2} (0: accepted): {count}")?;
+        }
+        for (status, count) in &self.statuses {
+            writeln!(out, "status {status:X}: {count}")?;
+        }
+        for (returned, count) in &self.runs {
+            writeln!(out, "runs that gave {returned}: {count}")?;
+        }
+        for (behaviour, count) in &self.behaviours {
+            writeln!(out, "{behaviour}: {count}")?;
+        }
+        Ok(())
+    }
+}
