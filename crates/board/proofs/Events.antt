@@ -46,7 +46,7 @@ hold-by word true one e f h = sym (eqb-true word 0 e)
 hold-by word false true e f h = sym (eqb-true word 1 f)
 hold-by word false false e f h = omega (arith, eqb-false word 0 e, eqb-false word 1 f)
 
-hold-back : (word : ℕ) → word < 3 → holdWord (holdOf word) ≡ word
+pub hold-back : (word : ℕ) → word < 3 → holdWord (holdOf word) ≡ word
 unfolding holdOf
 hold-back word h = hold-by word (eqb word 0) (eqb word 1) refl refl h
 
@@ -67,7 +67,7 @@ unfolding pick
 unmoved-by state true h k = moved-back state h k
 unmoved-by state false h k = refl
 
-unmoved : (state : List ℕ) → 18 ≤ length state → stateAfter state (driveIn state) ≡ state
+pub unmoved : (state : List ℕ) → 18 ≤ length state → stateAfter state (driveIn state) ≡ state
 unfolding stateAfter
 unmoved state h = unmoved-by state (holdIsKnown state) h refl
 
@@ -99,7 +99,7 @@ first-word (Word w) = refl
 first-word (LastWord w) = refl
 first-word (Response octet0 octet1 octet2) = refl
 
-numbered-refused : (answer : Answer) → (refusalIn answer ≡ 0 → ⊥) → isRefused answer ≡ true
+pub numbered-refused : (answer : Answer) → (refusalIn answer ≡ 0 → ⊥) → isRefused answer ≡ true
 numbered-refused (Refused n) h = refl
 numbered-refused Done h = absurd (h refl)
 numbered-refused (Status s) h = absurd (h refl)
@@ -143,7 +143,7 @@ one state sectors staging told₀ port kind a0 a1 a2 a3 n state′ sectors′ st
 
 -- ---- the promise
 
-kept : {A : Type 0} (n : ℕ) (old new : A) → (n ≡ 0 → ⊥) → unlessRefused n old new ≡ old
+pub kept : {A : Type 0} (n : ℕ) (old new : A) → (n ≡ 0 → ⊥) → unlessRefused n old new ≡ old
 kept zero old new h = absurd (h refl)
 kept (suc n) old new h = refl
 

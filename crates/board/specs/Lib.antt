@@ -3,3 +3,4 @@ pub mod Power
 pub mod Event
 pub mod Run
 pub mod Line
+pub mod Singles

@@ -1,0 +1,161 @@
+-- `run-is-singles`: a run does what so many single events do.
+-- Assumes nothing.
+use Prim.Native.Nat.{ℕ, zero, suc, _≤_}
+use mathlib.Core.Path.{_≡_, refl, sym, ap, _∙_}
+use mathlib.Core.Bool.{Bool, true, false, not, or-true, true≢false, _||_}
+use mathlib.Core.List.{List, [], _∷_, _++_}
+use native.Mathlib.Omega.{arith}
+use borrow.Author.Tests.{le-ltb, ltb-false}
+use lib.Dec.{ltb}
+use lib.ListN.{length, take, drop}
+use lib.Seq.{take-at, take-append-seam}
+use Rattle.laws.specs.Pick.{pick}
+use Rattle.parts.specs.Setup.{withinLimits}
+use Rattle.parts.specs.Tests.{isOutsideLimits}
+use Rattle.parts.specs.declared.event.Event.{Event}
+use Rattle.drive.specs.Answer.{refusalIn}
+use Rattle.drive.specs.Accepted.{isRefused}
+use Rattle.drive.specs.Refusal.{row11}
+use Rattle.drive.specs.State.{Result}
+use Rattle.drive.specs.Event.{handled}
+use Rattle.drive.specs.Run.{Machine, machine, answerTo, after, answers, final}
+use Rattle.drive.specs.Batch.{eventsOf}
+use Rattle.drive.specs.AnswerWords.{answerWords, allWords}
+use Rattle.drive.specs.declared.drive.Drive.{Drive}
+use Rattle.drive.specs.declared.answer.Answer.{Answer}
+use Rattle.drive.specs.declared.answer.Answer.the-variants.{Refused, Done, Status, Opened, Word, LastWord, Response}
+use Rattle.drive.proofs.Laws.{refused-changes-nothing}
+use Rattle.drive.proofs.Step.{refused-with-11}
+use Rattle.drive.proofs.StaysSound.{same-size}
+use Rattle.drive.proofs.Turns.{thirteen}
+use Rattle.board.specs.State.{holdIsKnown, selectedIn, driveIn, movedTo, stateAfter}
+use Rattle.board.specs.Event.{machineIn, eventRefusal, EventOnWords}
+use Rattle.board.specs.Run.{runRefusal, RunOnWords}
+use Rattle.board.specs.Singles.{Words, words, toldBy, Singles, none, one, RunIsSingles}
+use Rattle.board.proofs.Events.{unmoved, numbered-refused}
+use Rattle.board.proofs.Octets.{octets-after}
+use Rattle.board.proofs.Back.{drive-again, long-again, after-again, octets-in}
+
+-- ---- an answer by its refusal
+
+refused-answer : (answer : Answer) (n : ℕ) → refusalIn answer ≡ suc n → answer ≡ Refused (suc n)
+refused-answer (Refused m) n e = ap Refused e
+refused-answer Done n e = absurd (omega arith)
+refused-answer (Status s) n e = absurd (omega arith)
+refused-answer (Opened m p) n e = absurd (omega arith)
+refused-answer (Word w) n e = absurd (omega arith)
+refused-answer (LastWord w) n e = absurd (omega arith)
+refused-answer (Response octet0 octet1 octet2) n e = absurd (omega arith)
+
+unsound-hold : (state : List ℕ) → holdIsKnown state ≡ false → row11 (driveIn state) ≡ true
+unfolding row11 isOutsideLimits driveIn selectedIn pick
+unsound-hold state k = rw (k, or-true (not (withinLimits (driveIn state .setup))))
+
+-- an event is accepted only on a state whose hold is one of the three
+hold-taken : (state : List ℕ) (e : Event) (sectors staging : List ℕ) (known : Bool) → holdIsKnown state ≡ known → refusalIn (answerTo (machineIn state sectors staging) e) ≡ 0 → known ≡ true
+unfolding answerTo
+hold-taken state e sectors staging true k z = refl
+hold-taken state e sectors staging false k z =
+    let refused = refused-with-11 (driveIn state) e sectors staging (unsound-hold state k) in
+    absurd (let n : 11 ≡ 0 = sym (ap (λ (r : Result). refusalIn (r .outcome .answer)) refused) ∙ z in omega arith)
+
+moved-known : (state : List ℕ) (d : Drive) → holdIsKnown state ≡ true → stateAfter state d ≡ movedTo state d
+unfolding stateAfter pick
+moved-known state d k = rw k
+
+-- a run that is not refused has a state
+state-by : (state records out : List ℕ) (short : Bool) → ltb (length state) 18 ≡ short → 0 ≡ runRefusal state records out → 18 ≤ length state
+unfolding pick
+state-by state records out false e z = ltb-false (length state) 18 e
+state-by state records out true e z = absurd (let n : 0 ≡ 10 = rw e at z in omega arith)
+
+state-there : {state records sectors staging out state′ sectors′ staging′ out′ : List ℕ} → RunOnWords state records sectors staging out 0 state′ sectors′ staging′ out′ → 18 ≤ length state
+state-there {state} {records} {out = out} run = state-by state records out (ltb (length state) 18) refl (run .refusal)
+
+-- ---- one call
+
+record Going (w : Words) (e : Event) (words′ : List ℕ) (w′ : Words) : Type 0 where
+  long : 18 ≤ length (w′ .state)
+  machine : machineIn (w′ .state) (w′ .sectors) (w′ .staging) ≡ after (machineIn (w .state) (w .sectors) (w .staging)) e
+  state : (d : Drive) → stateAfter (w′ .state) d ≡ stateAfter (w .state) d
+  told : words′ ≡ answerWords (answerTo (machineIn (w .state) (w .sectors) (w .staging)) e)
+
+no-room-needed : (state answer : List ℕ) → 18 ≤ length state → 13 ≤ length answer → (ltb (length state) 18 || ltb (length answer) 13) ≡ false
+no-room-needed state answer h k = rw (le-ltb (length state) 18 h, le-ltb (length answer) 13 k)
+
+its-refusal : {state : List ℕ} {e : Event} {sectors staging answer : List ℕ} {r : ℕ} {state′ sectors′ staging′ answer′ : List ℕ} → 18 ≤ length state → 13 ≤ length answer
+    → EventOnWords state e sectors staging answer r state′ sectors′ staging′ answer′ → r ≡ refusalIn (answerTo (machineIn state sectors staging) e)
+unfolding pick
+its-refusal {state} {answer = answer} h k call = rw (no-room-needed state answer h k) at (call .refusal)
+
+-- a refused one
+going-refused : {state : List ℕ} {e : Event} {sectors staging answer : List ℕ} {r : ℕ} {state′ sectors′ staging′ answer′ : List ℕ} (n : ℕ) → r ≡ suc n
+    → 18 ≤ length state → 13 ≤ length answer → EventOnWords state e sectors staging answer r state′ sectors′ staging′ answer′
+    → Going (words state sectors staging) e (toldBy r answer′) (words state′ sectors′ staging′)
+going-refused {state} {e} {sectors} {staging} {answer} {r} n z h k call =
+    let m = machineIn state sectors staging in
+    let refusal : refusalIn (answerTo m e) ≡ suc n = sym (its-refusal h k call) ∙ z in
+    let still = refused-changes-nothing m e (numbered-refused (answerTo m e) (λ y. omega arith)) in
+    let s = rw z at (call .state) in
+    record {
+      long = rw s h;
+      machine = rw (s, rw z at (call .sectors), rw z at (call .staging)) (sym still);
+      state = λ d. rw s;
+      told = rw (z, refused-answer (answerTo m e) n refusal);
+    }
+
+-- an accepted one
+going-accepted : {state : List ℕ} {e : Event} {sectors staging answer : List ℕ} {r : ℕ} {state′ sectors′ staging′ answer′ : List ℕ} → r ≡ 0
+    → 18 ≤ length state → 13 ≤ length answer → EventOnWords state e sectors staging answer r state′ sectors′ staging′ answer′
+    → Going (words state sectors staging) e (toldBy r answer′) (words state′ sectors′ staging′)
+going-accepted {state} {e} {sectors} {staging} {answer} z h k call =
+    let m = machineIn state sectors staging in
+    let d = after m e .drive in
+    let known = hold-taken state e sectors staging (holdIsKnown state) refl (sym (its-refusal h k call) ∙ z) in
+    let s = (rw z at (call .state)) ∙ moved-known state d known in
+    let again = drive-again state d h (octets-after m e (octets-in state)) (same-size m e .setup) in
+    record {
+      long = rw s (long-again state d h);
+      machine = rw (s, rw z at (call .sectors), rw z at (call .staging), again);
+      state = λ d′. rw s (after-again state d d′ h known);
+      told = rw (z, rw z at (call .answer)) (take-at (answerWords (answerTo m e)) _ 13 (thirteen (answerTo m e)));
+    }
+
+going : {state : List ℕ} {e : Event} {sectors staging answer : List ℕ} {state′ sectors′ staging′ answer′ : List ℕ} (r : ℕ) → 18 ≤ length state → 13 ≤ length answer
+    → EventOnWords state e sectors staging answer r state′ sectors′ staging′ answer′
+    → Going (words state sectors staging) e (toldBy r answer′) (words state′ sectors′ staging′)
+going zero = going-accepted refl
+going (suc n) = going-refused n refl
+
+-- ---- calls one after another
+
+record Gone (w : Words) (events : List Event) (told₁ : List ℕ) (w′ : Words) : Type 0 where
+  state : w′ .state ≡ stateAfter (w .state) (final (machineIn (w .state) (w .sectors) (w .staging)) events .drive)
+  sectors : w′ .sectors ≡ final (machineIn (w .state) (w .sectors) (w .staging)) events .sectors
+  staging : w′ .staging ≡ final (machineIn (w .state) (w .sectors) (w .staging)) events .staging
+  told : told₁ ≡ allWords (answers (machineIn (w .state) (w .sectors) (w .staging)) events)
+
+gone : {w : Words} {events : List Event} {told : List ℕ} {w′ : Words} → 18 ≤ length (w .state) → Singles w events told w′ → Gone w events told w′
+unfolding final answers allWords
+gone {w} h none = record { state = sym (unmoved (w .state) h); sectors = refl; staging = refl; told = refl }
+gone h (one {r = r} {events = events} room call more) =
+    let g = going r h room call in
+    let rest = gone (g .long) more in
+    record {
+      state = rest .state ∙ g .state _ ∙ rw (g .machine);
+      sectors = rest .sectors ∙ ap (λ (x : Machine). final x events .sectors) (g .machine);
+      staging = rest .staging ∙ ap (λ (x : Machine). final x events .staging) (g .machine);
+      told = rw (g .told, rest .told, g .machine);
+    }
+
+as-run : {state records sectors staging out state′ sectors′ staging′ out′ told : List ℕ} {w : Words} → 18 ≤ length state
+    → RunOnWords state records sectors staging out 0 state′ sectors′ staging′ out′ → Singles (words state sectors staging) (eventsOf records) told w
+    → (words state′ sectors′ staging′ ≡ w) × (take (length told) out′ ≡ told)
+as-run h run singles =
+    let g = gone h singles in (
+      λ i. record { state = (run .state ∙ sym (g .state)) i; sectors = (run .sectors ∙ sym (g .sectors)) i; staging = (run .staging ∙ sym (g .staging)) i },
+      rw (g .told, run .out) (take-append-seam _ _),
+    )
+
+pub run-is-singles : RunIsSingles
+run-is-singles = record { same = λ run singles. as-run (state-there run) run singles }
