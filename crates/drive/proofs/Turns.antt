@@ -13,6 +13,7 @@ use Rattle.laws.proofs.Runs.{rest-whole}
 use Rattle.laws.specs.Pick.{pick}
 use Rattle.laws.specs.Lists.{writtenOver}
 use Rattle.parts.specs.declared.event.Event.{Event}
+use Rattle.parts.specs.declared.setup.Setup.{Setup}
 use Rattle.drive.specs.Answer.{paper}
 use Rattle.drive.specs.Refusal.{row11, row10}
 use Rattle.drive.specs.State.{Result, result}
@@ -27,7 +28,7 @@ use Rattle.drive.specs.declared.answer.Outcome.{Outcome}
 use Rattle.drive.specs.declared.answer.Answer.{Answer}
 use Rattle.drive.specs.declared.answer.Answer.the-variants.{Refused, Done, Status, Opened, Word, LastWord, Response}
 use Rattle.drive.proofs.Step.{refused-with-10, refused-with-11}
-use Rattle.drive.proofs.StaysSound.{sound-after}
+use Rattle.drive.proofs.StaysSound.{sound-after, same-size}
 
 -- ---- what rows 11 and 10 say
 
@@ -87,6 +88,19 @@ thirteen (Word w) = refl
 thirteen (LastWord w) = refl
 thirteen (Response octet0 octet1 octet2) = refl
 
+-- the drive with another set-up
+abbrev pub withSetup : Drive → Setup → Drive
+withSetup d s =
+    record {
+      setup = s;
+      holding = d .holding;
+      place = d .place;
+      target = d .target;
+      transfer = d .transfer;
+      pending0 = d .pending0;
+      pending1 = d .pending1;
+    }
+
 -- ---- a turn: the first event of the rest is answered, and its words follow those that are written
 
 -- From the start to where the events `rest` are left: they end as all do, and their answers' words complete those of all.
@@ -95,14 +109,24 @@ pub record Turned (start : Machine) (events : List Event) (out₀ : List ℕ) (m
   pub written : take at out ++ allWords (answers m rest) ≡ allWords (answers start events)
   pub left : drop at out ≡ drop at out₀
 
+-- the set-up is the same after an event, so that it may be put in again
+setup-put : (d : Drive) (e : Event) (sectors staging : List ℕ) (r : Outcome) (sectors′ staging′ : List ℕ) → result r sectors′ staging′ ≡ handled d e sectors staging
+    → withSetup (r .drive) (d .setup) ≡ r .drive
+unfolding after
+setup-put d e sectors staging r sectors′ staging′ h =
+    let same : r .drive .setup ≡ d .setup = ap (λ (x : Result). x .outcome .drive .setup) h ∙ same-size (machine d sectors staging) e .setup in
+    λ i. withSetup (r .drive) (sym same i)
+
 -- the outcome of an event, and its answer's words, as a turn
 pub taken : (d : Drive) (e : Event) (sectors staging out : List ℕ) (r : Outcome) (sectors′ staging′ out′ : List ℕ)
     → result r sectors′ staging′ ≡ handled d e sectors staging → out′ ≡ writtenOver out (answerWords (r .answer))
-    → TurnTaken (machine d sectors staging) e out (machine (r .drive) sectors′ staging′) out′
+    → TurnTaken (machine d sectors staging) e out (machine (withSetup (r .drive) (d .setup)) sectors′ staging′) out′
 unfolding after answerTo
 taken d e sectors staging out r sectors′ staging′ out′ h w =
     record {
-      machine = ap (λ (x : Result). machine (x .outcome .drive) (x .sectors) (x .staging)) h;
+      machine =
+          ap (λ (x : Drive). machine x sectors′ staging′) (setup-put d e sectors staging r sectors′ staging′ h)
+          ∙ ap (λ (x : Result). machine (x .outcome .drive) (x .sectors) (x .staging)) h;
       out = w ∙ ap (λ (x : Result). writtenOver out (answerWords (x .outcome .answer))) h;
     }
 

@@ -101,11 +101,14 @@ fn turn(
     requires { ⌜ (judged ≡ judgement drive (now sectors) (now staging)) × (8 ≤ length (now octets)) × (13 ≤ length (now out)) ⌝ }
     ensures { λ r. ⌜ TurnTaken (machine drive (now (sectors .entry)) (now (staging .entry))) (eventOf (now (octets .entry))) (now (out .entry)) (machine r (now (sectors .exit)) (now (staging .exit))) (now (out .exit)) ⌝ }
 {
+    let s = drive.setup;
     let event = event_at(octets);
     let outcome = answered(drive, judged, event, sectors, staging);
     let answer = outcome.answer;
-    let next = outcome.drive;
+    let mut next = outcome.drive;
     answer_words::put_answer(answer, out);
+    // No event changes the set-up: said here so that a batch need not carry it from turn to turn.
+    next.setup = s;
     next
 }
 

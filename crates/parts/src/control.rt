@@ -26,32 +26,18 @@ pub fn control_of(octet: u16) -> Control
     }
 }
 
+// By bits, since it is asked at every word: 80 to 9F but 80 to 83 and 90 to 93.
 pub fn is_write(control: u16) -> bool
     ensures { λ r. ⌜ r ≡ isWrite (controlOf control) ⌝ }
 {
-    let asked = control_of(control);
-    match asked {
-        Control::Write => true,
-        Control::Read => false,
-        Control::StepHead => false,
-        Control::Reserved => false,
-        Control::Unsupported => false,
-        Control::Invalid => false,
-    }
+    (control / 32 == 4) & (control / 4 % 4 != 0)
 }
 
+// C0 to DF but D0.
 pub fn is_read(control: u16) -> bool
     ensures { λ r. ⌜ r ≡ isRead (controlOf control) ⌝ }
 {
-    let asked = control_of(control);
-    match asked {
-        Control::Write => false,
-        Control::Read => true,
-        Control::StepHead => false,
-        Control::Reserved => false,
-        Control::Unsupported => false,
-        Control::Invalid => false,
-    }
+    (control / 32 == 6) & (control != 0xd0)
 }
 
 pub fn names_field1(control: u16) -> bool

@@ -29,7 +29,7 @@ same-length-3 c = search needs
 
 returns : tie.Need-returns
 returns c =
-    let a = c .before .before .before .before .before .before .before .before .before .before .before .before .before .before .before .before .before .args in
+    let a = c .before .before .before .before .before .before .before .before .before .before .before .before .before .before .before .before .before .before .args in
     taken (a .drive) (eventOf (a .octets .now)) (a .sectors .now) (a .staging .now) (a .out .now) _ _ _ _ (c .before .before .before .before .before .before .before .before .before .answered .ensures ∙ ap (λ (e : Event). handled (a .drive) e (a .sectors .now) (a .staging .now)) (c .before .before .before .before .before .before .before .before .before .before .before .before .event-at .ensures)) (c .before .before .put-answer .ensures)
 
 pub turn-spec : {M : Type 1} → statement M

@@ -1,62 +1,12 @@
 -- `is_read` meets its contract.
 -- Assumes nothing.
-use borrow.Author.Needs.{needs}
+use mathlib.Core.Path.{sym}
+use Rattle.parts.proofs.ByBits.{reads-by-bits}
 use Rattle.parts.proofs.control.is_read.Statement.{statement}
 use Rattle.parts.proofs.control.is_read.Tie as tie
 
-control-of-requires : tie.Need-control-of-requires
-control-of-requires c κs = search needs
-
-enum-told : tie.Need-enum-told
-enum-told c = search needs
-
-enum-told-2 : tie.Need-enum-told-2
-enum-told-2 c = search needs
-
-enum-told-3 : tie.Need-enum-told-3
-enum-told-3 c = search needs
-
-enum-told-4 : tie.Need-enum-told-4
-enum-told-4 c = search needs
-
-enum-told-5 : tie.Need-enum-told-5
-enum-told-5 c = search needs
-
-enum-told-6 : tie.Need-enum-told-6
-enum-told-6 c = search needs
-
 returns : tie.Need-returns
-returns c = rw (← (c .before .before .control-of .ensures), c .enum-told .given .1)
-
-returns-2 : tie.Need-returns-2
-returns-2 c = rw (← (c .before .before .control-of .ensures), c .enum-told2 .given .1)
-
-returns-3 : tie.Need-returns-3
-returns-3 c = rw (← (c .before .before .control-of .ensures), c .enum-told3 .given .1)
-
-returns-4 : tie.Need-returns-4
-returns-4 c = rw (← (c .before .before .control-of .ensures), c .enum-told4 .given .1)
-
-returns-5 : tie.Need-returns-5
-returns-5 c = rw (← (c .before .before .control-of .ensures), c .enum-told5 .given .1)
-
-returns-6 : tie.Need-returns-6
-returns-6 c = rw (← (c .before .before .control-of .ensures), c .enum-told6 .given .1)
+returns c = sym (reads-by-bits (c .args .control))
 
 pub is-read-spec : {M : Type 1} → statement M
-is-read-spec =
-    tie.close
-    (tie.spec
-    control-of-requires
-    enum-told
-    enum-told-2
-    enum-told-3
-    enum-told-4
-    enum-told-5
-    enum-told-6
-    returns
-    returns-2
-    returns-3
-    returns-4
-    returns-5
-    returns-6)
+is-read-spec = tie.close (tie.spec returns)
