@@ -1,60 +1,142 @@
-// The bench cases of the lines: "Moves 25→24 and 28→24: undefined. 24→28 straight after selection: undefined."
-use lines::Answer;
-use lines::Follower;
-use lines::Move;
+// The follower of the lines: the bench cases of document 01, the two histories, lost, and refusals 8 and 11.
+use crate::tally::Tally;
+use crate::watch;
+use crate::watch::BY;
+use crate::watch::CONTROLLERS;
+use crate::watch::DRIVES;
+use crate::watch::ENDS;
+use crate::watch::FROM;
+use crate::watch::HANDED;
+use crate::watch::HAS_HISTORY;
+use crate::watch::IS_LOST;
+use crate::watch::LOST;
+use crate::watch::NOW_IDLE;
+use crate::watch::PAIR_LISTED;
+use crate::watch::PAIR_REFUSED;
+use crate::watch::PAIR_UNDEFINED;
+use crate::watch::REFUSED;
+use crate::watch::SAME;
+use crate::watch::UNDEFINED;
 
-pub(crate) fn busctl_to_slavack() -> bool {
-    answers_undefined(after_busctl(), lines::SLAVACK)
-        & pair_is_undefined(lines::BUSCTL, lines::SLAVACK)
+const IDLE: u64 = lines::IDLE as u64;
+
+const DESEL: u64 = lines::DESEL as u64;
+
+const SELECT: u64 = lines::SELECT as u64;
+
+const SLAVEND: u64 = lines::SLAVEND as u64;
+
+const SLAVACK: u64 = lines::SLAVACK as u64;
+
+const BUSCTL: u64 = lines::BUSCTL as u64;
+
+const MASTEND: u64 = lines::MASTEND as u64;
+
+const BUSACK: u64 = lines::BUSACK as u64;
+
+const XFRRDY: u64 = lines::XFRRDY as u64;
+
+const XFREND: u64 = lines::XFREND as u64;
+
+const XFRST: u64 = lines::XFRST as u64;
+
+const XFRRES: u64 = lines::XFRRES as u64;
+
+pub(crate) fn run(tally: Tally) -> Tally {
+    watch::runs(
+        tally,
+        b"\
+25 to 24 is undefined\n\
+28 to 24 is undefined\n\
+24 to 28 straight after selection is undefined\n\
+16 to 0 is undefined unless 16 came from 0\n\
+a repeated setting keeps the history\n\
+lost until 0\n\
+refusal 8: a setting over 31\n\
+refusal 11: a follower no trace reaches\n",
+        &CASES,
+    )
 }
 
-pub(crate) fn xfrrdy_to_slavack() -> bool {
-    answers_undefined(after_xfrrdy(), lines::SLAVACK)
-        & pair_is_undefined(lines::XFRRDY, lines::SLAVACK)
-}
-
-// The pair is listed: only its history is missing.
-pub(crate) fn slavack_to_xfrrdy_after_select() -> bool {
-    answers_undefined(after_select(), lines::XFRRDY)
-        & !pair_is_undefined(lines::SLAVACK, lines::XFRRDY)
-}
-
-fn after_select() -> Follower {
-    Follower::start()
-        .step(lines::SELECT)
-        .follower
-        .step(lines::SLAVACK)
-        .follower
-}
-
-fn after_busctl() -> Follower {
-    after_select().step(lines::BUSCTL).follower
-}
-
-fn after_xfrrdy() -> Follower {
-    after_busctl()
-        .step(lines::BUSACK)
-        .follower
-        .step(lines::MASTEND)
-        .follower
-        .step(lines::SLAVACK)
-        .follower
-        .step(lines::XFRRDY)
-        .follower
-}
-
-fn answers_undefined(follower: Follower, setting: u8) -> bool {
-    let answer = follower.step(setting).answer;
-    match answer {
-        Answer::Undefined => true,
-        _ => false,
-    }
-}
-
-fn pair_is_undefined(old: u8, new: u8) -> bool {
-    let pair = lines::move_of(old, new);
-    match pair {
-        Move::Undefined => true,
-        _ => false,
-    }
-}
+const CASES: [u64; 72] = [
+    // 25 to 24 is undefined
+    SELECT + CONTROLLERS,
+    SLAVACK + DRIVES,
+    BUSCTL + CONTROLLERS,
+    SLAVACK + UNDEFINED,
+    FROM * BUSCTL + SLAVACK + PAIR_UNDEFINED,
+    ENDS,
+    // 28 to 24 is undefined
+    SELECT + CONTROLLERS,
+    SLAVACK + DRIVES,
+    BUSCTL + CONTROLLERS,
+    BUSACK + DRIVES,
+    MASTEND + CONTROLLERS,
+    SLAVACK + DRIVES,
+    XFRRDY + CONTROLLERS,
+    SLAVACK + UNDEFINED,
+    FROM * XFRRDY + SLAVACK + PAIR_UNDEFINED,
+    ENDS,
+    // 24 to 28 straight after selection: the pair is listed, only its history is missing.
+    SELECT + CONTROLLERS,
+    SLAVACK + DRIVES,
+    XFRRDY + UNDEFINED,
+    FROM * SLAVACK + XFRRDY + PAIR_LISTED,
+    ENDS,
+    // 16 to 0: one word passes, and SELECT comes from SLAVEND. IDLE from there is undefined, but the follower is IDLE.
+    SELECT + CONTROLLERS,
+    IDLE + CONTROLLERS,
+    SELECT + CONTROLLERS,
+    SLAVACK + DRIVES,
+    BUSCTL + CONTROLLERS,
+    BUSACK + DRIVES,
+    MASTEND + CONTROLLERS,
+    SLAVACK + DRIVES,
+    XFRRDY + CONTROLLERS,
+    XFRST + DRIVES,
+    XFRRES + CONTROLLERS,
+    XFREND + DRIVES,
+    XFRRDY + CONTROLLERS,
+    SLAVEND + DRIVES,
+    SELECT + CONTROLLERS,
+    IDLE + UNDEFINED,
+    IDLE + SAME,
+    SELECT + CONTROLLERS,
+    ENDS,
+    // a repeated setting keeps the history
+    SELECT + CONTROLLERS,
+    SLAVACK + DRIVES,
+    BUSCTL + CONTROLLERS,
+    BUSACK + DRIVES,
+    MASTEND + CONTROLLERS,
+    SLAVACK + DRIVES,
+    SLAVACK + SAME,
+    XFRRDY + CONTROLLERS,
+    ENDS,
+    // lost until 0
+    XFRRES + UNDEFINED,
+    XFRRES + LOST,
+    SELECT + LOST,
+    IDLE + NOW_IDLE,
+    IDLE + SAME,
+    ENDS,
+    // a setting over 31
+    32 + REFUSED + 8 * BY,
+    255 + REFUSED + 8 * BY,
+    SELECT + CONTROLLERS,
+    SLAVACK + DRIVES,
+    FROM * 32 + 0 + PAIR_REFUSED + 8 * BY,
+    FROM * 0 + 32 + PAIR_REFUSED + 8 * BY,
+    ENDS,
+    // a follower no trace reaches: 11 is tested before 8.
+    HANDED + 2,
+    IDLE + REFUSED + 11 * BY,
+    32 + REFUSED + 11 * BY,
+    HANDED + HAS_HISTORY + DESEL,
+    IDLE + REFUSED + 11 * BY,
+    32 + REFUSED + 11 * BY,
+    HANDED + IS_LOST + 1,
+    IDLE + REFUSED + 11 * BY,
+    32 + REFUSED + 11 * BY,
+    ENDS,
+];

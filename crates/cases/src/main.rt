@@ -1,31 +1,31 @@
-// Runs the bench cases of document 01 that are not marked P through the public calls, and compares: a line each, then a count.
+// Runs the bench cases of document 01 that are not marked P, and further ones, through the public calls, and compares.
+mod bench;
+mod capture_cases;
+mod compare;
+mod control_cases;
+mod decoders;
+mod event_refusal_cases;
+mod handed;
+mod holding_cases;
 mod line_cases;
+mod row;
+mod setup_cases;
+mod state_cases;
+mod status_cases;
+mod tally;
+mod transfer_cases;
+mod watch;
 
-ghost use Prim.Native.Nat.{_≤_};
-use libc::STDOUT_FILENO;
+use tally::Tally;
 
 fn main() {
-    let mut failed: u64 = 0;
-    failed += told(b"25 to 24 is undefined", line_cases::busctl_to_slavack());
-    failed += told(b"28 to 24 is undefined", line_cases::xfrrdy_to_slavack());
-    failed += told(
-        b"24 to 28 straight after selection is undefined",
-        line_cases::slavack_to_xfrrdy_after_select(),
-    );
-    io::print_decimal(STDOUT_FILENO, failed);
-    io::write_all(STDOUT_FILENO, b" of 3 cases differ\n");
-}
-
-// Writes a case's line: 0 if it came out as document 01 says, else 1.
-fn told(case: &[u8], holds: bool) -> u64
-    ensures { λ r. ⌜ r ≤ 1 ⌝ }
-{
-    if holds {
-        io::write_all(STDOUT_FILENO, b"ok ");
-    } else {
-        io::write_all(STDOUT_FILENO, b"DIFFERS ");
-    }
-    io::write_all(STDOUT_FILENO, case);
-    io::write_all(STDOUT_FILENO, b"\n");
-    if holds { 0 } else { 1 }
+    let lines = line_cases::run(Tally::none());
+    let controls = control_cases::run(lines);
+    let transfers = transfer_cases::run(controls);
+    let holdings = holding_cases::run(transfers);
+    let event_refusals = event_refusal_cases::run(holdings);
+    let setups = setup_cases::run(event_refusals);
+    let states = state_cases::run(setups);
+    let statuses = status_cases::run(states);
+    capture_cases::run(statuses).told();
 }
