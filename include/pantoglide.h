@@ -1,6 +1,6 @@
 /* Pantoglide: the proved drive behind a C interface.
  *
- * The archive libboard.a, made by `rt staticlib board` at the project's root, holds the five calls
+ * The archive libboard.a, made by `rt staticlib board` at the project's root, holds the four calls
  * below. None of them allocates, keeps anything between calls or asks the caller to have checked
  * anything: every input gets one of the answers named here, and all calls end.
  *
