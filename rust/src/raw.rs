@@ -1,4 +1,4 @@
-//! The archive's five calls on slices. `include/pantoglide.h` says what each returns and changes.
+//! The archive's four calls on slices. `include/pantoglide.h` says what each returns and changes.
 
 /// Words of a state.
 pub const STATE_WORDS: usize = 18;

@@ -1,1 +1,2 @@
 pub mod ByBits
+pub mod Partners
