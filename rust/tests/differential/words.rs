@@ -45,6 +45,10 @@ fn all_but(words: &mut [u16], held_back: usize) -> &mut [u16] {
     &mut words[..length]
 }
 
+/// An event or a run at the boundary that both sides have.
+type EventCall = fn(&mut [u16], u8, u8, u8, u8, u8, u8, &mut [u16], &mut [u16], &mut [u16]) -> u8;
+type RunCall = fn(&mut [u16], &[u8], &mut [u16], &mut [u16], &mut [u16]) -> u8;
+
 impl Words {
     pub fn state(&self) -> &[u16; raw::STATE_WORDS] {
         self.state.first_chunk().expect("a whole state")
@@ -59,28 +63,40 @@ impl Words {
         }
     }
 
-    fn proved_event(&mut self, [port, kind, a0, a1, a2, a3]: EventOctets, cut: Cut) -> u8 {
-        let Lent {
-            state,
-            sectors,
-            staging,
-            answers,
-        } = self.lend(cut);
-        raw::event(state, port, kind, a0, a1, a2, a3, sectors, staging, answers)
+    fn event_by(
+        &mut self,
+        call: EventCall,
+        [port, kind, a0, a1, a2, a3]: EventOctets,
+        cut: Cut,
+    ) -> u8 {
+        let lent = self.lend(cut);
+        call(
+            lent.state,
+            port,
+            kind,
+            a0,
+            a1,
+            a2,
+            a3,
+            lent.sectors,
+            lent.staging,
+            lent.answers,
+        )
     }
 
-    fn plain_event_cut(&mut self, [port, kind, a0, a1, a2, a3]: EventOctets, cut: Cut) -> u8 {
-        let Lent {
-            state,
-            sectors,
-            staging,
-            answers,
-        } = self.lend(cut);
-        plain::event(state, port, kind, a0, a1, a2, a3, sectors, staging, answers)
+    fn run_by(&mut self, call: RunCall, records: &[u8], cut: Cut) -> u8 {
+        let lent = self.lend(cut);
+        call(
+            lent.state,
+            records,
+            lent.sectors,
+            lent.staging,
+            lent.answers,
+        )
     }
 
     pub fn plain_event(&mut self, event: EventOctets) -> u8 {
-        self.plain_event_cut(event, Cut::default())
+        self.event_by(plain::event, event, Cut::default())
     }
 }
 
@@ -150,8 +166,8 @@ impl Pair {
     pub fn event(&mut self, event: EventOctets, cut: Cut, tally: &mut Tally) -> u8 {
         let before = *self.state();
         let answer_before = self.plain.answers[..raw::ANSWER_WORDS].to_vec();
-        let returned = self.proved.proved_event(event, cut);
-        let expected = self.plain.plain_event_cut(event, cut);
+        let returned = self.proved.event_by(raw::event, event, cut);
+        let expected = self.plain.event_by(plain::event, event, cut);
         assert_eq!(returned, expected, "{event:?} with {cut:?} at {before:?}");
         self.assert_equal(|| format!("{event:?} with {cut:?} at {before:?}"));
         if returned != 0 {
@@ -165,20 +181,8 @@ impl Pair {
     /// A run at both sides.
     pub fn run(&mut self, records: &[u8], cut: Cut, tally: &mut Tally) {
         let before = self.state().to_vec();
-        let Lent {
-            state,
-            sectors,
-            staging,
-            answers,
-        } = self.proved.lend(cut);
-        let returned = raw::run(state, records, sectors, staging, answers);
-        let Lent {
-            state,
-            sectors,
-            staging,
-            answers,
-        } = self.plain.lend(cut);
-        let expected = plain::run(state, records, sectors, staging, answers);
+        let returned = self.proved.run_by(raw::run, records, cut);
+        let expected = self.plain.run_by(plain::run, records, cut);
         assert_eq!(returned, expected, "{records:?} with {cut:?} at {before:?}");
         self.assert_equal(|| format!("{records:?} with {cut:?} at {before:?}"));
         let answered = if returned == 0 {
