@@ -73,7 +73,7 @@ fn put_lines(
     while i < count {
         let event = event_at(records, i * RECORD_LENGTH);
         i += 1;
-        let outcome = drive.handle(event, sectors, staging);
+        let outcome = events::handle(drive, event, sectors, staging);
         let answer = outcome.answer;
         let next = outcome.drive;
         end = line::put_line(text, end, i, event.port, answer);

@@ -1,9 +1,3 @@
-pub mod Words
-pub mod PowerUp
-pub mod Runs
 pub mod Lines
-pub mod Events
-pub mod Octets
-pub mod Back
 pub mod Singles
 pub mod Only

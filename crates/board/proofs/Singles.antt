@@ -28,13 +28,14 @@ use Rattle.drive.proofs.Laws.{refused-changes-nothing}
 use Rattle.drive.proofs.Step.{refused-with-11}
 use Rattle.drive.proofs.StaysSound.{same-size}
 use Rattle.drive.proofs.Turns.{thirteen}
-use Rattle.board.specs.State.{holdIsKnown, selectedIn, driveIn, movedTo, stateAfter}
-use Rattle.board.specs.Event.{machineIn, eventRefusal, EventOnWords}
-use Rattle.board.specs.Run.{runRefusal, RunOnWords}
+use Rattle.events.specs.State.{holdIsKnown, selectedIn, driveIn, movedTo, stateAfter}
+use Rattle.events.specs.Event.{machineIn, eventRefusal, EventOnWords}
+use Rattle.events.specs.Run.{runRefusal, RunOnWords}
 use Rattle.board.specs.Singles.{Words, words, toldBy, Singles, none, one, RunIsSingles}
-use Rattle.board.proofs.Events.{unmoved, numbered-refused}
-use Rattle.board.proofs.Octets.{octets-after}
-use Rattle.board.proofs.Back.{drive-again, long-again, after-again, octets-in}
+use Rattle.events.proofs.Goes.{unmoved, unsound-hold}
+use Rattle.events.proofs.Promises.{numbered-refused}
+use Rattle.events.proofs.Octets.{octets-after}
+use Rattle.events.proofs.Back.{drive-again, long-again, after-again, octets-in}
 
 -- ---- an answer by its refusal
 
@@ -46,10 +47,6 @@ refused-answer (Opened m p) n e = absurd (omega arith)
 refused-answer (Word w) n e = absurd (omega arith)
 refused-answer (LastWord w) n e = absurd (omega arith)
 refused-answer (Response octet0 octet1 octet2) n e = absurd (omega arith)
-
-unsound-hold : (state : List ℕ) → holdIsKnown state ≡ false → row11 (driveIn state) ≡ true
-unfolding row11 isOutsideLimits driveIn selectedIn pick
-unsound-hold state k = rw (k, or-true (not (withinLimits (driveIn state .setup))))
 
 -- an event is accepted only on a state whose hold is one of the three
 hold-taken : (state : List ℕ) (e : Event) (sectors staging : List ℕ) (known : Bool) → holdIsKnown state ≡ known → refusalIn (answerTo (machineIn state sectors staging) e) ≡ 0 → known ≡ true

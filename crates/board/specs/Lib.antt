@@ -1,6 +1,2 @@
-pub mod State
-pub mod Power
-pub mod Event
-pub mod Run
 pub mod Line
 pub mod Singles

@@ -8,8 +8,8 @@ use Rattle.parts.specs.declared.event.Event.{Event}
 use Rattle.drive.specs.AnswerWords.{answerWords}
 use Rattle.drive.specs.Batch.{eventsOf}
 use Rattle.drive.specs.declared.answer.Answer.the-variants.{Refused}
-use Rattle.board.specs.Event.{EventOnWords}
-use Rattle.board.specs.Run.{RunOnWords}
+use Rattle.events.specs.Event.{EventOnWords}
+use Rattle.events.specs.Run.{RunOnWords}
 
 -- The state, sector and staging words.
 pub record Words : Type 0 where

@@ -3,7 +3,6 @@ mod event;
 mod line;
 mod power;
 mod run;
-mod state;
 
 pub use event::pg_event;
 pub use line::pg_line;

@@ -1,9 +1,7 @@
 // Power-up.
-use crate::state;
-use drive::Powered;
 ghost use mathlib.Core.Path.{_≡_};
 ghost use Rattle.drive.specs.Power.{setupOf};
-ghost use Rattle.board.specs.Power.{PoweredUpOnWords};
+ghost use Rattle.events.specs.Power.{PoweredUpOnWords};
 
 #[no_mangle]
 pub extern "C" fn pg_power_up(
@@ -20,7 +18,7 @@ pub extern "C" fn pg_power_up(
 ) -> u8
     ensures { λ r. ⌜ PoweredUpOnWords (setupOf cylinders heads sectors header field1 field2 address) (now («sector_words» .entry)) (now («staging_words» .entry)) (now (state .entry)) r (now (state .exit)) ⌝ }
 {
-    let powered = drive::power_up(
+    events::power_up_words(
         cylinders,
         heads,
         sectors,
@@ -30,15 +28,6 @@ pub extern "C" fn pg_power_up(
         address,
         sector_words,
         staging_words,
-    );
-    match powered {
-        Powered::Refused(n) => n,
-        Powered::Up(d) => {
-            if state.len() < state::STATE_WORDS {
-                return parts::SLICE_TOO_SHORT;
-            }
-            state::put_state(d, state);
-            0
-        }
-    }
+        state,
+    )
 }

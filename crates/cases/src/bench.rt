@@ -86,7 +86,7 @@ impl Bench {
         let before = self.drive;
         let mut sectors = self.sectors;
         let mut staging = self.staging;
-        let outcome = before.handle(event, &mut sectors, &mut staging);
+        let outcome = events::handle(before, event, &mut sectors, &mut staging);
         let drive = outcome.drive;
         let given = outcome.answer;
         let mut bench = self;

@@ -127,8 +127,8 @@ fn short_gets(drive: Drive, number: u8) -> bool {
     let mut short_sectors = [0u16; 47];
     let mut short_staging = [0u16; 3];
     let malformed = row::event_of(row::PORT_2 + row::KIND_0);
-    let first = drive.handle(malformed, &mut short_sectors, &mut staging);
-    let second = drive.handle(malformed, &mut sectors, &mut short_staging);
+    let first = events::handle(drive, malformed, &mut short_sectors, &mut staging);
+    let second = events::handle(drive, malformed, &mut sectors, &mut short_staging);
     let first_answer = first.answer;
     let second_answer = second.answer;
     compare::same_answer(first_answer, Answer::Refused(number))

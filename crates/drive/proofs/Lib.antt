@@ -1,7 +1,6 @@
 pub mod Bounds
 pub mod Reading
 pub mod Own
-pub mod Asked
 pub mod Step
 pub mod Only
 pub mod EveryAnswer
@@ -13,7 +12,6 @@ pub mod SoundPlace
 pub mod SoundHolding
 pub mod Frame
 pub mod StaysSound
-pub mod AnswerWords
 pub mod Turns
 pub mod StruckOut
 pub mod Sessions

@@ -11,8 +11,6 @@ use Rattle.parts.specs.declared.event.Event.{Event}
 use Rattle.drive.specs.Answer.{Paper, paper}
 use Rattle.drive.specs.Event.{Handled}
 use Rattle.drive.specs.Power.{PoweredUp}
-use Rattle.drive.specs.Batch.{RunThrough}
-use Rattle.drive.specs.declared.batch.Batch.{Batch}
 use Rattle.drive.specs.declared.drive.Drive.{Drive}
 use Rattle.drive.specs.declared.power.Powered.{Powered}
 use Rattle.drive.specs.declared.answer.Outcome.{Outcome}
@@ -28,13 +26,6 @@ pub handle-only : {d : Drive} {e : Event} {sectors staging : List ℕ} {r r′ :
     → (r ≡ r′) × (sectors′ ≡ sectors″) × (staging′ ≡ staging″)
 handle-only h k =
     (λ i. record { answer = answer-only (h .answer) (k .answer) i; drive = answer-only (h .drive) (k .drive) i }, answer-only (h .sectors) (k .sectors), answer-only (h .staging) (k .staging))
-
--- the answer and the lent slices of a batch
-pub run-only : {d : Drive} {records sectors staging out : List ℕ} {r r′ : Batch} {sectors′ staging′ out′ sectors″ staging″ out″ : List ℕ}
-    → RunThrough d records sectors staging out r sectors′ staging′ out′ → RunThrough d records sectors staging out r′ sectors″ staging″ out″
-    → (r ≡ r′) × (sectors′ ≡ sectors″) × (staging′ ≡ staging″) × (out′ ≡ out″)
-run-only h k =
-    (answer-only (h .answer) (k .answer), answer-only (h .sectors) (k .sectors), answer-only (h .staging) (k .staging), answer-only (h .out) (k .out))
 
 -- ---- the paper tells answers apart: each can be read back from its paper
 

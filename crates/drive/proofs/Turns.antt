@@ -3,7 +3,7 @@
 use Prim.Native.Nat.{ℕ, suc, _+_, _-_, _*_, _/_, _%_, _<_, _≤_}
 use mathlib.Core.Path.{_≡_, refl, sym, ap, _∙_}
 use mathlib.Core.Bool.{Bool, true, false}
-use mathlib.Core.List.{List, [], _∷_, _++_, append-nil, append-assoc}
+use mathlib.Core.List.{List, _∷_, _++_, append-nil, append-assoc}
 use native.Mathlib.Omega.{arith}
 use borrow.Author.Tests.{lt-ltb, le-ltb, eq-eqb, ne-eqb}
 use lib.Dec.{ltb}
@@ -13,18 +13,14 @@ use Rattle.laws.proofs.Runs.{rest-whole}
 use Rattle.laws.specs.Pick.{pick}
 use Rattle.laws.specs.Lists.{writtenOver}
 use Rattle.parts.specs.declared.event.Event.{Event}
-use Rattle.parts.specs.declared.setup.Setup.{Setup}
 use Rattle.drive.specs.Answer.{paper}
 use Rattle.drive.specs.Refusal.{row11, row10}
-use Rattle.drive.specs.State.{Result, result}
 use Rattle.drive.specs.Event.{handled, refusedWith}
 use Rattle.drive.specs.Able.{Passable}
 use Rattle.drive.specs.Run.{Machine, machine, after, answerTo, answers, final}
 use Rattle.drive.specs.AnswerWords.{answerWords, allWords}
-use Rattle.drive.specs.Batch.{eventOf, eventsIn, eventsOf, recordCount, judgement, batchRefusal, RunThrough, TurnTaken, Gone}
-use Rattle.drive.specs.declared.batch.Batch.the-variants as batch
+use Rattle.drive.specs.Batch.{eventOf, eventsIn, eventsOf, recordCount, judgement, batchRefusal, TurnTaken, Gone}
 use Rattle.drive.specs.declared.drive.Drive.{Drive}
-use Rattle.drive.specs.declared.answer.Outcome.{Outcome}
 use Rattle.drive.specs.declared.answer.Answer.{Answer}
 use Rattle.drive.specs.declared.answer.Answer.the-variants.{Refused, Done, Status, Opened, Word, LastWord, Response}
 use Rattle.drive.proofs.Step.{refused-with-10, refused-with-11}
@@ -88,19 +84,6 @@ thirteen (Word w) = refl
 thirteen (LastWord w) = refl
 thirteen (Response octet0 octet1 octet2) = refl
 
--- the drive with another set-up
-abbrev pub withSetup : Drive → Setup → Drive
-withSetup d s =
-    record {
-      setup = s;
-      holding = d .holding;
-      place = d .place;
-      target = d .target;
-      transfer = d .transfer;
-      pending0 = d .pending0;
-      pending1 = d .pending1;
-    }
-
 -- ---- a turn: the first event of the rest is answered, and its words follow those that are written
 
 -- From the start to where the events `rest` are left: they end as all do, and their answers' words complete those of all.
@@ -108,27 +91,6 @@ pub record Turned (start : Machine) (events : List Event) (out₀ : List ℕ) (m
   pub end : final m rest ≡ final start events
   pub written : take at out ++ allWords (answers m rest) ≡ allWords (answers start events)
   pub left : drop at out ≡ drop at out₀
-
--- the set-up is the same after an event, so that it may be put in again
-setup-put : (d : Drive) (e : Event) (sectors staging : List ℕ) (r : Outcome) (sectors′ staging′ : List ℕ) → result r sectors′ staging′ ≡ handled d e sectors staging
-    → withSetup (r .drive) (d .setup) ≡ r .drive
-unfolding after
-setup-put d e sectors staging r sectors′ staging′ h =
-    let same : r .drive .setup ≡ d .setup = ap (λ (x : Result). x .outcome .drive .setup) h ∙ same-size (machine d sectors staging) e .setup in
-    λ i. withSetup (r .drive) (sym same i)
-
--- the outcome of an event, and its answer's words, as a turn
-pub taken : (d : Drive) (e : Event) (sectors staging out : List ℕ) (r : Outcome) (sectors′ staging′ out′ : List ℕ)
-    → result r sectors′ staging′ ≡ handled d e sectors staging → out′ ≡ writtenOver out (answerWords (r .answer))
-    → TurnTaken (machine d sectors staging) e out (machine (withSetup (r .drive) (d .setup)) sectors′ staging′) out′
-unfolding after answerTo
-taken d e sectors staging out r sectors′ staging′ out′ h w =
-    record {
-      machine =
-          ap (λ (x : Drive). machine x sectors′ staging′) (setup-put d e sectors staging r sectors′ staging′ h)
-          ∙ ap (λ (x : Result). machine (x .outcome .drive) (x .sectors) (x .staging)) h;
-      out = w ∙ ap (λ (x : Result). writtenOver out (answerWords (x .outcome .answer))) h;
-    }
 
 -- a run of words put at an index: up to its end, and from its end on
 run-put : (out ws : List ℕ) (at : ℕ) → at ≤ length out
@@ -207,7 +169,7 @@ turned-through d sectors staging out₀ records count i d′ sectors′ staging�
     let u = rw z at t in
     record { end = u .end; out = whole-run out out₀ _ (13 * i) (omega arith) (sym (append-nil (take (13 * i) out)) ∙ u .written) (u .left) }
 
--- ---- the promise
+-- ---- the refusals of a batch
 
 no-room : (records out : List ℕ) → length out / 13 < recordCount records → ltb (length out) (13 * recordCount records) ≡ true
 no-room records out h = lt-ltb (length out) (13 * recordCount records) (omega arith)
@@ -226,17 +188,3 @@ not-whole records out h n = rw (room-for records out h, ne-eqb (length records %
 pub whole-with-room : (records out : List ℕ) → recordCount records ≤ length out / 13 → length records % 8 ≡ 0 → batchRefusal records out ≡ 0
 unfolding pick
 whole-with-room records out h w = rw (room-for records out h, eq-eqb (length records % 8) 0 w)
-
-pub batch-refused : (d : Drive) (records sectors staging out : List ℕ) (n : ℕ) → batchRefusal records out ≡ suc n
-    → RunThrough d records sectors staging out (batch.Refused (suc n)) sectors staging out
-batch-refused d records sectors staging out n h = record { answer = rw h; sectors = rw h; staging = rw h; out = rw h }
-
-pub batch-ran : {d : Drive} {records sectors staging out : List ℕ} {r : Drive} {sectors′ staging′ out′ : List ℕ} → batchRefusal records out ≡ 0
-    → Gone d (eventsOf records) sectors staging out r sectors′ staging′ out′ → RunThrough d records sectors staging out (batch.Ran r) sectors′ staging′ out′
-batch-ran h g =
-    record {
-      answer = rw h (ap (λ (m : Machine). batch.Ran (m .drive)) (g .end));
-      sectors = rw h (ap (λ (m : Machine). m .sectors) (g .end));
-      staging = rw h (ap (λ (m : Machine). m .staging) (g .end));
-      out = rw h (g .out);
-    }

@@ -1,22 +1,15 @@
--- What the private functions under `Drive::handle` ask of it: a state that rows 11 and 10 let pass. No public call asks anything.
+-- What the private functions of `events` ask of a drive: that rows 11 and 10 let it pass. No public call asks anything.
 use Prim.Native.Nat.{ℕ, _+_, _≤_, _<_}
 use mathlib.Core.Path.{_≡_}
 use mathlib.Core.Bool.{false}
 use mathlib.Core.List.{List}
 use lib.ListN.{length, getD}
-use lib.Dec.{eqb}
-use Rattle.laws.specs.Pick.{pick}
 use Rattle.laws.specs.Rows.{first, unlessRefused}
-use Rattle.parts.specs.Setup.{sectorWords, noTarget}
-use Rattle.parts.specs.Control.{controlOf, isAtTarget, wordsToCome, wordsRead}
-use Rattle.parts.specs.Pending.{invalidBusControl, unsupportedBusControl, busControlContext}
-use Rattle.parts.specs.declared.control.Control.{Control}
-use Rattle.parts.specs.declared.control.Control.the-variants as control
+use Rattle.parts.specs.Setup.{sectorWords}
+use Rattle.parts.specs.Control.{wordsToCome, wordsRead}
 use Rattle.parts.specs.Kind.{Kind}
 use Rattle.parts.specs.declared.event.Event.{Event}
 use Rattle.parts.specs.declared.setup.Setup.{Setup}
-use Rattle.drive.specs.declared.request.Asked.{Asked}
-use Rattle.drive.specs.declared.request.Asked.the-variants.{Open, OpenAtTarget, StepHead, Nothing}
 use Rattle.drive.specs.State.{told, Result}
 use Rattle.drive.specs.Refusal.{row11, row10, ownRows}
 use Rattle.drive.specs.Event.{refusedWith}
@@ -52,18 +45,3 @@ pub record Able (d : Drive) (sectors staging : List ℕ) : Type 0 where
 pub record ReadsAt (s : Setup) (c k offset : ℕ) : Type 0 where
   pub inside : offset < sectorWords s
   pub reads : (sector : List ℕ) → length sector ≡ sectorWords s → getD (wordsRead s c sector) k 0 ≡ getD sector offset 0
-
--- What a data control asks for: "at target" goes to the target, which has to be there.
-unfoldable pub askedBy : ℕ → ℕ → Asked
-askedBy c target = pick (isAtTarget c) (pick (eqb target noTarget) (Nothing busControlContext) OpenAtTarget) Open
-
-abbrev pub askedAs : Control → ℕ → ℕ → Asked
-askedAs control.Write c target = askedBy c target
-askedAs control.Read c target = askedBy c target
-askedAs control.StepHead c target = StepHead
-askedAs control.Reserved c target = Nothing invalidBusControl
-askedAs control.Unsupported c target = Nothing unsupportedBusControl
-askedAs control.Invalid c target = Nothing invalidBusControl
-
-unfoldable pub askedOf : ℕ → ℕ → Asked
-askedOf c target = askedAs (controlOf c) c target

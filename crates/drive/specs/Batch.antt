@@ -5,16 +5,13 @@ use mathlib.Core.Bool.{not}
 use mathlib.Core.List.{List, [], _∷_}
 use lib.Dec.{eqb, ltb}
 use lib.ListN.{length, getD, drop}
-use Rattle.laws.specs.Pick.{pick}
-use Rattle.laws.specs.Rows.{Row, first, _when_, unlessRefused}
+use Rattle.laws.specs.Rows.{Row, first, _when_}
 use Rattle.laws.specs.Lists.{writtenOver}
 use Rattle.parts.specs.declared.event.Event.{Event}
 use Rattle.drive.specs.Refusal.{row11, row10}
 use Rattle.drive.specs.Run.{Machine, machine, after, answerTo, answers, final}
 use Rattle.drive.specs.AnswerWords.{answerWords, allWords}
 use Rattle.drive.specs.declared.drive.Drive.{Drive}
-use Rattle.drive.specs.declared.batch.Batch.{Batch}
-use Rattle.drive.specs.declared.batch.Batch.the-variants.{Ran, Refused}
 
 -- "Records of 8 octets: tick (2, high first), port, kind, four argument octets". The tick is not the drive's.
 unfoldable pub eventOf : List ℕ → Event
@@ -46,20 +43,7 @@ batchRows records out = 10 when ltb (length out) (13 * recordCount records) ∷ 
 abbrev pub batchRefusal : List ℕ → List ℕ → ℕ
 batchRefusal records out = first (batchRows records out)
 
--- The promise of `Drive::run`: "the 8-octet records of a capture one after another, 13 answer words each". `answers` and `final` are those of
--- so many single events.
-pub record RunThrough (d : Drive) (records sectors₀ staging₀ out₀ : List ℕ) (r : Batch) (sectors₁ staging₁ out₁ : List ℕ) : Type 0 where
-  pub answer : r ≡ unlessRefused (batchRefusal records out₀) (Refused (batchRefusal records out₀)) (Ran ((final (machine d sectors₀ staging₀) (eventsOf records)) .drive))
-  pub sectors : sectors₁ ≡ unlessRefused (batchRefusal records out₀) sectors₀ ((final (machine d sectors₀ staging₀) (eventsOf records)) .sectors)
-  pub staging : staging₁ ≡ unlessRefused (batchRefusal records out₀) staging₀ ((final (machine d sectors₀ staging₀) (eventsOf records)) .staging)
-  pub out : out₁ ≡ unlessRefused (batchRefusal records out₀) out₀ (writtenOver out₀ (allWords (answers (machine d sectors₀ staging₀) (eventsOf records))))
-
--- The number of a refused batch, 0 for the others.
-abbrev pub refusalIn : Batch → ℕ
-refusalIn (Ran d) = 0
-refusalIn (Refused n) = n
-
--- ---- what the private functions under `Drive::run` ask
+-- ---- what a batch goes by
 
 -- What rows 11 and 10 say of a state, 0 where both let it pass.
 unfoldable pub judgement : Drive → List ℕ → List ℕ → ℕ

@@ -39,7 +39,7 @@ handled d e sectors staging =
     let n = refusalOf k d e sectors staging in
     unlessRefused n (refusedWith n d sectors staging) (act k d e sectors staging)
 
--- The promise of `Drive::handle`: the answer, the drive, all sector words and all staging words.
+-- The promise of `handle` of `events`: the answer, the drive, all sector words and all staging words.
 pub record Handled (d : Drive) (e : Event) (sectors₀ staging₀ : List ℕ) (r : Outcome) (sectors₁ staging₁ : List ℕ) : Type 0 where
   pub answer : r .answer ≡ (handled d e sectors₀ staging₀) .outcome .answer
   pub drive : r .drive ≡ (handled d e sectors₀ staging₀) .outcome .drive

@@ -8,7 +8,7 @@ use parts::Transfer;
 ghost use mathlib.Core.Path.{_≡_};
 ghost use Rattle.laws.specs.Pick.{pick};
 ghost use Rattle.drive.specs.State.{postedOn};
-ghost use Rattle.drive.specs.Drive.{ownerNoticed, selected, deselected, afterReset, ended, atItsTarget, headStepped};
+ghost use Rattle.drive.specs.Drive.{ownerNoticed, selected, deselected, afterReset};
 
 pub struct Drive {
     pub setup: Setup,
@@ -21,7 +21,7 @@ pub struct Drive {
 }
 
 impl Drive {
-    pub(crate) fn posted_on(self, port: u16, pending: Pending) -> Drive
+    fn posted_on(self, port: u16, pending: Pending) -> Drive
         ensures { λ r. ⌜ r ≡ postedOn self port pending ⌝ }
     {
         let p0 = self.pending0;
@@ -35,7 +35,7 @@ impl Drive {
     }
 
     // A granted selection.
-    pub(crate) fn select(self, port: u16, octet: u8) -> Drive
+    pub fn select(self, port: u16, octet: u8) -> Drive
         ensures { λ r. ⌜ r ≡ selected self port octet ⌝ }
     {
         let granted = parts::granted_to(port, octet);
@@ -46,7 +46,7 @@ impl Drive {
         d
     }
 
-    pub(crate) fn deselect(self) -> Drive
+    pub fn deselect(self) -> Drive
         ensures { λ r. ⌜ r ≡ deselected self ⌝ }
     {
         let h = self.holding;
@@ -56,7 +56,7 @@ impl Drive {
         d
     }
 
-    pub(crate) fn reset(self) -> Drive
+    pub fn reset(self) -> Drive
         ensures { λ r. ⌜ r ≡ afterReset self ⌝ }
     {
         let s = self.setup;
@@ -95,57 +95,9 @@ impl Drive {
         }
         self
     }
-
-    // A transfer ends inside the session.
-    pub(crate) fn ended(self) -> Drive
-        ensures { λ r. ⌜ r ≡ ended self ⌝ }
-    {
-        let s = self.setup;
-        let p = self.place;
-        let next = Place {
-            cylinder: p.cylinder,
-            head: p.head,
-            sector: parts::next_of(p.sector, s.sectors),
-        };
-        let none = parts::no_transfer();
-        let mut d = self;
-        d.place = next;
-        d.transfer = none;
-        d
-    }
-
-    // The target becomes the position's sector.
-    pub(crate) fn at_target(self) -> Drive
-        ensures { λ r. ⌜ r ≡ atItsTarget self ⌝ }
-    {
-        let p = self.place;
-        let there = Place {
-            cylinder: p.cylinder,
-            head: p.head,
-            sector: self.target,
-        };
-        let mut d = self;
-        d.place = there;
-        d
-    }
-
-    pub(crate) fn head_stepped(self) -> Drive
-        ensures { λ r. ⌜ r ≡ headStepped self ⌝ }
-    {
-        let s = self.setup;
-        let p = self.place;
-        let next = Place {
-            cylinder: p.cylinder,
-            head: parts::next_of(p.head, s.heads),
-            sector: p.sector,
-        };
-        let mut d = self;
-        d.place = next;
-        d
-    }
 }
 
-pub(crate) fn chosen(first: bool, a: Pending, b: Pending) -> Pending
+fn chosen(first: bool, a: Pending, b: Pending) -> Pending
     ensures { λ r. ⌜ r ≡ pick first a b ⌝ }
 {
     if first { a } else { b }

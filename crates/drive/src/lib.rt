@@ -1,21 +1,14 @@
-// The drive: power-up and every event, by value over lent words.
+// The drive by value: power-up, and what selection, deselection and reset make of it. `specs/` defines every event, and `proofs/` has what the
+// customer asked to know of them; the code of the other kinds is in `events`.
 mod answer;
-mod answer_words;
-mod batch;
 mod drive;
-mod event;
-mod kinds;
 mod posting;
 mod power;
 mod refusal;
-mod request;
 mod sizes;
-mod transfer;
-mod words;
 
 pub use answer::Answer;
 pub use answer::Outcome;
-pub use batch::Batch;
 pub use drive::Drive;
 pub use power::Powered;
 pub use power::power_up;

@@ -1,7 +1,7 @@
 // What goes pending on a port.
 use parts::Pending;
 ghost use mathlib.Core.Path.{_≡_};
-ghost use Rattle.parts.specs.Pending.{OneBit, withBit, noticed, faulted};
+ghost use Rattle.parts.specs.Pending.{OneBit, withBit, noticed};
 
 // The port lost the drive to the other one.
 pub(crate) fn noticed_on(pending: Pending) -> Pending
@@ -10,17 +10,6 @@ pub(crate) fn noticed_on(pending: Pending) -> Pending
     Pending {
         octet1: with_bit(pending.octet1, parts::ALTERNATE_PORT_PRIORITY_SELECT),
         octet2: pending.octet2,
-    }
-}
-
-// A bad request.
-pub(crate) fn faulted_on(pending: Pending, bit: u8) -> Pending
-    requires { ⌜ OneBit bit ⌝ }
-    ensures { λ r. ⌜ r ≡ faulted pending bit ⌝ }
-{
-    Pending {
-        octet1: pending.octet1,
-        octet2: with_bit(pending.octet2, bit),
     }
 }
 

@@ -1,0 +1,60 @@
+-- Kinds 3, 7 and 8 on words: what is pending in octet 1 comes before the request, and a request may follow a move.
+-- Assumes nothing.
+use Prim.Native.Nat.{ℕ, _≤_, _<_}
+use mathlib.Core.Path.{_≡_, refl, sym, ap, _∙_}
+use mathlib.Core.Bool.{Bool, true, false, not}
+use mathlib.Core.List.{List}
+use borrow.Author.Tests.{ne-eqb, not-true, not-false}
+use lib.Dec.{eqb}
+use lib.ListN.{length}
+use Rattle.laws.specs.Pick.{pick}
+use Rattle.parts.specs.Setup.{noTarget}
+use Rattle.parts.specs.Control.{controlOf}
+use Rattle.parts.specs.declared.control.Control.{Control}
+use Rattle.drive.specs.State.{pendingOn}
+use Rattle.drive.specs.Drive.{atItsTarget}
+use Rattle.drive.specs.Answer.{unsolicitedException}
+use Rattle.drive.specs.Request.{unlessUnsolicited, opened, controlled}
+use Rattle.drive.specs.declared.answer.Answer.{Answer}
+use Rattle.drive.specs.declared.answer.Outcome.{Outcome}
+use Rattle.drive.specs.declared.answer.Answer.the-variants.{Status}
+use Rattle.drive.specs.declared.drive.Drive.{Drive}
+use Rattle.drive.proofs.Sound.{sound, unsound}
+use Rattle.drive.proofs.SoundPlace.{at-target-kept}
+use Rattle.events.specs.State.{driveIn, movedTo}
+use Rattle.events.specs.Fit.{Fit, Did}
+use Rattle.events.proofs.Back.{did-then, drive-again, long-again, octets-in}
+use Rattle.events.proofs.Done.{did-nothing}
+
+pub did-unsolicited : (state : List ℕ) (port : ℕ) (request : Outcome) (r : Bool) → Fit state → r ≡ not (eqb (pendingOn (driveIn state) port .octet1) 0) → r ≡ true
+    → Did state (unlessUnsolicited (driveIn state) port request) (Status unsolicitedException) state
+unfolding pick
+did-unsolicited state port request r f e t = rw (not-true (eqb (pendingOn (driveIn state) port .octet1) 0) (sym e ∙ t)) (did-nothing (Status unsolicitedException) f)
+
+pub did-request : (state : List ℕ) (port : ℕ) (request : Outcome) (r : Bool) {answer : Answer} {state′ : List ℕ}
+    → r ≡ not (eqb (pendingOn (driveIn state) port .octet1) 0) → r ≡ false → Did state request answer state′
+    → Did state (unlessUnsolicited (driveIn state) port request) answer state′
+unfolding pick
+did-request state port request r e t d = rw (not-false (eqb (pendingOn (driveIn state) port .octet1) 0) (sym e ∙ t)) d
+
+-- at the target the words are still those of a sound state
+pub at-target-fit : {state state′ : List ℕ} → Fit state → (driveIn state .target ≡ noTarget → ⊥) → state′ ≡ movedTo state (atItsTarget (driveIn state)) → Fit state′
+unfolding atItsTarget
+at-target-fit {state} f n e =
+    let d = atItsTarget (driveIn state) in
+    record {
+      long = rw e (long-again state d (f .long));
+      sound = rw (e, drive-again state d (f .long) (octets-in state) refl)
+          (unsound d (at-target-kept (sound (driveIn state) (f .sound)) (ne-eqb (driveIn state .target) noTarget n)));
+    }
+
+-- a transfer that opens at the target: the move, and then the opening
+pub did-at-target : {state state′ state″ : List ℕ} {r : Answer} (control : ℕ) → Fit state → state′ ≡ movedTo state (atItsTarget (driveIn state))
+    → Did state′ (opened (driveIn state′) control) r state″ → Did state (opened (atItsTarget (driveIn state)) control) r state″
+unfolding atItsTarget
+did-at-target {state} control f e t = did-then (atItsTarget (driveIn state)) (λ (d : Drive). opened d control) (f .long) (octets-in state) refl e t
+
+-- by the kind of the control
+pub did-controlled : (state : List ℕ) (port control : ℕ) (kind : Control) {answer : Answer} {state′ : List ℕ} → kind ≡ controlOf control
+    → Did state (controlled kind (driveIn state) port control) answer state′ → Did state (controlled (controlOf control) (driveIn state) port control) answer state′
+did-controlled state port control kind e t = rw (← e) t

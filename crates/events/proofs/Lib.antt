@@ -1,0 +1,15 @@
+pub mod Changes
+pub mod Done
+pub mod Promises
+pub mod PowerUp
+pub mod Goes
+pub mod Steps
+pub mod Unsoundness
+pub mod Transfers
+pub mod Asking
+pub mod Timely
+pub mod Octets
+pub mod Back
+pub mod Stores
+pub mod ToldWords
+pub mod Only

@@ -1,0 +1,57 @@
+-- `put_response` meets its contract.
+-- Assumes nothing.
+use lib.ListN.{length-set}
+use native.Mathlib.Omega.{arith}
+use Rattle.events.proofs.ToldWords.{response-over}
+use borrow.Author.Needs.{needs}
+use Rattle.events.proofs.answer_words.put_response.Statement.{statement}
+use Rattle.events.proofs.answer_words.put_response.Tie as tie
+
+put-done-requires : tie.Need-put-done-requires
+put-done-requires c κs = search needs
+
+cast-out : tie.Need-cast-out
+cast-out c = search needs
+
+slice-write-out : tie.Need-slice-write-out
+slice-write-out c = search needs
+
+slice-write-out-2 : tie.Need-slice-write-out-2
+slice-write-out-2 c = simp length-set (omega (arith, c .before .before .before .before .before .pre))
+
+mul-out : tie.Need-mul-out
+mul-out c = search needs
+
+add-out : tie.Need-add-out
+add-out c = search needs
+
+slice-write-out-3 : tie.Need-slice-write-out-3
+slice-write-out-3 c = simp length-set (omega (arith, c .before .before .before .before .before .pre))
+
+mul-out-2 : tie.Need-mul-out-2
+mul-out-2 c = search needs
+
+slice-write-out-4 : tie.Need-slice-write-out-4
+slice-write-out-4 c = simp length-set (omega (arith, c .before .before .before .before .before .pre))
+
+same-length : tie.Need-same-length
+same-length c = search needs
+
+returns : tie.Need-returns
+returns c = response-over _ _ _ _ _ ((c .before .before .put-done .ensures))
+
+pub put-response-spec : {M : Type 1} → statement M
+put-response-spec =
+    tie.close
+    (tie.spec
+    put-done-requires
+    cast-out
+    slice-write-out
+    slice-write-out-2
+    mul-out
+    add-out
+    slice-write-out-3
+    mul-out-2
+    slice-write-out-4
+    same-length
+    returns)

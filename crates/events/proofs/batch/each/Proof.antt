@@ -1,0 +1,125 @@
+-- `each` meets its contract.
+-- Assumes nothing.
+use Prim.Native.Nat.{_-_, _*_, _≤_}
+use mathlib.Core.Path.{_≡_, refl}
+use native.Mathlib.Omega.{arith}
+use lib.ListN.{length}
+use Rattle.events.proofs.Goes.{Going, going-start, going-next, going-stopped, going-ended}
+use borrow.Author.Needs.{needs}
+use Rattle.events.proofs.batch.each.Statement.{statement}
+use Rattle.events.proofs.batch.each.Tie as tie
+
+abbrev Inv-loop : tie.InvT-loop
+Inv-loop state₀ judged telling count records sectors₀ staging₀ out₀ i₀ state sectors staging out i =
+    (i ≤ count)
+    × (length state ≡ length state₀)
+    × (length sectors ≡ length sectors₀)
+    × (length staging ≡ length staging₀)
+    × (length out ≡ length out₀)
+    × Going telling judged count records state₀ sectors₀ staging₀ out₀ state sectors staging out i
+
+abbrev μ-loop : tie.MeasureT-loop
+μ-loop state₀ judged telling count records sectors₀ staging₀ out₀ i₀ state sectors staging out i = count - i
+
+loop-holds : tie.Need-loop-holds Inv-loop μ-loop
+loop-holds c = (search needs, refl, refl, refl, refl, going-start _ _ _ _ _ _ _ _ ((c .before .before .before .before .before .pre .0)) ((c .before .before .before .before .before .pre .1)))
+
+mul-from : tie.Need-mul-from Inv-loop μ-loop
+mul-from c = search needs
+
+mul-at : tie.Need-mul-at Inv-loop μ-loop
+mul-at c = search needs
+
+add-i : tie.Need-add-i Inv-loop μ-loop
+add-i c = search needs
+
+sub-turn : tie.Need-sub-turn Inv-loop μ-loop
+sub-turn c = search needs
+
+part-turn-start : tie.Need-part-turn-start Inv-loop μ-loop
+part-turn-start c = search needs
+
+part-turn-end : tie.Need-part-turn-end Inv-loop μ-loop
+part-turn-end c = search needs
+
+mul-turn : tie.Need-mul-turn Inv-loop μ-loop
+mul-turn c = search needs
+
+sub-turn-2 : tie.Need-sub-turn-2 Inv-loop μ-loop
+sub-turn-2 c = search needs
+
+part-turn-start-2 : tie.Need-part-turn-start-2 Inv-loop μ-loop
+part-turn-start-2 c = search needs
+
+part-turn-end-2 : tie.Need-part-turn-end-2 Inv-loop μ-loop
+part-turn-end-2 c = search needs
+
+turn-requires : tie.Need-turn-requires Inv-loop μ-loop
+turn-requires c κs = ((c .before .before .before .before .before .before .loop .inv .5 .long), (c .before .before .before .before .before .before .loop .inv .5 .judged), search needs, search needs)
+
+same-length : tie.Need-same-length Inv-loop μ-loop
+same-length c = search needs
+
+same-length-2 : tie.Need-same-length-2 Inv-loop μ-loop
+same-length-2 c = search needs
+
+same-length-3 : tie.Need-same-length-3 Inv-loop μ-loop
+same-length-3 c = search needs
+
+same-length-4 : tie.Need-same-length-4 Inv-loop μ-loop
+same-length-4 c = search needs
+
+returns : tie.Need-returns Inv-loop μ-loop
+returns c = going-stopped _ _ _ _ _ _ _ _ _ _ _ _ _ _ _ _ _ _ ((c .before .before .before .before .before .before .before .before .before .before .before .before .before .before .before .loop-test .taken)) ((c .before .before .before .before .before .before .before .before .before .before .before .before .before .before .before .before .before .before .before .before .before .before .pre .4)) ((c .if1 .taken)) ((c .before .before .before .before .before .before .before .before .before .before .before .before .before .before .before .before .loop .inv .5)) ((c .before .before .before .before .before .before .before .before .before .turn .ensures))
+
+loop-less : tie.Need-loop-less Inv-loop μ-loop
+loop-less c = search needs
+
+loop-again : tie.Need-loop-again Inv-loop μ-loop
+loop-again c = (search needs, search needs, search needs, search needs, search needs, going-next _ _ _ _ _ _ _ _ _ _ _ _ _ _ _ _ _ _ ((c .before .before .before .before .before .before .before .before .before .before .before .before .before .before .before .loop-test .taken)) (omega (arith, (c .before .before .before .before .before .before .before .before .before .before .before .before .before .before .before .before .loop .inv .4), (c .before .before .before .before .before .before .before .before .before .before .before .before .before .before .before .before .before .before .before .before .before .before .pre .3))) ((c .if1 .left)) ((c .before .before .before .before .before .before .before .before .before .before .before .before .before .before .before .before .loop .inv .5)) ((c .before .before .before .before .before .before .before .before .before .turn .ensures)))
+
+same-length-5 : tie.Need-same-length-5 Inv-loop μ-loop
+same-length-5 c = search needs
+
+same-length-6 : tie.Need-same-length-6 Inv-loop μ-loop
+same-length-6 c = search needs
+
+same-length-7 : tie.Need-same-length-7 Inv-loop μ-loop
+same-length-7 c = search needs
+
+same-length-8 : tie.Need-same-length-8 Inv-loop μ-loop
+same-length-8 c = search needs
+
+returns-2 : tie.Need-returns-2 Inv-loop μ-loop
+returns-2 c = going-ended _ _ _ _ _ _ _ _ _ _ _ _ _ (omega (arith, (c .before .loop .inv .0), (c .loop-test .left))) (omega (arith, (c .before .loop .inv .4), (c .before .before .before .before .before .before .before .pre .3))) ((c .before .before .before .before .before .before .before .pre .4)) ((c .before .loop .inv .5))
+
+pub each-spec : {M : Type 1} → statement M
+each-spec =
+    tie.close
+    (tie.spec
+    Inv-loop
+    μ-loop
+    loop-holds
+    mul-from
+    mul-at
+    add-i
+    sub-turn
+    part-turn-start
+    part-turn-end
+    mul-turn
+    sub-turn-2
+    part-turn-start-2
+    part-turn-end-2
+    turn-requires
+    same-length
+    same-length-2
+    same-length-3
+    same-length-4
+    returns
+    loop-less
+    loop-again
+    same-length-5
+    same-length-6
+    same-length-7
+    same-length-8
+    returns-2)

@@ -1,0 +1,63 @@
+-- `aim_at` meets its contract.
+-- Assumes nothing.
+use Rattle.events.proofs.Done.{did-first, did-second, known}
+use Rattle.events.proofs.Changes.{target-put}
+use Rattle.parts.specs.Pending.{bit6}
+use Rattle.drive.specs.Request.{targeted}
+use mathlib.Core.Path.{refl}
+use Rattle.events.proofs.Asking.{did-request, did-unsolicited}
+use borrow.Author.Needs.{needs}
+use Rattle.events.proofs.request.aim_at.Statement.{statement}
+use Rattle.events.proofs.request.aim_at.Tie as tie
+
+is-unsolicited-requires : tie.Need-is-unsolicited-requires
+is-unsolicited-requires c κs = search needs
+
+same-length : tie.Need-same-length
+same-length c = search needs
+
+returns : tie.Need-returns
+unfolding targeted
+returns c = did-unsolicited _ _ _ _ ((c .before .before .before .before .pre .0)) ((c .before .is-unsolicited .ensures)) ((c .if1 .taken))
+
+setup-in-requires : tie.Need-setup-in-requires
+setup-in-requires c κs = search needs
+
+is-target-requires : tie.Need-is-target-requires
+is-target-requires c κs = search needs
+
+slice-write-state : tie.Need-slice-write-state
+slice-write-state c = search needs
+
+same-length-2 : tie.Need-same-length-2
+same-length-2 c = search needs
+
+returns-2 : tie.Need-returns-2
+unfolding targeted
+returns-2 c = did-request _ _ _ _ ((c .before .before .before .before .before .is-unsolicited .ensures)) ((c .before .before .before .before .if1 .left)) (did-first _ _ _ _ (rw ((c .before .before .setup-in .ensures)) at ((c .before .is-target .ensures))) ((c .if2 .taken)) (record { answer = refl; state = target-put _ _ ((c .before .before .before .before .before .before .before .before .pre .0 .long)) (known ((c .before .before .before .before .before .before .before .before .pre .0))) }))
+
+fault-requires : tie.Need-fault-requires
+fault-requires c κs = ((c .before .before .before .before .before .before .before .before .before .pre .0), (c .before .before .before .before .before .before .before .before .before .pre .1), bit6)
+
+same-length-3 : tie.Need-same-length-3
+same-length-3 c = search needs
+
+returns-3 : tie.Need-returns-3
+unfolding targeted
+returns-3 c = did-request _ _ _ _ ((c .before .before .before .before .before .before .before .before .before .is-unsolicited .ensures)) ((c .before .before .before .before .before .before .before .before .if1 .left)) (did-second _ _ _ _ (rw ((c .before .before .before .before .before .before .setup-in .ensures)) at ((c .before .before .before .before .before .is-target .ensures))) ((c .before .before .before .before .if2 .left)) ((c .before .before .fault .ensures)))
+
+pub aim-at-spec : {M : Type 1} → statement M
+aim-at-spec =
+    tie.close
+    (tie.spec
+    is-unsolicited-requires
+    same-length
+    returns
+    setup-in-requires
+    is-target-requires
+    slice-write-state
+    same-length-2
+    returns-2
+    fault-requires
+    same-length-3
+    returns-3)

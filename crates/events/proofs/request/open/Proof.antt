@@ -1,0 +1,59 @@
+-- `open` meets its contract.
+-- Assumes nothing.
+use Rattle.events.proofs.Done.{did-first, did-second}
+use Rattle.drive.proofs.Sound.{sound}
+use Rattle.drive.proofs.Bounds.{limits, words-few}
+use Rattle.drive.specs.Request.{opened}
+use borrow.Author.Tests.{eq-eqb, ne-eqb}
+use native.Mathlib.Omega.{arith}
+use mathlib.Core.Path.{refl, sym, _∙_}
+use borrow.Author.Needs.{needs}
+use Rattle.events.proofs.request.open.Statement.{statement}
+use Rattle.events.proofs.request.open.Tie as tie
+
+setup-in-requires : tie.Need-setup-in-requires
+setup-in-requires c κs = search needs
+
+words-to-come-requires : tie.Need-words-to-come-requires
+words-to-come-requires c κs = search needs
+
+end-transfer-requires : tie.Need-end-transfer-requires
+end-transfer-requires c κs = search needs
+
+same-length : tie.Need-same-length
+same-length c = search needs
+
+returns : tie.Need-returns
+unfolding opened
+returns c = did-first _ _ _ _ (sym (eq-eqb _ _ (sym (rw ((c .before .before .before .before .before .before .setup-in .ensures)) at ((c .before .before .before .before .before .words-to-come .ensures))) ∙ (c .before .before .before .before .if1 .taken)))) refl (record { answer = refl; state = (c .before .before .end-transfer .ensures) })
+
+place-in-requires : tie.Need-place-in-requires
+place-in-requires c κs = search needs
+
+put-transfer-requires : tie.Need-put-transfer-requires
+put-transfer-requires c κs = search needs
+
+cast-t17 : tie.Need-cast-t17
+cast-t17 c = let few = words-few _ ((c .before .before .before .before .before .before .before .before .before .before .before .args .control)) (limits _ (sound _ ((c .before .before .before .before .before .before .before .before .before .before .before .pre .sound)) .limits)) in rw ((c .before .before .before .before .before .before .before .words-to-come .ensures), (c .before .before .before .before .before .before .before .before .setup-in .ensures)) (omega (arith, few))
+
+same-length-2 : tie.Need-same-length-2
+same-length-2 c = search needs
+
+returns-2 : tie.Need-returns-2
+unfolding opened
+returns-2 c = did-second _ _ _ _ (sym (ne-eqb _ _ (λ z. (c .before .before .before .before .before .before .if1 .left) (rw ((c .before .before .before .before .before .before .before .before .setup-in .ensures)) at ((c .before .before .before .before .before .before .before .words-to-come .ensures)) ∙ z)))) refl (record { answer = rw ((c .before .before .before .before .place-in .ensures), (c .before .before .before .before .before .before .before .words-to-come .ensures), (c .before .before .before .before .before .before .before .before .setup-in .ensures)); state = (c .before .before .put-transfer .ensures) })
+
+pub open-spec : {M : Type 1} → statement M
+open-spec =
+    tie.close
+    (tie.spec
+    setup-in-requires
+    words-to-come-requires
+    end-transfer-requires
+    same-length
+    returns
+    place-in-requires
+    put-transfer-requires
+    cast-t17
+    same-length-2
+    returns-2)

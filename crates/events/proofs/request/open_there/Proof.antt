@@ -1,0 +1,69 @@
+-- `open_there` meets its contract.
+-- Assumes nothing.
+use mathlib.Core.Path.{refl, sym}
+use Rattle.events.proofs.Done.{did-first, did-second}
+use Rattle.events.proofs.Asking.{at-target-fit, did-at-target}
+use Rattle.events.specs.State.{driveIn}
+use Rattle.drive.specs.Request.{opening}
+use Rattle.parts.specs.Pending.{bit4}
+use borrow.Author.Tests.{eq-eqb, ne-eqb, not-false, not-true}
+use borrow.Author.Needs.{needs}
+use Rattle.events.proofs.request.open_there.Statement.{statement}
+use Rattle.events.proofs.request.open_there.Tie as tie
+
+is-at-target-requires : tie.Need-is-at-target-requires
+is-at-target-requires c κs = search needs
+
+open-requires : tie.Need-open-requires
+open-requires c κs = search needs
+
+same-length : tie.Need-same-length
+same-length c = search needs
+
+returns : tie.Need-returns
+unfolding opening
+returns c = did-second _ _ _ _ ((c .before .before .before .before .before .is-at-target .ensures)) (not-true _ ((c .before .before .before .before .if1 .taken))) ((c .before .before .«open» .ensures))
+
+slice-read-if2 : tie.Need-slice-read-if2
+slice-read-if2 c = search needs
+
+fault-requires : tie.Need-fault-requires
+fault-requires c κs = ((c .before .before .before .before .before .before .pre .0), (c .before .before .before .before .before .before .pre .1), bit4)
+
+same-length-2 : tie.Need-same-length-2
+same-length-2 c = search needs
+
+returns-2 : tie.Need-returns-2
+unfolding opening driveIn
+returns-2 c = did-first _ _ _ _ ((c .before .before .before .before .before .before .before .is-at-target .ensures)) (not-false _ ((c .before .before .before .before .before .before .if1 .left))) (did-first _ _ _ _ (sym (eq-eqb _ _ ((c .before .before .before .before .if2 .taken)))) refl ((c .before .before .fault .ensures)))
+
+go-to-target-requires : tie.Need-go-to-target-requires
+go-to-target-requires c κs = search needs
+
+open-requires-2 : tie.Need-open-requires-2
+unfolding driveIn
+open-requires-2 c κs = at-target-fit ((c .before .before .before .before .before .before .before .before .before .before .pre .0)) ((c .before .before .before .before .before .if2 .left)) ((c .before .before .before .go-to-target .ensures))
+
+same-length-3 : tie.Need-same-length-3
+same-length-3 c = search needs
+
+returns-3 : tie.Need-returns-3
+unfolding opening driveIn
+returns-3 c = did-first _ _ _ _ ((c .before .before .before .before .before .before .before .before .before .before .before .is-at-target .ensures)) (not-false _ ((c .before .before .before .before .before .before .before .before .before .before .if1 .left))) (did-second _ _ _ _ (sym (ne-eqb _ _ ((c .before .before .before .before .before .before .before .before .if2 .left)))) refl (did-at-target _ ((c .before .before .before .before .before .before .before .before .before .before .before .before .before .pre .0)) ((c .before .before .before .before .before .before .go-to-target .ensures)) ((c .before .before .open2 .ensures))))
+
+pub open-there-spec : {M : Type 1} → statement M
+open-there-spec =
+    tie.close
+    (tie.spec
+    is-at-target-requires
+    open-requires
+    same-length
+    returns
+    slice-read-if2
+    fault-requires
+    same-length-2
+    returns-2
+    go-to-target-requires
+    open-requires-2
+    same-length-3
+    returns-3)

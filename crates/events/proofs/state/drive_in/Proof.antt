@@ -1,0 +1,68 @@
+-- `drive_in` meets its contract.
+-- Assumes nothing.
+use Rattle.events.specs.State.{driveIn}
+use borrow.Author.Needs.{needs}
+use Rattle.events.proofs.state.drive_in.Statement.{statement}
+use Rattle.events.proofs.state.drive_in.Tie as tie
+
+selected-in-requires : tie.Need-selected-in-requires
+selected-in-requires c κs = search needs
+
+shared-slice-read-hold-of : tie.Need-shared-slice-read-hold-of
+shared-slice-read-hold-of c = search needs
+
+hold-of-requires : tie.Need-hold-of-requires
+hold-of-requires c κs = search needs
+
+shared-slice-read-pending-in : tie.Need-shared-slice-read-pending-in
+shared-slice-read-pending-in c = search needs
+
+pending-in-requires : tie.Need-pending-in-requires
+pending-in-requires c κs = search needs
+
+shared-slice-read-pending-in-2 : tie.Need-shared-slice-read-pending-in-2
+shared-slice-read-pending-in-2 c = search needs
+
+pending-in-requires-2 : tie.Need-pending-in-requires-2
+pending-in-requires-2 c κs = search needs
+
+setup-in-requires : tie.Need-setup-in-requires
+setup-in-requires c κs = search needs
+
+place-in-requires : tie.Need-place-in-requires
+place-in-requires c κs = search needs
+
+shared-slice-read-t9 : tie.Need-shared-slice-read-t9
+shared-slice-read-t9 c = search needs
+
+shared-slice-read-t15 : tie.Need-shared-slice-read-t15
+shared-slice-read-t15 c = search needs
+
+shared-slice-read-t17 : tie.Need-shared-slice-read-t17
+shared-slice-read-t17 c = search needs
+
+shared-slice-read-t19 : tie.Need-shared-slice-read-t19
+shared-slice-read-t19 c = search needs
+
+returns : tie.Need-returns
+unfolding driveIn
+returns c = cc
+
+pub drive-in-spec : {M : Type 1} → statement M
+drive-in-spec =
+    tie.close
+    (tie.spec
+    selected-in-requires
+    shared-slice-read-hold-of
+    hold-of-requires
+    shared-slice-read-pending-in
+    pending-in-requires
+    shared-slice-read-pending-in-2
+    pending-in-requires-2
+    setup-in-requires
+    place-in-requires
+    shared-slice-read-t9
+    shared-slice-read-t15
+    shared-slice-read-t17
+    shared-slice-read-t19
+    returns)

@@ -1,0 +1,19 @@
+-- `lacks_read` meets its contract.
+-- Assumes nothing.
+use Rattle.events.proofs.Timely.{timely-told}
+use Rattle.events.specs.State.{driveIn}
+use mathlib.Core.Bool.{not}
+use mathlib.Core.Path.{ap}
+use borrow.Author.Needs.{needs}
+use Rattle.events.proofs.timing.lacks_read.Statement.{statement}
+use Rattle.events.proofs.timing.lacks_read.Tie as tie
+
+shared-slice-read-result : tie.Need-shared-slice-read-result
+shared-slice-read-result c = search needs
+
+returns : tie.Need-returns
+unfolding driveIn
+returns c = ap not (timely-told (c .before .pre) .read)
+
+pub lacks-read-spec : {M : Type 1} → statement M
+lacks-read-spec = tie.close (tie.spec shared-slice-read-result returns)

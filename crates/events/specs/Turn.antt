@@ -1,0 +1,50 @@
+-- What the private functions under `event` and `run` do: an event on the words of a state, and so many of them.
+use Prim.Native.Nat.{ℕ}
+use mathlib.Core.Path.{_≡_}
+use mathlib.Core.Bool.{Bool, true}
+use mathlib.Core.List.{List}
+use Rattle.laws.specs.Pick.{pick}
+use Rattle.laws.specs.Rows.{unlessRefused}
+use Rattle.laws.specs.Lists.{writtenOver}
+use Rattle.parts.specs.declared.event.Event.{Event}
+use Rattle.drive.specs.Answer.{refusalIn}
+use Rattle.drive.specs.Accepted.{isRefused}
+use Rattle.drive.specs.Run.{answerTo, after, answers, final}
+use Rattle.drive.specs.AnswerWords.{answerWords, allWords}
+use Rattle.drive.specs.Batch.{eventOf, eventsIn}
+use Rattle.drive.specs.declared.answer.Answer.{Answer}
+use Rattle.events.specs.State.{stateAfter}
+use Rattle.events.specs.Event.{machineIn}
+
+-- A refusal has a number that is not 0: 0 stands for none.
+abbrev pub Numbered : Answer → Type 0
+Numbered answer = isRefused answer ≡ true → refusalIn answer ≡ 0 → ⊥
+
+-- A refusal's number, unless it is told in the words.
+abbrev pub quietly : Bool → Answer → ℕ
+quietly telling answer = pick telling 0 (refusalIn answer)
+
+-- The words of an answer at the front of a slice; a refusal that keeps quiet leaves it.
+pub record Telling (telling : Bool) (answer : Answer) (out₀ : List ℕ) (r : ℕ) (out₁ : List ℕ) : Type 0 where
+  pub number : r ≡ quietly telling answer
+  pub out : out₁ ≡ unlessRefused r out₀ (writtenOver out₀ (answerWords answer))
+
+-- An event on any words of a state.
+pub record Answered (e : Event) (state₀ sectors₀ staging₀ : List ℕ) (r : Answer) (state₁ sectors₁ staging₁ : List ℕ) : Type 0 where
+  pub answer : r ≡ answerTo (machineIn state₀ sectors₀ staging₀) e
+  pub state : state₁ ≡ stateAfter state₀ (after (machineIn state₀ sectors₀ staging₀) e .drive)
+  pub sectors : sectors₁ ≡ after (machineIn state₀ sectors₀ staging₀) e .sectors
+  pub staging : staging₁ ≡ after (machineIn state₀ sectors₀ staging₀) e .staging
+
+-- And the words of its answer.
+pub record Turn (telling : Bool) (e : Event) (state₀ sectors₀ staging₀ out₀ : List ℕ) (r : ℕ) (state₁ sectors₁ staging₁ out₁ : List ℕ) : Type 0 where
+  pub answered : Answered e state₀ sectors₀ staging₀ (answerTo (machineIn state₀ sectors₀ staging₀) e) state₁ sectors₁ staging₁
+  pub told : Telling telling (answerTo (machineIn state₀ sectors₀ staging₀) e) out₀ r out₁
+
+-- So many events. A quiet batch has one, and answers its refusal.
+pub record Worked (telling : Bool) (count : ℕ) (records state₀ sectors₀ staging₀ out₀ : List ℕ) (r : ℕ) (state₁ sectors₁ staging₁ out₁ : List ℕ) : Type 0 where
+  pub number : r ≡ quietly telling (answerTo (machineIn state₀ sectors₀ staging₀) (eventOf records))
+  pub state : state₁ ≡ stateAfter state₀ (final (machineIn state₀ sectors₀ staging₀) (eventsIn count records) .drive)
+  pub sectors : sectors₁ ≡ final (machineIn state₀ sectors₀ staging₀) (eventsIn count records) .sectors
+  pub staging : staging₁ ≡ final (machineIn state₀ sectors₀ staging₀) (eventsIn count records) .staging
+  pub out : out₁ ≡ unlessRefused r out₀ (writtenOver out₀ (allWords (answers (machineIn state₀ sectors₀ staging₀) (eventsIn count records))))

@@ -1,0 +1,24 @@
+// Every event, on the words of a drive's state: one or many of them for C and Rust, and one on a drive by value.
+mod answer;
+mod answer_words;
+mod batch;
+mod by_value;
+mod event;
+mod judge;
+mod kinds;
+mod pending;
+mod place;
+mod posting;
+mod power;
+mod request;
+mod sizes;
+mod state;
+mod step;
+mod timing;
+mod transfer;
+mod words;
+
+pub use by_value::handle;
+pub use event::answer_event;
+pub use event::run_records;
+pub use power::power_up_words;

@@ -1,0 +1,96 @@
+// Kinds 3, 7 and 8: a data control, a position, a target.
+use crate::answer;
+use crate::pending;
+use crate::place;
+use crate::state;
+use drive::Answer;
+use parts::Control;
+use parts::Place;
+ghost use Prim.Native.Nat.{_≤_, _<_};
+ghost use mathlib.Core.Path.{_≡_};
+ghost use Rattle.drive.specs.Request.{opened, opening, controlled, dataControl, positioned, targeted};
+ghost use Rattle.parts.specs.Control.{controlOf};
+ghost use Rattle.events.specs.State.{driveIn};
+ghost use Rattle.events.specs.Fit.{Fit, Did};
+
+pub(crate) fn ask(state: &mut [u16], port: u8, control: u16) -> Answer
+    requires { ⌜ Fit (now state) × (port ≤ 1) ⌝ }
+    ensures { λ r. ⌜ Did (now (state .entry)) (dataControl (driveIn (now (state .entry))) port control) r (now (state .exit)) ⌝ }
+{
+    if pending::is_unsolicited(&state[..], port) {
+        return Answer::Status(answer::UNSOLICITED_EXCEPTION);
+    }
+    let kind = parts::control_of(control);
+    match kind {
+        Control::Write => open_there(state, port, control),
+        Control::Read => open_there(state, port, control),
+        Control::StepHead => {
+            place::step_head(state);
+            Answer::Status(answer::NORMAL)
+        }
+        Control::Reserved => pending::fault(state, port, parts::INVALID_BUS_CONTROL),
+        Control::Unsupported => pending::fault(state, port, parts::UNSUPPORTED_BUS_CONTROL),
+        Control::Invalid => pending::fault(state, port, parts::INVALID_BUS_CONTROL),
+    }
+}
+
+// At the position, or at the target, which has to be there.
+fn open_there(state: &mut [u16], port: u8, control: u16) -> Answer
+    requires { ⌜ Fit (now state) × (port ≤ 1) ⌝ }
+    ensures { λ r. ⌜ Did (now (state .entry)) (opening (driveIn (now (state .entry))) port control) r (now (state .exit)) ⌝ }
+{
+    if !parts::is_at_target(control) {
+        return open(state, control);
+    }
+    if state[13] == parts::NO_TARGET {
+        return pending::fault(state, port, parts::BUS_CONTROL_CONTEXT);
+    }
+    place::go_to_target(state);
+    open(state, control)
+}
+
+// A transfer opens at the position, or ends at once where no word is to come.
+fn open(state: &mut [u16], control: u16) -> Answer
+    requires { ⌜ Fit (now state) ⌝ }
+    ensures { λ r. ⌜ Did (now (state .entry)) (opened (driveIn (now (state .entry))) control) r (now (state .exit)) ⌝ }
+{
+    let setup = state::setup_in(&state[..]);
+    let words = setup.words_to_come(control);
+    if words == 0 {
+        place::end_transfer(state);
+        return Answer::Status(answer::NORMAL);
+    }
+    let here = state::place_in(&state[..]);
+    place::put_transfer(state, control, 0);
+    Answer::Opened(words as u16, here)
+}
+
+pub(crate) fn move_to(state: &mut [u16], port: u8, place: Place) -> Answer
+    requires { ⌜ Fit (now state) × (port ≤ 1) ⌝ }
+    ensures { λ r. ⌜ Did (now (state .entry)) (positioned (driveIn (now (state .entry))) port place) r (now (state .exit)) ⌝ }
+{
+    if pending::is_unsolicited(&state[..], port) {
+        return Answer::Status(answer::UNSOLICITED_EXCEPTION);
+    }
+    let setup = state::setup_in(&state[..]);
+    if setup.is_place(place) {
+        place::put_place(state, place);
+        return Answer::Status(answer::NORMAL);
+    }
+    pending::fault(state, port, parts::INVALID_PARAMETER)
+}
+
+pub(crate) fn aim_at(state: &mut [u16], port: u8, target: u16) -> Answer
+    requires { ⌜ Fit (now state) × (port ≤ 1) ⌝ }
+    ensures { λ r. ⌜ Did (now (state .entry)) (targeted (driveIn (now (state .entry))) port target) r (now (state .exit)) ⌝ }
+{
+    if pending::is_unsolicited(&state[..], port) {
+        return Answer::Status(answer::UNSOLICITED_EXCEPTION);
+    }
+    let setup = state::setup_in(&state[..]);
+    if setup.is_target(target) {
+        state[13] = target;
+        return Answer::Status(answer::NORMAL);
+    }
+    pending::fault(state, port, parts::INVALID_PARAMETER)
+}

@@ -1,0 +1,171 @@
+// Kinds 4 and 5, an open transfer: words from the host are staged, and committed at the last one; words to the host are taken from the sector.
+use crate::answer;
+use crate::place;
+use crate::sizes;
+use crate::state;
+use crate::timing;
+use crate::words;
+use drive::Answer;
+use parts::Event;
+use parts::Setup;
+ghost use Prim.Native.Nat.{_<_};
+ghost use mathlib.Core.Path.{_≡_};
+ghost use mathlib.Core.Bool.{true};
+ghost use Rattle.parts.specs.Setup.{sectorStart};
+ghost use Rattle.parts.specs.Control.{controlOf, isWrite, wordsToCome};
+ghost use Rattle.parts.specs.Kind.{Kind, Work, wordOf};
+ghost use Rattle.drive.specs.Transfer.{miscompares, committed, staged, wordStaged, wordTaken};
+ghost use Rattle.drive.specs.Able.{Able, Room, ReadsAt, unlessOwnRow, unlessOwnRowIn};
+ghost use Rattle.events.specs.State.{driveIn};
+ghost use Rattle.events.specs.Fit.{Fits, Did, DidIn};
+
+// ---- words from the host
+
+// Word k of a write is staged at index k.
+pub(crate) fn on_word_from_host(
+    state: &mut [u16],
+    event: Event,
+    sectors: &mut [u16],
+    staging: &mut [u16],
+) -> Answer
+    requires { ⌜ Fits (now state) (now sectors) (now staging) ⌝ }
+    ensures { λ r. ⌜ DidIn (now (state .entry)) (unlessOwnRowIn (Kind.Use Work.WordFromHost) (driveIn (now (state .entry))) event (now (sectors .entry)) (now (staging .entry)) (wordStaged (driveIn (now (state .entry))) (wordOf event) (now (sectors .entry)) (now (staging .entry)))) r (now (state .exit)) (now (sectors .exit)) (now (staging .exit)) ⌝ }
+{
+    let formed = parts::none_after_2(event);
+    let selected = timing::is_selected(&state[..], event.port);
+    let untimely = timing::lacks_write(&state[..]);
+    if timing::is_refused(formed, selected, untimely) {
+        return Answer::Refused(parts::inside_refusal(formed, selected, untimely));
+    }
+    let control = state[14];
+    let moved = state[15] as usize;
+    staging[moved] = parts::word_of(event);
+    after_word(state, control, moved + 1, sectors, &staging[..])
+}
+
+// So many words are staged: the header is compared at its last word, the fields are committed at the very last.
+fn after_word(
+    state: &mut [u16],
+    control: u16,
+    count: usize,
+    sectors: &mut [u16],
+    staging: &[u16],
+) -> Answer
+    requires { ⌜ Fits (now state) (now sectors) (now staging) × (control ≡ driveIn (now state) .transfer .control) × (isWrite (controlOf control) ≡ true) × (count < 65536) ⌝ }
+    ensures { λ r. ⌜ DidIn (now (state .entry)) (staged (driveIn (now (state .entry))) count (sectorStart (driveIn (now (state .entry)) .setup) (driveIn (now (state .entry)) .place)) (now (sectors .entry)) (now (staging .entry))) r (now (state .exit)) (now (sectors .exit)) (now (staging .entry)) ⌝ }
+{
+    if header_miscompares(&state[..], control, count, &sectors[..], staging) {
+        place::end_transfer(state);
+        return Answer::Status(answer::HEADER_MISCOMPARE);
+    }
+    let setup = state::setup_in(&state[..]);
+    if count == write_words(setup, control) {
+        let start = sizes::sector_start(setup, state::place_in(&state[..]));
+        commit(setup, control, start, sectors, staging);
+        place::end_transfer(state);
+        return Answer::Status(answer::NORMAL);
+    }
+    state[15] = count as u16;
+    Answer::Done
+}
+
+fn header_miscompares(
+    state: &[u16],
+    control: u16,
+    count: usize,
+    sectors: &[u16],
+    staging: &[u16],
+) -> bool
+    requires { ⌜ Fits (now state) (now sectors) (now staging) ⌝ }
+    ensures { λ r. ⌜ r ≡ miscompares (driveIn (now (state .entry)) .setup) control count (sectorStart (driveIn (now (state .entry)) .setup) (driveIn (now (state .entry)) .place)) (now (sectors .entry)) (now (staging .entry)) ⌝ }
+{
+    let setup = state::setup_in(state);
+    let header = setup.header as usize;
+    if parts::verifies_header(control) & (count == header) {
+        let start = sizes::sector_start(setup, state::place_in(state));
+        return !words::same_words(staging, 0, sectors, start, header);
+    }
+    false
+}
+
+// A write passes its header, verified or moved.
+fn write_words(setup: Setup, control: u16) -> usize
+    requires { ⌜ isWrite (controlOf control) ≡ true ⌝ }
+    ensures { λ r. ⌜ r ≡ wordsToCome setup control ⌝ }
+{
+    let field1 = parts::part_of(parts::names_field1(control), setup.field1);
+    let field2 = parts::part_of(parts::names_field2(control), setup.field2);
+    setup.header as usize + field1 + field2
+}
+
+// The named written fields go from the staging words to the sector.
+fn commit(setup: Setup, control: u16, start: usize, sectors: &mut [u16], staging: &[u16])
+    requires { ⌜ Room setup start (now sectors) (now staging) ⌝ }
+    ensures { λ _. ⌜ now (sectors .exit) ≡ committed setup control start (now (sectors .entry)) (now (staging .entry)) ⌝ }
+{
+    let header = setup.header as usize;
+    let written_header = parts::part_of(parts::moves_header(control), setup.header);
+    let field1 = parts::part_of(parts::names_field1(control), setup.field1);
+    let field2 = parts::part_of(parts::names_field2(control), setup.field2);
+    let field1_at = start + header;
+    let field2_at = field1_at + setup.field1 as usize;
+    let field2_from = header + field1;
+    words::copy_words(sectors, start, staging, 0, written_header);
+    words::copy_words(sectors, field1_at, staging, header, field1);
+    words::copy_words(sectors, field2_at, staging, field2_from, field2);
+}
+
+// ---- words to the host
+
+pub(crate) fn on_take_word(
+    state: &mut [u16],
+    event: Event,
+    sectors: &[u16],
+    staging: &[u16],
+) -> Answer
+    requires { ⌜ Fits (now state) (now sectors) (now staging) ⌝ }
+    ensures { λ r. ⌜ Did (now (state .entry)) (unlessOwnRow (Kind.Use Work.TakeWord) (driveIn (now (state .entry))) event (wordTaken (driveIn (now (state .entry))) (now (sectors .entry)))) r (now (state .exit)) ⌝ }
+{
+    let formed = parts::none_at_all(event);
+    let selected = timing::is_selected(&state[..], event.port);
+    let untimely = timing::lacks_read(&state[..]);
+    if timing::is_refused(formed, selected, untimely) {
+        return Answer::Refused(parts::inside_refusal(formed, selected, untimely));
+    }
+    take(state, sectors, staging)
+}
+
+fn take(state: &mut [u16], sectors: &[u16], staging: &[u16]) -> Answer
+    requires { ⌜ Fits (now state) (now sectors) (now staging) × Able (driveIn (now state)) (now sectors) (now staging) ⌝ }
+    ensures { λ r. ⌜ Did (now (state .entry)) (wordTaken (driveIn (now (state .entry))) (now (sectors .entry))) r (now (state .exit)) ⌝ }
+{
+    let control = state[14];
+    let moved = state[15];
+    let setup = state::setup_in(&state[..]);
+    let start = sizes::sector_start(setup, state::place_in(&state[..]));
+    let at = start + word_offset(setup, control, moved);
+    let word = sectors[at];
+    if moved as usize + 1 == setup.words_to_come(control) {
+        place::end_transfer(state);
+        return Answer::LastWord(word);
+    }
+    state[15] = moved + 1;
+    Answer::Word(word)
+}
+
+// Where word k of a read stands in its sector.
+fn word_offset(setup: Setup, control: u16, moved: u16) -> usize
+    requires { ⌜ moved < wordsToCome setup control ⌝ }
+    ensures { λ r. ⌜ ReadsAt setup control moved r ⌝ }
+{
+    let header = parts::part_of(parts::header_passes(control), setup.header);
+    let field1 = parts::part_of(parts::names_field1(control), setup.field1);
+    let k = moved as usize;
+    if k < header {
+        return k;
+    }
+    if k < header + field1 {
+        return k - header + setup.header as usize;
+    }
+    k - header - field1 + setup.header as usize + setup.field1 as usize
+}
