@@ -16,7 +16,7 @@ use Rattle.drive.specs.Event.{handled}
 use Rattle.drive.specs.Run.{answerTo, after, answers, final}
 use Rattle.bench.specs.Text.{decimalWithin, decimal, numberedLine, hexDigit}
 use Rattle.bench.specs.Line.{lineOf, ownerLine}
-use Rattle.drive.specs.Batch.{eventOf, eventsIn, eventsOf}
+use Rattle.drive.specs.Batch.{eventOf, eventsIn}
 use Rattle.bench.specs.Run.{linesFrom, linesOfRun, runReport}
 use Rattle.bench.specs.Report.{captureReport, reportOf}
 use Rattle.bench.specs.Cases.{ReplayCases}

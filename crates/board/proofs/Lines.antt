@@ -8,8 +8,6 @@ use lib.ListN.{length, getD, set}
 use Rattle.laws.specs.Pick.{pick}
 use Rattle.lines.specs.Follower.{Stepped}
 use Rattle.lines.specs.declared.follower.Followed.{Followed}
-use Rattle.lines.specs.declared.follower.Answer.{Answer}
-use Rattle.lines.specs.declared.follower.Follower.{Follower}
 use Rattle.board.specs.Line.{followerIn, followerOctet, lineNumber, LineFollowed}
 
 pub no-follower : (follower : List ℕ) (setting : ℕ) → length follower < 1 → LineFollowed follower setting 10 follower

@@ -2,22 +2,16 @@
 -- Assumes nothing.
 use Prim.Native.Nat.{ℕ, zero, suc, _≤_}
 use mathlib.Core.Path.{_≡_, refl, sym, ap, _∙_}
-use mathlib.Core.Bool.{Bool, true, false, not, or-true, true≢false, _||_}
-use mathlib.Core.List.{List, [], _∷_, _++_}
+use mathlib.Core.Bool.{Bool, true, false, _||_}
+use mathlib.Core.List.{List}
 use native.Mathlib.Omega.{arith}
 use borrow.Author.Tests.{le-ltb, ltb-false}
 use lib.Dec.{ltb}
-use lib.ListN.{length, take, drop}
+use lib.ListN.{length, take}
 use lib.Seq.{take-at, take-append-seam}
 use Rattle.laws.specs.Pick.{pick}
-use Rattle.parts.specs.Setup.{withinLimits}
-use Rattle.parts.specs.Tests.{isOutsideLimits}
 use Rattle.parts.specs.declared.event.Event.{Event}
 use Rattle.drive.specs.Answer.{refusalIn}
-use Rattle.drive.specs.Accepted.{isRefused}
-use Rattle.drive.specs.Refusal.{row11}
-use Rattle.drive.specs.State.{Result}
-use Rattle.drive.specs.Event.{handled}
 use Rattle.drive.specs.Run.{Machine, machine, answerTo, after, answers, final}
 use Rattle.drive.specs.Batch.{eventsOf}
 use Rattle.drive.specs.AnswerWords.{answerWords, allWords}
@@ -25,17 +19,13 @@ use Rattle.drive.specs.declared.drive.Drive.{Drive}
 use Rattle.drive.specs.declared.answer.Answer.{Answer}
 use Rattle.drive.specs.declared.answer.Answer.the-variants.{Refused, Done, Status, Opened, Word, LastWord, Response}
 use Rattle.drive.proofs.Laws.{refused-changes-nothing}
-use Rattle.drive.proofs.Step.{refused-with-11}
-use Rattle.drive.proofs.StaysSound.{same-size}
 use Rattle.drive.proofs.Turns.{thirteen}
-use Rattle.events.specs.State.{holdIsKnown, selectedIn, driveIn, movedTo, stateAfter}
-use Rattle.events.specs.Event.{machineIn, eventRefusal, EventOnWords}
+use Rattle.events.specs.State.{stateAfter}
+use Rattle.events.specs.Event.{machineIn, EventOnWords}
 use Rattle.events.specs.Run.{runRefusal, RunOnWords}
 use Rattle.board.specs.Singles.{Words, words, toldBy, Singles, none, one, RunIsSingles}
-use Rattle.events.proofs.Goes.{unmoved, unsound-hold}
+use Rattle.events.proofs.Goes.{goes, unmoved}
 use Rattle.events.proofs.Promises.{numbered-refused}
-use Rattle.events.proofs.Octets.{octets-after}
-use Rattle.events.proofs.Back.{drive-again, long-again, after-again, octets-in}
 
 -- ---- an answer by its refusal
 
@@ -47,18 +37,6 @@ refused-answer (Opened m p) n e = absurd (omega arith)
 refused-answer (Word w) n e = absurd (omega arith)
 refused-answer (LastWord w) n e = absurd (omega arith)
 refused-answer (Response octet0 octet1 octet2) n e = absurd (omega arith)
-
--- an event is accepted only on a state whose hold is one of the three
-hold-taken : (state : List ℕ) (e : Event) (sectors staging : List ℕ) (known : Bool) → holdIsKnown state ≡ known → refusalIn (answerTo (machineIn state sectors staging) e) ≡ 0 → known ≡ true
-unfolding answerTo
-hold-taken state e sectors staging true k z = refl
-hold-taken state e sectors staging false k z =
-    let refused = refused-with-11 (driveIn state) e sectors staging (unsound-hold state k) in
-    absurd (let n : 11 ≡ 0 = sym (ap (λ (r : Result). refusalIn (r .outcome .answer)) refused) ∙ z in omega arith)
-
-moved-known : (state : List ℕ) (d : Drive) → holdIsKnown state ≡ true → stateAfter state d ≡ movedTo state d
-unfolding stateAfter pick
-moved-known state d k = rw k
 
 -- a run that is not refused has a state
 state-by : (state records out : List ℕ) (short : Bool) → ltb (length state) 18 ≡ short → 0 ≡ runRefusal state records out → 18 ≤ length state
@@ -107,14 +85,12 @@ going-accepted : {state : List ℕ} {e : Event} {sectors staging answer : List �
     → Going (words state sectors staging) e (toldBy r answer′) (words state′ sectors′ staging′)
 going-accepted {state} {e} {sectors} {staging} {answer} z h k call =
     let m = machineIn state sectors staging in
-    let d = after m e .drive in
-    let known = hold-taken state e sectors staging (holdIsKnown state) refl (sym (its-refusal h k call) ∙ z) in
-    let s = (rw z at (call .state)) ∙ moved-known state d known in
-    let again = drive-again state d h (octets-after m e (octets-in state)) (same-size m e .setup) in
+    let g = goes state sectors staging e h in
+    let s = rw z at (call .state) in
     record {
-      long = rw s (long-again state d h);
-      machine = rw (s, rw z at (call .sectors), rw z at (call .staging), again);
-      state = λ d′. rw s (after-again state d d′ h known);
+      long = rw s (g .long);
+      machine = rw (s, rw z at (call .sectors), rw z at (call .staging), g .drive);
+      state = λ d. rw s (g .again d);
       told = rw (z, rw z at (call .answer)) (take-at (answerWords (answerTo m e)) _ 13 (thirteen (answerTo m e)));
     }
 

@@ -1,13 +1,13 @@
 -- `pg_line`: the follower as one octet, and its answers as numbers.
-use Prim.Native.Nat.{ℕ, _+_, _*_, _/_, _%_}
+use Prim.Native.Nat.{ℕ, _+_, _%_}
 use mathlib.Core.Path.{_≡_}
-use mathlib.Core.Bool.{Bool, true, false, _||_}
-use mathlib.Core.List.{List, []}
-use lib.Dec.{eqb, ltb}
+use mathlib.Core.Bool.{Bool}
+use mathlib.Core.List.{List}
+use lib.Dec.{ltb}
 use lib.ListN.{length, getD, set}
 use Rattle.laws.specs.Pick.{pick}
 use Rattle.laws.specs.Octets.{bit}
-use Rattle.lines.specs.Follower.{stepOf, refusalIn}
+use Rattle.lines.specs.Follower.{stepOf}
 use Rattle.lines.specs.declared.follower.Answer.{Answer}
 use Rattle.lines.specs.declared.follower.Answer.the-variants.{Same, Controllers, Drives, Undefined, Lost, Idle, Refused}
 use Rattle.lines.specs.declared.follower.Follower.{Follower}

@@ -19,12 +19,12 @@ use Rattle.drive.specs.Event.{handled, refusedWith}
 use Rattle.drive.specs.Able.{Passable}
 use Rattle.drive.specs.Run.{Machine, machine, after, answerTo, answers, final}
 use Rattle.drive.specs.AnswerWords.{answerWords, allWords}
-use Rattle.drive.specs.Batch.{eventOf, eventsIn, eventsOf, recordCount, judgement, batchRefusal, TurnTaken, Gone}
+use Rattle.drive.specs.Batch.{eventOf, eventsIn, recordCount, judgement, batchRefusal, TurnTaken, Gone}
 use Rattle.drive.specs.declared.drive.Drive.{Drive}
 use Rattle.drive.specs.declared.answer.Answer.{Answer}
 use Rattle.drive.specs.declared.answer.Answer.the-variants.{Refused, Done, Status, Opened, Word, LastWord, Response}
 use Rattle.drive.proofs.Step.{refused-with-10, refused-with-11}
-use Rattle.drive.proofs.StaysSound.{sound-after, same-size}
+use Rattle.drive.proofs.StaysSound.{sound-after}
 
 -- ---- what rows 11 and 10 say
 

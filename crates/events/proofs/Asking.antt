@@ -1,12 +1,11 @@
 -- Kinds 3, 7 and 8 on words: what is pending in octet 1 comes before the request, and a request may follow a move.
 -- Assumes nothing.
-use Prim.Native.Nat.{ℕ, _≤_, _<_}
-use mathlib.Core.Path.{_≡_, refl, sym, ap, _∙_}
+use Prim.Native.Nat.{ℕ}
+use mathlib.Core.Path.{_≡_, refl, sym, _∙_}
 use mathlib.Core.Bool.{Bool, true, false, not}
 use mathlib.Core.List.{List}
 use borrow.Author.Tests.{ne-eqb, not-true, not-false}
 use lib.Dec.{eqb}
-use lib.ListN.{length}
 use Rattle.laws.specs.Pick.{pick}
 use Rattle.parts.specs.Setup.{noTarget}
 use Rattle.parts.specs.Control.{controlOf}

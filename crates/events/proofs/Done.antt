@@ -1,22 +1,19 @@
 -- How a kind on words meets its contract: its own rows refuse it and the words stay, or none does and it did its work.
 -- Assumes nothing.
-use Prim.Native.Nat.{ℕ, _≤_, _<_}
+use Prim.Native.Nat.{ℕ}
 use mathlib.Core.Path.{_≡_, refl, sym, ap, _∙_}
 use mathlib.Core.Bool.{Bool, true, false, not, true≢false}
 use mathlib.Core.List.{List}
 use borrow.Author.Tests.{not-true, not-false, eqb-true, eqb-false}
 use lib.Dec.{eqb, ltb}
-use lib.ListN.{length}
 use Rattle.laws.specs.Pick.{pick}
 use Rattle.laws.specs.Rows.{first}
-use Rattle.laws.proofs.Pick.{cases}
 use Rattle.parts.specs.Holding.{nobody}
 use Rattle.parts.specs.Kind.{Kind}
 use Rattle.parts.specs.declared.event.Event.{Event}
 use Rattle.drive.specs.State.{Result, result, told}
 use Rattle.drive.specs.Refusal.{ownRows}
 use Rattle.drive.specs.Able.{unlessOwnRow, unlessOwnRowIn}
-use Rattle.drive.specs.declared.drive.Drive.{Drive}
 use Rattle.drive.specs.declared.answer.Outcome.{Outcome}
 use Rattle.drive.specs.declared.answer.Answer.{Answer}
 use Rattle.drive.specs.declared.answer.Answer.the-variants.{Refused}

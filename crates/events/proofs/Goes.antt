@@ -3,13 +3,12 @@
 use Prim.Native.Nat.{ℕ, zero, suc, _+_, _-_, _*_, _<_, _≤_}
 use mathlib.Core.Path.{_≡_, refl, sym, ap, _∙_}
 use mathlib.Core.Bool.{Bool, true, false, not, or-true, true≢false}
-use mathlib.Core.List.{List, [], _∷_, _++_, append-nil}
+use mathlib.Core.List.{List, _++_, append-nil}
 use native.Mathlib.Omega.{arith}
-use lib.ListN.{length, take, drop, take-append-drop}
+use lib.ListN.{length, take, drop}
 use lib.Seq.{drop-length}
 use Rattle.laws.specs.Pick.{pick}
 use Rattle.laws.specs.Rows.{unlessRefused}
-use Rattle.laws.specs.Lists.{writtenOver}
 use Rattle.laws.proofs.Runs.{rest-whole}
 use Rattle.parts.specs.Setup.{withinLimits}
 use Rattle.parts.specs.Tests.{isOutsideLimits}
@@ -19,8 +18,7 @@ use Rattle.drive.specs.Accepted.{isRefused}
 use Rattle.drive.specs.Refusal.{row11, refusalOf}
 use Rattle.drive.specs.State.{Result, told}
 use Rattle.drive.specs.Event.{handled, refusedWith, Handled}
-use Rattle.drive.specs.Run.{Machine, machine, answerTo, after, answers, final}
-use Rattle.drive.specs.AnswerWords.{answerWords, allWords}
+use Rattle.drive.specs.Run.{Machine, machine, answerTo, after, final}
 use Rattle.drive.specs.Batch.{eventOf, eventsIn, judgement, TurnTaken}
 use Rattle.drive.specs.declared.drive.Drive.{Drive}
 use Rattle.drive.specs.declared.answer.Answer.{Answer}
@@ -41,7 +39,7 @@ use Rattle.events.proofs.Back.{after-again, drive-again, long-again, oc
 
 -- ---- the words of a state after an event
 
-pub unsound-hold : (state : List ℕ) → holdIsKnown state ≡ false → row11 (driveIn state) ≡ true
+unsound-hold : (state : List ℕ) → holdIsKnown state ≡ false → row11 (driveIn state) ≡ true
 unfolding row11 isOutsideLimits driveIn selectedIn pick
 unsound-hold state k = rw (k, or-true (not (withinLimits (driveIn state .setup))))
 

@@ -1,11 +1,11 @@
 -- From what a batch did to the promises of `answer_event` and `run_records`.
 -- Assumes nothing.
-use Prim.Native.Nat.{ℕ, zero, suc, _*_, _/_, _%_, _<_, _≤_}
+use Prim.Native.Nat.{ℕ, zero, suc, _*_, _/_, _%_, _≤_}
 use mathlib.Core.Path.{_≡_, refl, sym, ap, _∙_}
 use mathlib.Core.Bool.{Bool, true, false, _||_}
 use mathlib.Core.List.{List, append-nil}
 use native.Mathlib.Omega.{arith}
-use borrow.Author.Tests.{ltb-true, ltb-false, le-ltb}
+use borrow.Author.Tests.{ltb-true, ltb-false}
 use lib.Dec.{ltb}
 use lib.ListN.{length}
 use Rattle.laws.specs.Pick.{pick}
@@ -17,12 +17,12 @@ use Rattle.drive.specs.Answer.{refusalIn}
 use Rattle.drive.specs.Accepted.{isRefused}
 use Rattle.drive.specs.Run.{Machine, answerTo, after, answers, final}
 use Rattle.drive.specs.AnswerWords.{answerWords, allWords}
-use Rattle.drive.specs.Batch.{eventOf, eventsIn, eventsOf, recordCount, batchRefusal}
+use Rattle.drive.specs.Batch.{eventOf, eventsIn, recordCount, batchRefusal}
 use Rattle.drive.specs.declared.answer.Answer.{Answer}
 use Rattle.drive.specs.declared.answer.Answer.the-variants.{Refused, Done, Status, Opened, Word, LastWord, Response}
 use Rattle.drive.proofs.Laws.{refused-changes-nothing}
 use Rattle.drive.proofs.Turns.{out-too-short, not-whole, whole-with-room}
-use Rattle.events.specs.State.{driveIn, stateAfter}
+use Rattle.events.specs.State.{stateAfter}
 use Rattle.events.specs.Event.{machineIn, EventOnWords}
 use Rattle.events.specs.Run.{runRefusal, RunOnWords}
 use Rattle.events.specs.Turn.{Worked}

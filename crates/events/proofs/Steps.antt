@@ -8,7 +8,7 @@ use Rattle.parts.specs.Kind.{Kind, Unknown, kindOf}
 use Rattle.parts.specs.declared.event.Event.{Event}
 use Rattle.drive.specs.State.{result}
 use Rattle.drive.specs.Refusal.{row1}
-use Rattle.drive.specs.Event.{act, handled, refusedWith}
+use Rattle.drive.specs.Event.{act, handled}
 use Rattle.drive.specs.Able.{unlessOwnRow, unlessOwnRowIn}
 use Rattle.drive.specs.declared.answer.Answer.{Answer}
 use Rattle.drive.specs.declared.answer.Outcome.{Outcome}

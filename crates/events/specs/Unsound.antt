@@ -1,6 +1,6 @@
 -- Row 11 as the code tests it on the state's words: `unsound-words` says that this is row 11.
 use Prim.Native.Nat.{ℕ, _/_, _%_}
-use mathlib.Core.Bool.{Bool, true, not, _||_}
+use mathlib.Core.Bool.{Bool, not, _||_}
 use lib.Dec.{ltb, leb, eqb}
 use Rattle.laws.specs.Pick.{pick}
 use Rattle.parts.specs.Control.{controlOf, isWrite, isRead, wordsToCome}

@@ -1,7 +1,6 @@
 -- `turn` meets its contract.
 -- Assumes nothing.
 use Rattle.events.proofs.Goes.{numbered, turn-told}
-use native.Mathlib.Omega.{arith}
 use borrow.Author.Needs.{needs}
 use Rattle.events.proofs.batch.turn.Statement.{statement}
 use Rattle.events.proofs.batch.turn.Tie as tie

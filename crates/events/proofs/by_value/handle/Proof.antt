@@ -4,7 +4,6 @@ use native.Mathlib.Omega.{arith}
 use Rattle.events.proofs.Goes.{handled-on}
 use Rattle.events.proofs.Back.{read-again}
 use Rattle.events.specs.State.{movingWords, stateWords}
-use mathlib.Core.Path.{_∙_, ap}
 use borrow.Author.Needs.{needs}
 use Rattle.events.proofs.by_value.handle.Statement.{statement}
 use Rattle.events.proofs.by_value.handle.Tie as tie

@@ -5,7 +5,6 @@ use Rattle.events.proofs.Changes.{pending-at, posted}
 use Rattle.events.specs.State.{pendingWord}
 use Rattle.drive.specs.Request.{statusRead}
 use Rattle.parts.specs.Pending.{nothingPending}
-use mathlib.Core.Path.{refl}
 use borrow.Author.Needs.{needs}
 use Rattle.events.proofs.pending.tell_status.Statement.{statement}
 use Rattle.events.proofs.pending.tell_status.Tie as tie
