@@ -1,6 +1,6 @@
 // Who holds the drive.
 ghost use mathlib.Core.Path.{_≡_};
-ghost use Rattle.parts.specs.Holding.{holds, priorityHold, prioritySelect, holdSet, holdsAgainst, isOwnedByOther, isBusy, grantedTo, released, free};
+ghost use Rattle.parts.specs.Holding.{priorityHold, prioritySelect, holdSet, holdsAgainst, isOwnedByOther, isBusy, grantedTo, released, free};
 
 pub enum Hold {
     None,
@@ -86,18 +86,6 @@ impl Holding {
     {
         let hold = self.hold;
         self.is_owned_by_other(port) & holds_against(hold, octet)
-    }
-
-    // Does the port hold the drive between its sessions?
-    pub fn holds(self) -> bool
-        ensures { λ r. ⌜ r ≡ holds (self .hold) ⌝ }
-    {
-        let hold = self.hold;
-        match hold {
-            Hold::None => false,
-            Hold::Plain => true,
-            Hold::Strong => true,
-        }
     }
 
     pub fn released(self) -> Holding

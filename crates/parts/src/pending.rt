@@ -1,7 +1,6 @@
 // What is pending on a port: octets 1 and 2 of its status response.
 ghost use mathlib.Core.Path.{_≡_};
 ghost use Rattle.parts.specs.Pending.{octet0};
-ghost use Rattle.parts.specs.Tests.{hasStrayBit};
 
 pub struct Pending {
     pub octet1: u8,
@@ -26,14 +25,6 @@ const UNSOLICITED_EXCEPTION: u8 = 0x40;
 const BUS_CONTROL_EXCEPTION: u8 = 0x20;
 
 impl Pending {
-    // A bit that the base never sets.
-    pub fn has_stray_bit(self) -> bool
-        ensures { λ r. ⌜ r ≡ hasStrayBit self ⌝ }
-    {
-        (self.octet1 % ALTERNATE_PORT_PRIORITY_SELECT != 0)
-            | (self.octet2 % BUS_CONTROL_CONTEXT != 0)
-    }
-
     pub fn octet0(self) -> u8
         ensures { λ r. ⌜ r ≡ octet0 self ⌝ }
     {
