@@ -103,8 +103,17 @@ run-put out ws at h =
       ap (drop (at + length ws)) whole ∙ drop-at (take at out ++ ws) (drop (length ws) (drop at out)) (at + length ws) size ∙ drop-drop (length ws) at out,
     )
 
+-- the same behind a front that is known, in a slice that is as it was from there on
+pub run-behind : (front ws out₀ out part : List ℕ) (at : ℕ) → at ≤ length out → take at out ≡ front → drop at out ≡ drop at out₀ → part ≡ writtenOver (drop at out) ws
+    → (take (at + length ws) (take at out ++ part) ≡ front ++ ws) × (drop (at + length ws) (take at out ++ part) ≡ drop (at + length ws) out₀)
+run-behind front ws out₀ out part at h f l p =
+    let put = run-put out ws at h in (
+      rw p (put .0 ∙ ap (λ (x : List ℕ). x ++ ws) f),
+      rw p (put .1 ∙ sym (drop-drop (length ws) at out) ∙ ap (drop (length ws)) l ∙ drop-drop (length ws) at out₀),
+    )
+
 -- the slice from an index on, lent and given back
-lent-rest : (out part : List ℕ) (at : ℕ) → at ≤ length out → take at out ++ (part ++ drop (length out - at) (drop at out)) ≡ take at out ++ part
+pub lent-rest : (out part : List ℕ) (at : ℕ) → at ≤ length out → take at out ++ (part ++ drop (length out - at) (drop at out)) ≡ take at out ++ part
 lent-rest out part at h =
     let e : at + (length out - at) ≡ length out = omega arith in
     ap (λ (rest : List ℕ). take at out ++ (part ++ rest)) (drop-drop (length out - at) at out ∙ ap (λ (n : ℕ). drop n out) e ∙ drop-length out)
@@ -125,12 +134,11 @@ unfolding final answers allWords
 turned-by {start} {events} {out₀} {m} {m′} {e} {rest} {at} {out} {part} h t k =
     let ws = answerWords (answerTo m e) in
     let n = thirteen (answerTo m e) in
-    let put = run-put out ws at h in
+    let put = run-behind (take at out) ws out₀ out part at h refl (t .left) (k .out) in
     record {
       end = rw (k .machine) (t .end);
-      written =
-          rw (k .machine, k .out, ← n, put .0, append-assoc (take at out) ws (allWords (answers (after m e) rest))) (t .written);
-      left = rw (k .out, ← n, put .1) (sym (drop-drop (length ws) at out) ∙ ap (drop (length ws)) (t .left) ∙ drop-drop (length ws) at out₀);
+      written = rw (k .machine, ← n, put .0, append-assoc (take at out) ws (allWords (answers (after m e) rest))) (t .written);
+      left = rw (← n) (put .1);
     }
 
 -- the turn as the loop takes it: both slices are lent from an index on
@@ -155,7 +163,7 @@ judged-on {d = d} {sectors} {staging} {e} j k =
     j ∙ sym (judged-after (machine d sectors staging) e) ∙ ap (λ (m : Machine). judgement (m .drive) (m .sectors) (m .staging)) (sym (k .machine))
 
 -- a list whose front is known and whose rest is as it was
-whole-run : (out out₀ front : List ℕ) (n : ℕ) → n ≤ length out → take n out ≡ front → drop n out ≡ drop n out₀ → out ≡ writtenOver out₀ front
+pub whole-run : (out out₀ front : List ℕ) (n : ℕ) → n ≤ length out → take n out ≡ front → drop n out ≡ drop n out₀ → out ≡ writtenOver out₀ front
 whole-run out out₀ front n h f r = rw (← f, length-take-le n out h, ← r) (sym (take-append-drop n out))
 
 -- no event is left

@@ -2,10 +2,9 @@
 -- Assumes nothing.
 use Prim.Native.Nat.{ℕ}
 use mathlib.Core.Path.{_≡_, refl, sym, ap, _∙_}
-use mathlib.Core.Bool.{Bool, true, false, not, true≢false}
+use mathlib.Core.Bool.{Bool, true, false, true≢false}
 use mathlib.Core.List.{List}
-use borrow.Author.Tests.{not-true, not-false, eqb-true, eqb-false}
-use lib.Dec.{eqb, ltb}
+use lib.Dec.{ltb}
 use Rattle.laws.specs.Pick.{pick}
 use Rattle.laws.specs.Rows.{first}
 use Rattle.parts.specs.Holding.{nobody}
@@ -79,23 +78,6 @@ pub did-accepted-in : (k : Kind) (state : List ℕ) (e : Event) (sectors staging
     → DidIn state (unlessOwnRowIn k (driveIn state) e sectors staging accepted) r state′ sectors′ staging′
 did-accepted-in k state e sectors staging accepted n p z d =
     did-as-in _ _ (own-accepted-in k (driveIn state) e sectors staging accepted accepted n p z refl) d
-
--- what `is_refused` says of the number
-pub is-some : (r : Bool) (n : ℕ) → r ≡ not (eqb n 0) → r ≡ true → n ≡ 0 → ⊥
-is-some r n e t z = eqb-false n 0 (not-true (eqb n 0) (sym e ∙ t)) z
-
-pub is-none : (r : Bool) (n : ℕ) → r ≡ not (eqb n 0) → r ≡ false → n ≡ 0
-is-none r n e t = eqb-true n 0 (not-false (eqb n 0) (sym e ∙ t))
-
--- kinds 2 to 9, by the rows 8, 2 and 7 as the code has them: the number that is told is theirs
-pub did-refused-inside : (k : Kind) (state : List ℕ) (e : Event) (accepted : Outcome) (n m : ℕ) (r : Bool) → Fit state → n ≡ m → r ≡ not (eqb m 0)
-    → r ≡ true → m ≡ first (ownRows k (driveIn state) e) → Did state (unlessOwnRow k (driveIn state) e accepted) (Refused n) state
-did-refused-inside k state e accepted n m r f q t h p = did-refused k state e accepted n f (q ∙ p) (λ z. is-some r m t h (sym q ∙ z))
-
-pub did-accepted-inside : (k : Kind) (state : List ℕ) (e : Event) (accepted : Outcome) (r : Bool) {answer : Answer} {state′ : List ℕ}
-    → r ≡ not (eqb (first (ownRows k (driveIn state) e)) 0) → r ≡ false → Did state accepted answer state′
-    → Did state (unlessOwnRow k (driveIn state) e accepted) answer state′
-did-accepted-inside k state e accepted r t h d = did-accepted k state e accepted (first (ownRows k (driveIn state) e)) refl (is-none r _ t h) d
 
 -- by a test that a callee answered
 pub did-first : (test r : Bool) (a b : Outcome) {answer : Answer} {state state′ : List ℕ} → r ≡ test → r ≡ true → Did state a answer state′

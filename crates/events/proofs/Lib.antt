@@ -3,6 +3,8 @@ pub mod Done
 pub mod Promises
 pub mod PowerUp
 pub mod Goes
+pub mod Answering
+pub mod Batches
 pub mod Steps
 pub mod Unsoundness
 pub mod Transfers

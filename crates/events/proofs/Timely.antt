@@ -7,7 +7,6 @@ use mathlib.Core.List.{List, [], _∷_}
 use native.Mathlib.Omega.{arith}
 use borrow.Author.Tests.{eq-eqb, ne-eqb, eqb-true, eqb-false, not-false}
 use lib.Dec.{eqb, leb}
-use Rattle.laws.specs.Pick.{pick}
 use Rattle.laws.specs.Rows.{first, _when_}
 use Rattle.laws.proofs.Tests.{and-l, or-l, or-r}
 use Rattle.parts.specs.Control.{controlOf, isWrite, isRead, wordsToCome}
@@ -40,9 +39,6 @@ opens s h t b n =
 none-opened : (c : ℕ) → c ≡ 0 → (isWrite (controlOf c) ≡ false) × (isRead (controlOf c) ≡ false)
 none-opened c z = (writes-by-bits c ∙ rw z, reads-by-bits c ∙ rw z)
 
-or-false : (a b : Bool) → a ≡ false → b ≡ false → (a || b) ≡ false
-or-false a b p q = rw (p, q)
-
 other : (a b : Bool) → (a || b) ≡ true → a ≡ false → b ≡ true
 other a b h z = rw z at h
 
@@ -51,6 +47,7 @@ pub record Told (c : ℕ) : Type 0 where
   pub write : eqb (c / 64) 2 ≡ isWrite (controlOf c)
   pub read : eqb (c / 64) 3 ≡ isRead (controlOf c)
   pub one : not (eqb c 0) ≡ (isWrite (controlOf c) || isRead (controlOf c))
+  pub none : not (eqb (c / 64) 0) ≡ (isWrite (controlOf c) || isRead (controlOf c))
 
 told-none : (c : ℕ) → c ≡ 0 → Told c
 told-none c z =
@@ -59,13 +56,19 @@ told-none c z =
       write = rw (n .0) (ne-eqb (c / 64) 2 (λ e. omega arith));
       read = rw (n .1) (ne-eqb (c / 64) 3 (λ e. omega arith));
       one = rw (n .0, n .1, eq-eqb c 0 z);
+      none = rw (n .0, n .1, eq-eqb (c / 64) 0 (omega arith));
     }
 
 told-write : (c : ℕ) → isWrite (controlOf c) ≡ true → Told c
 told-write c w =
     let e = writes-over c w in
     let r : isRead (controlOf c) ≡ false = no-read (isRead (controlOf c)) refl e in
-    record { write = rw w (eq-eqb (c / 64) 2 e); read = rw r (ne-eqb (c / 64) 3 (λ x. omega arith)); one = rw (w, ne-eqb c 0 (λ x. omega arith)) }
+    record {
+      write = rw w (eq-eqb (c / 64) 2 e);
+      read = rw r (ne-eqb (c / 64) 3 (λ x. omega arith));
+      one = rw (w, ne-eqb c 0 (λ x. omega arith));
+      none = rw (w, ne-eqb (c / 64) 0 (λ x. omega arith));
+    }
   where
     no-read : (test : Bool) → isRead (controlOf c) ≡ test → c / 64 ≡ 2 → isRead (controlOf c) ≡ false
     no-read true p e = absurd (let q = reads-over c p in omega arith)
@@ -74,7 +77,12 @@ told-write c w =
 told-read : (c : ℕ) → isWrite (controlOf c) ≡ false → isRead (controlOf c) ≡ true → Told c
 told-read c w r =
     let e = reads-over c r in
-    record { write = rw w (ne-eqb (c / 64) 2 (λ x. omega arith)); read = rw r (eq-eqb (c / 64) 3 e); one = rw (w, r, ne-eqb c 0 (λ x. omega arith)) }
+    record {
+      write = rw w (ne-eqb (c / 64) 2 (λ x. omega arith));
+      read = rw r (eq-eqb (c / 64) 3 e);
+      one = rw (w, r, ne-eqb c 0 (λ x. omega arith));
+      none = rw (w, r, ne-eqb (c / 64) 0 (λ x. omega arith));
+    }
 
 pub timely-told : {state : List ℕ} → Fit state → Told (driveIn state .transfer .control)
 timely-told {state} f = told-of (driveIn state) (f .sound)
@@ -90,10 +98,7 @@ timely-told {state} f = told-of (driveIn state) (f .sound)
         by-control true z = told-none (d .transfer .control) (eqb-true (d .transfer .control) 0 z)
         by-control false z = by-write (isWrite (controlOf (d .transfer .control))) refl (eqb-false (d .transfer .control) 0 z)
 
--- the rows 8, 2 and 7 give no number just where none of them holds
-pub none-refuses : (formed selected untimely : Bool) → (not formed || not selected || untimely) ≡ not (eqb (first (8 when not formed ∷ 2 when not selected ∷ 7 when untimely ∷ [])) 0)
-unfolding pick
-none-refuses true true true = refl
-none-refuses true true false = refl
-none-refuses true false untimely = refl
-none-refuses false selected untimely = refl
+-- the number of `refusal` is that of a kind's own rows, when its octets and the two bits say what these ask
+pub number-as : (unselected : Bool) {n : ℕ} {formed formed′ untimely untimely′ : Bool} → n ≡ first (8 when not formed ∷ 2 when unselected ∷ 7 when untimely ∷ [])
+    → formed ≡ formed′ → untimely ≡ untimely′ → n ≡ first (8 when not formed′ ∷ 2 when unselected ∷ 7 when untimely′ ∷ [])
+number-as unselected e f t = rw (← f, ← t) e

@@ -1,7 +1,7 @@
 -- The parts of an answer, stored over the words of one without parts, give its words.
 -- Assumes nothing.
 use Prim.Native.Nat.{ℕ, zero, suc, _+_, _*_}
-use mathlib.Core.Path.{_≡_, refl, sym}
+use mathlib.Core.Path.{_≡_, refl, sym, _∙_}
 use mathlib.Core.Bool.{Bool, true, false}
 use mathlib.Core.List.{List}
 use native.Mathlib.Nat.{add-zero}
@@ -10,7 +10,8 @@ use Rattle.laws.specs.Pick.{pick}
 use Rattle.laws.specs.Lists.{writtenOver}
 use Rattle.laws.specs.Rows.{unlessRefused}
 use Rattle.parts.specs.declared.setup.Place.{Place}
-use Rattle.events.specs.Turn.{Numbered, quietly, Telling}
+use Rattle.events.specs.Turn.{Numbered, Telling}
+use Rattle.drive.specs.Accepted.{isRefused}
 use Rattle.drive.specs.Answer.{paper, refusalIn}
 use Rattle.drive.specs.AnswerWords.{answerWords}
 use Rattle.drive.specs.declared.answer.Answer.{Answer}
@@ -45,24 +46,34 @@ unfolding answerWords paper
 response-over octet0 octet1 octet2 out done e = rw (e, add-zero)
 
 -- an answer that is no refusal is told in any case
-pub accepted-told : (telling : Bool) (answer known : Answer) (out out′ : List ℕ) → answer ≡ known → refusalIn known ≡ 0 → out′ ≡ writtenOver out (answerWords known)
-    → Telling telling answer out 0 out′
+pub accepted-told : (telling : Bool) (answer known : Answer) (out out′ : List ℕ) → answer ≡ known → isRefused known ≡ false → refusalIn known ≡ 0
+    → out′ ≡ writtenOver out (answerWords known) → Telling telling answer out 0 out′
 unfolding pick
-accepted-told telling answer known out out′ e z w = rw e (record { number = by-mode telling; out = w })
-  where
-    by-mode : (telling : Bool) → 0 ≡ quietly telling known
-    by-mode true = refl
-    by-mode false = sym z
+accepted-told true answer known out out′ e a z w = rw e (record { number = refl; out = w })
+accepted-told false answer known out out′ e a z w = rw e (record { number = sym z; out = rw a w })
 
 pub refusal-told : (telling : Bool) (answer : Answer) (n : ℕ) (out out′ : List ℕ) → answer ≡ Refused n → telling ≡ true → out′ ≡ writtenOver out (answerWords (Refused n))
     → Telling telling answer out 0 out′
 unfolding pick
 refusal-told telling answer n out out′ e t w = rw (e, t) (record { number = refl; out = w })
 
-pub refusal-kept : (telling : Bool) (answer : Answer) (n : ℕ) (out : List ℕ) → Numbered answer → answer ≡ Refused n → telling ≡ false → Telling telling answer out n out
+pub refusal-kept : (telling : Bool) (answer : Answer) (n : ℕ) (out : List ℕ) → answer ≡ Refused n → telling ≡ false → Telling telling answer out n out
 unfolding pick
-refusal-kept telling answer n out numbered e t = rw (e, t) (record { number = refl; out = kept n ((rw e at numbered) refl) })
+refusal-kept telling answer n out e t = rw (e, t) (record { number = refl; out = refl })
+
+-- by the number that is handed back, where a refusal has one
+pub told-out : (telling : Bool) (answer : Answer) {out out′ : List ℕ} {n : ℕ} → Numbered answer → Telling telling answer out n out′
+    → out′ ≡ unlessRefused n out (writtenOver out (answerWords answer))
+unfolding pick
+told-out true answer h t = rw (t .number) (t .out)
+told-out false (Refused m) {out} h t = rw (t .number) (t .out ∙ kept m (h refl))
   where
-    kept : (n : ℕ) → (n ≡ 0 → ⊥) → out ≡ unlessRefused n out (writtenOver out (answerWords (Refused n)))
-    kept zero h = absurd (h refl)
-    kept (suc n) h = refl
+    kept : (m : ℕ) → (m ≡ 0 → ⊥) → out ≡ unlessRefused m out (writtenOver out (answerWords (Refused m)))
+    kept zero z = absurd (z refl)
+    kept (suc m) z = refl
+told-out false Done h t = rw (t .number) (t .out)
+told-out false (Status s) h t = rw (t .number) (t .out)
+told-out false (Opened n p) h t = rw (t .number) (t .out)
+told-out false (Word w) h t = rw (t .number) (t .out)
+told-out false (LastWord w) h t = rw (t .number) (t .out)
+told-out false (Response octet0 octet1 octet2) h t = rw (t .number) (t .out)

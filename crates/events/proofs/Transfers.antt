@@ -6,7 +6,6 @@ use mathlib.Core.Bool.{Bool, true, false, not}
 use mathlib.Core.List.{List, [], _∷_}
 use native.Mathlib.Omega.{arith}
 use borrow.Author.Tests.{not-false, eq-eqb, ne-eqb}
-use lib.Dec.{eqb}
 use lib.ListN.{length, getD, set, length-set}
 use Rattle.laws.specs.Pick.{pick}
 use Rattle.laws.specs.Rows.{first, _when_}
@@ -29,7 +28,6 @@ use Rattle.drive.proofs.Reading.{read-in-place}
 use Rattle.drive.proofs.Sound.{sound, room}
 use Rattle.events.specs.State.{driveIn}
 use Rattle.events.specs.Fit.{Fits}
-use Rattle.events.proofs.Done.{is-none}
 
 -- ---- the sector that the state stands at
 
@@ -62,10 +60,9 @@ moving {state} {sectors} {staging} a =
     record { few = omega (arith, a .moved); inside = omega (arith, a .moved) }
 
 -- no refusal, so the work came at its time
-pub on-time : (formed selected untimely refused opened : Bool) → refused ≡ not (eqb (first (8 when not formed ∷ 2 when not selected ∷ 7 when untimely ∷ [])) 0)
-    → refused ≡ false → untimely ≡ not opened → opened ≡ true
-on-time formed selected untimely refused opened e none t =
-    not-false opened (sym t ∙ timely (not formed) (not selected) untimely (is-none refused _ e none))
+pub on-time : (misformed unselected : Bool) {bits opened : Bool} {n : ℕ} → n ≡ first (8 when misformed ∷ 2 when unselected ∷ 7 when not bits ∷ []) → n ≡ 0
+    → bits ≡ opened → opened ≡ true
+on-time misformed unselected {bits} e z t = sym t ∙ not-false bits (timely misformed unselected (not bits) (sym e ∙ z))
 
 -- row 10 looks at the length of staging alone
 pub staging-set : {state sectors staging : List ℕ} (i word : ℕ) → Fits state sectors staging → Fits state sectors (set staging i word)

@@ -1,8 +1,8 @@
 -- What the private functions under `event` and `run` do: an event on the words of a state, and so many of them.
-use Prim.Native.Nat.{ℕ}
+use Prim.Native.Nat.{ℕ, zero, suc}
 use mathlib.Core.Path.{_≡_}
-use mathlib.Core.Bool.{Bool, true}
-use mathlib.Core.List.{List}
+use mathlib.Core.Bool.{Bool, true, false}
+use mathlib.Core.List.{List, [], _++_}
 use Rattle.laws.specs.Pick.{pick}
 use Rattle.laws.specs.Rows.{unlessRefused}
 use Rattle.laws.specs.Lists.{writtenOver}
@@ -13,6 +13,7 @@ use Rattle.drive.specs.Run.{answerTo, after, answers, final}
 use Rattle.drive.specs.AnswerWords.{answerWords, allWords}
 use Rattle.drive.specs.Batch.{eventOf, eventsIn}
 use Rattle.drive.specs.declared.answer.Answer.{Answer}
+use Rattle.drive.specs.declared.answer.Answer.the-variants.{Refused}
 use Rattle.events.specs.State.{stateAfter}
 use Rattle.events.specs.Event.{machineIn}
 
@@ -24,10 +25,19 @@ Numbered answer = isRefused answer ≡ true → refusalIn answer ≡ 0 → ⊥
 abbrev pub quietly : Bool → Answer → ℕ
 quietly telling answer = pick telling 0 (refusalIn answer)
 
+-- A refusal keeps quiet unless it is to tell.
+abbrev pub isQuiet : Bool → Answer → Bool
+isQuiet telling answer = pick telling false (isRefused answer)
+
 -- The words of an answer at the front of a slice; a refusal that keeps quiet leaves it.
 pub record Telling (telling : Bool) (answer : Answer) (out₀ : List ℕ) (r : ℕ) (out₁ : List ℕ) : Type 0 where
   pub number : r ≡ quietly telling answer
-  pub out : out₁ ≡ unlessRefused r out₀ (writtenOver out₀ (answerWords answer))
+  pub out : out₁ ≡ pick (isQuiet telling answer) out₀ (writtenOver out₀ (answerWords answer))
+
+-- The words of so many refusals.
+unfoldable pub refusals : ℕ → ℕ → List ℕ
+refusals n zero = []
+refusals n (suc count) = refusals n count ++ answerWords (Refused n)
 
 -- An event on any words of a state.
 pub record Answered (e : Event) (state₀ sectors₀ staging₀ : List ℕ) (r : Answer) (state₁ sectors₁ staging₁ : List ℕ) : Type 0 where

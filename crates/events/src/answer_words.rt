@@ -2,13 +2,13 @@
 use crate::answer;
 use drive::Answer;
 use parts::Place;
-ghost use Prim.Native.Nat.{_≤_, _<_};
+ghost use Prim.Native.Nat.{_≤_};
 ghost use mathlib.Core.Path.{_≡_};
 ghost use lib.ListN.{length};
 ghost use Rattle.laws.specs.Lists.{writtenOver};
 ghost use Rattle.drive.specs.AnswerWords.{answerWords};
 ghost use Rattle.drive.specs.declared.answer.Answer.the-variants as answer;
-ghost use Rattle.events.specs.Turn.{Numbered, Telling};
+ghost use Rattle.events.specs.Turn.{Telling};
 
 pub(crate) const ANSWER_WORDS: usize = 13;
 
@@ -16,7 +16,7 @@ const ABSENT: u16 = 0xFFFF;
 
 // The words of the answer. A refusal keeps quiet of itself unless it is to tell: then its number is handed back, and 0 in all other cases.
 pub(crate) fn tell(answer: Answer, telling: bool, out: &mut [u16]) -> u8
-    requires { ⌜ (13 ≤ length (now out)) × Numbered answer ⌝ }
+    requires { ⌜ 13 ≤ length (now out) ⌝ }
     ensures { λ r. ⌜ Telling telling answer (now (out .entry)) r (now (out .exit)) ⌝ }
 {
     match answer {
@@ -54,7 +54,7 @@ pub(crate) fn tell(answer: Answer, telling: bool, out: &mut [u16]) -> u8
     }
 }
 
-fn put_refused(n: u8, out: &mut [u16])
+pub(crate) fn put_refused(n: u8, out: &mut [u16])
     requires { ⌜ 13 ≤ length (now out) ⌝ }
     ensures { λ _. ⌜ now (out .exit) ≡ writtenOver (now (out .entry)) (answerWords (answer.Refused n)) ⌝ }
 {

@@ -3,15 +3,15 @@
 use crate::answer_words;
 use crate::judge;
 use crate::step;
-use drive::Answer;
 use parts::Event;
 ghost use Prim.Native.Nat.{_*_, _≤_};
 ghost use mathlib.Core.Path.{_≡_};
-ghost use mathlib.Core.Bool.{true, false};
+ghost use mathlib.Core.Bool.{false};
 ghost use lib.ListN.{length};
-ghost use Rattle.drive.specs.Batch.{eventOf, eventsIn, judgement};
+ghost use Rattle.laws.specs.Lists.{writtenOver};
+ghost use Rattle.drive.specs.Batch.{eventOf, judgement};
 ghost use Rattle.events.specs.State.{driveIn};
-ghost use Rattle.events.specs.Turn.{Answered, Turn, Worked};
+ghost use Rattle.events.specs.Turn.{refusals, Worked};
 
 // So many events. The refusal where the one event of a quiet batch was refused, else 0.
 pub(crate) fn work(
@@ -27,21 +27,31 @@ pub(crate) fn work(
     ensures { λ r. ⌜ Worked telling count (now (records .entry)) (now (state .entry)) (now (sectors .entry)) (now (staging .entry)) (now (out .entry)) r (now (state .exit)) (now (sectors .exit)) (now (staging .exit)) (now (out .exit)) ⌝ }
 {
     let judged = judge::judge(&state[..], &sectors[..], &staging[..]);
-    each(
-        state,
-        judged,
-        telling,
-        count,
-        records,
-        sectors,
-        staging,
-        out,
-    )
+    if judged == 0 {
+        return each(state, telling, count, records, sectors, staging, out);
+    }
+    if !telling {
+        return judged;
+    }
+    refuse_all(judged, count, out);
+    0
+}
+
+// No event leads a state that rows 11 and 10 refuse out of them.
+fn refuse_all(judged: u8, count: usize, out: &mut [u16])
+    requires { ⌜ 13 * count ≤ length (now out) ⌝ }
+    ensures { λ _. ⌜ now (out .exit) ≡ writtenOver (now (out .entry)) (refusals judged count) ⌝ }
+{
+    let mut i = 0;
+    while i < count {
+        let at = 13 * i;
+        i += 1;
+        answer_words::put_refused(judged, &mut out[at..]);
+    }
 }
 
 fn each(
     state: &mut [u16],
-    judged: u8,
     telling: bool,
     count: usize,
     records: &[u8],
@@ -49,7 +59,7 @@ fn each(
     staging: &mut [u16],
     out: &mut [u16],
 ) -> u8
-    requires { ⌜ (18 ≤ length (now state)) × (judged ≡ judgement (driveIn (now state)) (now sectors) (now staging)) × (8 * count ≤ length (now records)) × (13 * count ≤ length (now out)) × (telling ≡ false → count ≡ 1) ⌝ }
+    requires { ⌜ (18 ≤ length (now state)) × (0 ≡ judgement (driveIn (now state)) (now sectors) (now staging)) × (8 * count ≤ length (now records)) × (13 * count ≤ length (now out)) × (telling ≡ false → count ≡ 1) ⌝ }
     ensures { λ r. ⌜ Worked telling count (now (records .entry)) (now (state .entry)) (now (sectors .entry)) (now (staging .entry)) (now (out .entry)) r (now (state .exit)) (now (sectors .exit)) (now (staging .exit)) (now (out .exit)) ⌝ }
 {
     let mut i = 0;
@@ -57,55 +67,13 @@ fn each(
         let from = 8 * i;
         let at = 13 * i;
         i += 1;
-        let n = turn(
-            state,
-            judged,
-            telling,
-            &records[from..],
-            sectors,
-            staging,
-            &mut out[at..],
-        );
+        let event = event_at(&records[from..]);
+        let n = step::told_step(state, event, telling, sectors, staging, &mut out[at..]);
         if n != 0 {
             return n;
         }
     }
     0
-}
-
-// The event of the record at the front of the octets, and the words of its answer at the front of `out`.
-fn turn(
-    state: &mut [u16],
-    judged: u8,
-    telling: bool,
-    octets: &[u8],
-    sectors: &mut [u16],
-    staging: &mut [u16],
-    out: &mut [u16],
-) -> u8
-    requires { ⌜ (18 ≤ length (now state)) × (judged ≡ judgement (driveIn (now state)) (now sectors) (now staging)) × (8 ≤ length (now octets)) × (13 ≤ length (now out)) ⌝ }
-    ensures { λ r. ⌜ Turn telling (eventOf (now (octets .entry))) (now (state .entry)) (now (sectors .entry)) (now (staging .entry)) (now (out .entry)) r (now (state .exit)) (now (sectors .exit)) (now (staging .exit)) (now (out .exit)) ⌝ }
-{
-    let event = event_at(octets);
-    let answer = answered(state, judged, event, sectors, staging);
-    answer_words::tell(answer, telling, out)
-}
-
-// The event on a state of which rows 11 and 10 say this.
-pub(crate) fn answered(
-    state: &mut [u16],
-    judged: u8,
-    event: Event,
-    sectors: &mut [u16],
-    staging: &mut [u16],
-) -> Answer
-    requires { ⌜ (18 ≤ length (now state)) × (judged ≡ judgement (driveIn (now state)) (now sectors) (now staging)) ⌝ }
-    ensures { λ r. ⌜ Answered event (now (state .entry)) (now (sectors .entry)) (now (staging .entry)) r (now (state .exit)) (now (sectors .exit)) (now (staging .exit)) ⌝ }
-{
-    if judged != 0 {
-        return Answer::Refused(judged);
-    }
-    step::step(state, event, sectors, staging)
 }
 
 // The event of the record at the front of the octets.

@@ -50,10 +50,9 @@ pub(crate) fn on_deselect(state: &mut [u16], event: Event) -> Answer
     ensures { λ r. ⌜ Did (now (state .entry)) (unlessOwnRow Kind.Deselect (driveIn (now (state .entry))) event (told Answer.Done (deselected (driveIn (now (state .entry)))))) r (now (state .exit)) ⌝ }
 {
     let formed = parts::none_at_all(event);
-    let selected = timing::is_selected(&state[..], event.port);
-    let open = timing::is_one_open(&state[..]);
-    if timing::is_refused(formed, selected, open) {
-        return Answer::Refused(parts::inside_refusal(formed, selected, open));
+    let n = timing::refusal(&state[..], event.port, formed, timing::NONE_OPEN);
+    if n != 0 {
+        return Answer::Refused(n);
     }
     let d = state::drive_in(&state[..]);
     state::put_moved(d.deselect(), state);
@@ -79,8 +78,9 @@ pub(crate) fn on_end(state: &mut [u16], event: Event) -> Answer
     let formed = parts::none_at_all(event);
     let selected = timing::is_selected(&state[..], event.port);
     let closed = !timing::is_one_open(&state[..]);
-    if timing::is_refused(formed, selected, closed) {
-        return Answer::Refused(parts::inside_refusal(formed, selected, closed));
+    let n = parts::inside_refusal(formed, selected, closed);
+    if n != 0 {
+        return Answer::Refused(n);
     }
     place::end_transfer(state);
     Answer::Status(answer::NORMAL)
@@ -91,10 +91,9 @@ pub(crate) fn on_data_control(state: &mut [u16], event: Event) -> Answer
     ensures { λ r. ⌜ Did (now (state .entry)) (unlessOwnRow (Kind.Use Work.DataControl) (driveIn (now (state .entry))) event (dataControl (driveIn (now (state .entry))) (event .port) (event .a0))) r (now (state .exit)) ⌝ }
 {
     let formed = parts::none_after_1(event);
-    let selected = timing::is_selected(&state[..], event.port);
-    let open = timing::is_one_open(&state[..]);
-    if timing::is_refused(formed, selected, open) {
-        return Answer::Refused(parts::inside_refusal(formed, selected, open));
+    let n = timing::refusal(&state[..], event.port, formed, timing::NONE_OPEN);
+    if n != 0 {
+        return Answer::Refused(n);
     }
     request::ask(state, event.port, event.a0 as u16)
 }
@@ -103,10 +102,9 @@ pub(crate) fn on_position(state: &mut [u16], event: Event) -> Answer
     requires { ⌜ Fit (now state) × (event .port ≤ 1) ⌝ }
     ensures { λ r. ⌜ Did (now (state .entry)) (unlessOwnRow (Kind.Use Work.Position) (driveIn (now (state .entry))) event (positioned (driveIn (now (state .entry))) (event .port) (placeOf event))) r (now (state .exit)) ⌝ }
 {
-    let selected = timing::is_selected(&state[..], event.port);
-    let open = timing::is_one_open(&state[..]);
-    if timing::is_refused(true, selected, open) {
-        return Answer::Refused(parts::inside_refusal(true, selected, open));
+    let n = timing::refusal(&state[..], event.port, true, timing::NONE_OPEN);
+    if n != 0 {
+        return Answer::Refused(n);
     }
     let place = Place {
         cylinder: parts::word_of(event),
@@ -121,10 +119,9 @@ pub(crate) fn on_target(state: &mut [u16], event: Event) -> Answer
     ensures { λ r. ⌜ Did (now (state .entry)) (unlessOwnRow (Kind.Use Work.Target) (driveIn (now (state .entry))) event (targeted (driveIn (now (state .entry))) (event .port) (wordOf event))) r (now (state .exit)) ⌝ }
 {
     let formed = parts::none_after_2(event);
-    let selected = timing::is_selected(&state[..], event.port);
-    let open = timing::is_one_open(&state[..]);
-    if timing::is_refused(formed, selected, open) {
-        return Answer::Refused(parts::inside_refusal(formed, selected, open));
+    let n = timing::refusal(&state[..], event.port, formed, timing::NONE_OPEN);
+    if n != 0 {
+        return Answer::Refused(n);
     }
     request::aim_at(state, event.port, parts::word_of(event))
 }
@@ -134,10 +131,9 @@ pub(crate) fn on_read_status(state: &mut [u16], event: Event) -> Answer
     ensures { λ r. ⌜ Did (now (state .entry)) (unlessOwnRow (Kind.Use Work.ReadStatus) (driveIn (now (state .entry))) event (statusRead (driveIn (now (state .entry))) (event .port))) r (now (state .exit)) ⌝ }
 {
     let formed = parts::none_at_all(event);
-    let selected = timing::is_selected(&state[..], event.port);
-    let open = timing::is_one_open(&state[..]);
-    if timing::is_refused(formed, selected, open) {
-        return Answer::Refused(parts::inside_refusal(formed, selected, open));
+    let n = timing::refusal(&state[..], event.port, formed, timing::NONE_OPEN);
+    if n != 0 {
+        return Answer::Refused(n);
     }
     pending::tell_status(state, event.port)
 }

@@ -1,4 +1,5 @@
-// Whether an event of kinds 2 to 9 comes at its time: the tests 2 and 7, on the words of a state that row 11 lets pass.
+// Whether an event of kinds 2 to 9 comes at its time: the rows 8, 2 and 7, on the words of a state that row 11 lets pass.
+ghost use Prim.Native.Nat.{_/_};
 ghost use mathlib.Core.Path.{_≡_};
 ghost use mathlib.Core.Bool.{not, _||_};
 ghost use mathlib.Core.List.{[], _∷_};
@@ -8,6 +9,30 @@ ghost use Rattle.parts.specs.Tests.{isWriteOpen, isReadOpen};
 ghost use Rattle.events.specs.State.{driveIn};
 ghost use Rattle.events.specs.Fit.{Fit};
 
+// What is open, by the upper two bits of the control: writes are from 84 to 9F and reads from C0 to DF.
+pub(crate) const NONE_OPEN: u16 = 0;
+
+pub(crate) const WRITE_OPEN: u16 = 2;
+
+pub(crate) const READ_OPEN: u16 = 3;
+
+// The refusal of an event that asks for its port selected and just this open, else 0. A word is read where the tests before it let the event pass.
+pub(crate) fn refusal(state: &[u16], port: u8, formed: bool, wanted: u16) -> u8
+    requires { ⌜ Fit (now state) ⌝ }
+    ensures { λ r. ⌜ r ≡ first (8 when not formed ∷ 2 when not (eqb (driveIn (now (state .entry)) .holding .selected) port) ∷ 7 when not (eqb (driveIn (now (state .entry)) .transfer .control / 64) wanted) ∷ []) ⌝ }
+{
+    if !formed {
+        return parts::MALFORMED;
+    }
+    if !is_selected(state, port) {
+        return parts::NOT_SELECTED;
+    }
+    if state[14] / 64 != wanted {
+        return parts::TRANSFER_OPEN_OR_NOT;
+    }
+    0
+}
+
 pub(crate) fn is_selected(state: &[u16], port: u8) -> bool
     requires { ⌜ Fit (now state) ⌝ }
     ensures { λ r. ⌜ r ≡ eqb (driveIn (now (state .entry)) .holding .selected) port ⌝ }
@@ -15,31 +40,9 @@ pub(crate) fn is_selected(state: &[u16], port: u8) -> bool
     state[7] == port as u16
 }
 
-// By the upper two bits: the controls that open a transfer are writes from 84 to 9F and reads from C0 to DF.
-pub(crate) fn lacks_write(state: &[u16]) -> bool
-    requires { ⌜ Fit (now state) ⌝ }
-    ensures { λ r. ⌜ r ≡ not (isWriteOpen (driveIn (now (state .entry)) .transfer)) ⌝ }
-{
-    state[14] / 64 != 2
-}
-
-pub(crate) fn lacks_read(state: &[u16]) -> bool
-    requires { ⌜ Fit (now state) ⌝ }
-    ensures { λ r. ⌜ r ≡ not (isReadOpen (driveIn (now (state .entry)) .transfer)) ⌝ }
-{
-    state[14] / 64 != 3
-}
-
 pub(crate) fn is_one_open(state: &[u16]) -> bool
     requires { ⌜ Fit (now state) ⌝ }
     ensures { λ r. ⌜ r ≡ (isWriteOpen (driveIn (now (state .entry)) .transfer) || isReadOpen (driveIn (now (state .entry)) .transfer)) ⌝ }
 {
     state[14] != 0
-}
-
-// Is there a refusal? Asked before which, since there seldom is.
-pub(crate) fn is_refused(formed: bool, selected: bool, untimely: bool) -> bool
-    ensures { λ r. ⌜ r ≡ not (eqb (first (8 when (not formed) ∷ 2 when (not selected) ∷ 7 when untimely ∷ [])) 0) ⌝ }
-{
-    !formed | !selected | untimely
 }

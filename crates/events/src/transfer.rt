@@ -32,10 +32,9 @@ pub(crate) fn on_word_from_host(
     ensures { λ r. ⌜ DidIn (now (state .entry)) (unlessOwnRowIn (Kind.Use Work.WordFromHost) (driveIn (now (state .entry))) event (now (sectors .entry)) (now (staging .entry)) (wordStaged (driveIn (now (state .entry))) (wordOf event) (now (sectors .entry)) (now (staging .entry)))) r (now (state .exit)) (now (sectors .exit)) (now (staging .exit)) ⌝ }
 {
     let formed = parts::none_after_2(event);
-    let selected = timing::is_selected(&state[..], event.port);
-    let untimely = timing::lacks_write(&state[..]);
-    if timing::is_refused(formed, selected, untimely) {
-        return Answer::Refused(parts::inside_refusal(formed, selected, untimely));
+    let n = timing::refusal(&state[..], event.port, formed, timing::WRITE_OPEN);
+    if n != 0 {
+        return Answer::Refused(n);
     }
     let control = state[14];
     let moved = state[15] as usize;
@@ -127,10 +126,9 @@ pub(crate) fn on_take_word(
     ensures { λ r. ⌜ Did (now (state .entry)) (unlessOwnRow (Kind.Use Work.TakeWord) (driveIn (now (state .entry))) event (wordTaken (driveIn (now (state .entry))) (now (sectors .entry)))) r (now (state .exit)) ⌝ }
 {
     let formed = parts::none_at_all(event);
-    let selected = timing::is_selected(&state[..], event.port);
-    let untimely = timing::lacks_read(&state[..]);
-    if timing::is_refused(formed, selected, untimely) {
-        return Answer::Refused(parts::inside_refusal(formed, selected, untimely));
+    let n = timing::refusal(&state[..], event.port, formed, timing::READ_OPEN);
+    if n != 0 {
+        return Answer::Refused(n);
     }
     take(state, sectors, staging)
 }

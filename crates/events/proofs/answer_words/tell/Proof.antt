@@ -11,7 +11,7 @@ enum-known-answer : tie.Need-enum-known-answer
 enum-known-answer c = search needs
 
 returns : tie.Need-returns
-returns c = refusal-kept _ _ _ _ ((c .before .before .before .before .before .pre .1)) ((c .before .before .answer .given .1)) (not-true _ ((c .if1 .taken)))
+returns c = refusal-kept _ _ _ _ ((c .before .before .answer .given .1)) (not-true _ ((c .if1 .taken)))
 
 put-refused-requires : tie.Need-put-refused-requires
 put-refused-requires c κs = search needs
@@ -62,37 +62,37 @@ same-length-2 : tie.Need-same-length-2
 same-length-2 c = search needs
 
 returns-3 : tie.Need-returns-3
-returns-3 c = accepted-told _ _ _ _ _ ((c .before .before .before .before .enum-told .given .1)) refl ((c .before .before .put-done .ensures))
+returns-3 c = accepted-told _ _ _ _ _ ((c .before .before .before .before .enum-told .given .1)) refl refl ((c .before .before .put-done .ensures))
 
 same-length-3 : tie.Need-same-length-3
 same-length-3 c = search needs
 
 returns-4 : tie.Need-returns-4
-returns-4 c = accepted-told _ _ _ _ _ ((c .before .before .before .before .before .answer2 .given .1)) refl ((c .before .before .put-status .ensures))
+returns-4 c = accepted-told _ _ _ _ _ ((c .before .before .before .before .before .answer2 .given .1)) refl refl ((c .before .before .put-status .ensures))
 
 same-length-4 : tie.Need-same-length-4
 same-length-4 c = search needs
 
 returns-5 : tie.Need-returns-5
-returns-5 c = accepted-told _ _ _ _ _ ((c .before .before .before .before .before .answer3 .given .1)) refl ((c .before .before .put-opened .ensures))
+returns-5 c = accepted-told _ _ _ _ _ ((c .before .before .before .before .before .answer3 .given .1)) refl refl ((c .before .before .put-opened .ensures))
 
 same-length-5 : tie.Need-same-length-5
 same-length-5 c = search needs
 
 returns-6 : tie.Need-returns-6
-returns-6 c = accepted-told _ _ _ _ _ ((c .before .before .before .before .before .answer4 .given .1)) refl ((c .before .before .put-word .ensures))
+returns-6 c = accepted-told _ _ _ _ _ ((c .before .before .before .before .before .answer4 .given .1)) refl refl ((c .before .before .put-word .ensures))
 
 same-length-6 : tie.Need-same-length-6
 same-length-6 c = search needs
 
 returns-7 : tie.Need-returns-7
-returns-7 c = accepted-told _ _ _ _ _ ((c .before .before .before .before .before .answer5 .given .1)) refl ((c .before .before .put-last-word .ensures))
+returns-7 c = accepted-told _ _ _ _ _ ((c .before .before .before .before .before .answer5 .given .1)) refl refl ((c .before .before .put-last-word .ensures))
 
 same-length-7 : tie.Need-same-length-7
 same-length-7 c = search needs
 
 returns-8 : tie.Need-returns-8
-returns-8 c = accepted-told _ _ _ _ _ ((c .before .before .before .before .before .answer6 .given .1)) refl ((c .before .before .put-response .ensures))
+returns-8 c = accepted-told _ _ _ _ _ ((c .before .before .before .before .before .answer6 .given .1)) refl refl ((c .before .before .put-response .ensures))
 
 pub tell-spec : {M : Type 1} → statement M
 tell-spec =

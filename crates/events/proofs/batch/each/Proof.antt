@@ -1,28 +1,29 @@
 -- `each` meets its contract.
 -- Assumes nothing.
 use Prim.Native.Nat.{_-_, _≤_}
-use mathlib.Core.Path.{_≡_, refl}
+use mathlib.Core.Path.{_≡_, refl, sym}
 use native.Mathlib.Omega.{arith}
 use lib.ListN.{length}
-use Rattle.events.proofs.Goes.{Going, going-start, going-next, going-stopped, going-ended}
+use Rattle.drive.proofs.Turns.{passable}
+use Rattle.events.proofs.Batches.{Going, going-start, going-next, going-stopped, going-ended}
 use borrow.Author.Needs.{needs}
 use Rattle.events.proofs.batch.each.Statement.{statement}
 use Rattle.events.proofs.batch.each.Tie as tie
 
 abbrev Inv-loop : tie.InvT-loop
-Inv-loop state₀ judged telling count records sectors₀ staging₀ out₀ i₀ state sectors staging out i =
+Inv-loop state₀ telling count records sectors₀ staging₀ out₀ i₀ state sectors staging out i =
     (i ≤ count)
     × (length state ≡ length state₀)
     × (length sectors ≡ length sectors₀)
     × (length staging ≡ length staging₀)
     × (length out ≡ length out₀)
-    × Going telling judged count records state₀ sectors₀ staging₀ out₀ state sectors staging out i
+    × Going telling count records state₀ sectors₀ staging₀ out₀ state sectors staging out i
 
 abbrev μ-loop : tie.MeasureT-loop
-μ-loop state₀ judged telling count records sectors₀ staging₀ out₀ i₀ state sectors staging out i = count - i
+μ-loop state₀ telling count records sectors₀ staging₀ out₀ i₀ state sectors staging out i = count - i
 
 loop-holds : tie.Need-loop-holds Inv-loop μ-loop
-loop-holds c = (search needs, refl, refl, refl, refl, going-start _ _ _ _ _ _ _ _ ((c .before .before .before .before .before .pre .0)) ((c .before .before .before .before .before .pre .1)))
+loop-holds c = (search needs, refl, refl, refl, refl, going-start _ _ _ _ _ _ _ (c .before .before .before .before .before .pre .0) (c .before .before .before .before .before .pre .1))
 
 mul-from : tie.Need-mul-from Inv-loop μ-loop
 mul-from c = search needs
@@ -33,29 +34,32 @@ mul-at c = search needs
 add-i : tie.Need-add-i Inv-loop μ-loop
 add-i c = search needs
 
-sub-turn : tie.Need-sub-turn Inv-loop μ-loop
-sub-turn c = search needs
+sub-event-at : tie.Need-sub-event-at Inv-loop μ-loop
+sub-event-at c = search needs
 
-part-turn-start : tie.Need-part-turn-start Inv-loop μ-loop
-part-turn-start c = search needs
+part-event-at-start : tie.Need-part-event-at-start Inv-loop μ-loop
+part-event-at-start c = search needs
 
-part-turn-end : tie.Need-part-turn-end Inv-loop μ-loop
-part-turn-end c = search needs
+part-event-at-end : tie.Need-part-event-at-end Inv-loop μ-loop
+part-event-at-end c = search needs
 
-mul-turn : tie.Need-mul-turn Inv-loop μ-loop
-mul-turn c = search needs
+event-at-requires : tie.Need-event-at-requires Inv-loop μ-loop
+event-at-requires c κs = search needs
 
-sub-turn-2 : tie.Need-sub-turn-2 Inv-loop μ-loop
-sub-turn-2 c = search needs
+mul-told-step : tie.Need-mul-told-step Inv-loop μ-loop
+mul-told-step c = search needs
 
-part-turn-start-2 : tie.Need-part-turn-start-2 Inv-loop μ-loop
-part-turn-start-2 c = search needs
+sub-told-step : tie.Need-sub-told-step Inv-loop μ-loop
+sub-told-step c = search needs
 
-part-turn-end-2 : tie.Need-part-turn-end-2 Inv-loop μ-loop
-part-turn-end-2 c = search needs
+part-told-step-start : tie.Need-part-told-step-start Inv-loop μ-loop
+part-told-step-start c = search needs
 
-turn-requires : tie.Need-turn-requires Inv-loop μ-loop
-turn-requires c κs = ((c .before .before .before .before .before .before .loop .inv .5 .long), (c .before .before .before .before .before .before .loop .inv .5 .judged), search needs, search needs)
+part-told-step-end : tie.Need-part-told-step-end Inv-loop μ-loop
+part-told-step-end c = search needs
+
+told-step-requires : tie.Need-told-step-requires Inv-loop μ-loop
+told-step-requires c κs = (record { long = c .before .before .before .before .before .before .before .loop .inv .5 .long; passable = passable _ _ _ (sym (c .before .before .before .before .before .before .before .loop .inv .5 .judged)) }, search needs)
 
 same-length : tie.Need-same-length Inv-loop μ-loop
 same-length c = search needs
@@ -70,13 +74,22 @@ same-length-4 : tie.Need-same-length-4 Inv-loop μ-loop
 same-length-4 c = search needs
 
 returns : tie.Need-returns Inv-loop μ-loop
-returns c = going-stopped _ _ _ _ _ _ _ _ _ _ _ _ _ _ _ _ _ _ ((c .before .before .before .before .before .before .before .before .before .before .before .before .before .before .before .loop-test .taken)) ((c .before .before .before .before .before .before .before .before .before .before .before .before .before .before .before .before .before .before .before .before .before .before .pre .4)) ((c .if1 .taken)) ((c .before .before .before .before .before .before .before .before .before .before .before .before .before .before .before .before .loop .inv .5)) ((c .before .before .before .before .before .before .before .before .before .turn .ensures))
+returns c = going-stopped _ _ _ _ _ _ _ _ _ _ _ _ _ _ _ _ _ (c .before .before .before .before .before .before .before .before .before .before .before .before .before .before .before .before .loop-test .taken) (c .before .before .before .before .before .before .before .before .before .before .before .before .before .before .before .before .before .before .before .before .before .before .before .pre .4) (c .if1 .taken) (c .before .before .before .before .before .before .before .before .before .before .before .before .before .before .before .before .before .loop .inv .5)
+    (rw (c .before .before .before .before .before .before .before .before .before .before .before .before .before .before .event-at .ensures) at (c .before .before .before .before .before .before .before .before .before .told-step .ensures))
 
 loop-less : tie.Need-loop-less Inv-loop μ-loop
 loop-less c = search needs
 
 loop-again : tie.Need-loop-again Inv-loop μ-loop
-loop-again c = (search needs, search needs, search needs, search needs, search needs, going-next _ _ _ _ _ _ _ _ _ _ _ _ _ _ _ _ _ _ ((c .before .before .before .before .before .before .before .before .before .before .before .before .before .before .before .loop-test .taken)) (omega (arith, (c .before .before .before .before .before .before .before .before .before .before .before .before .before .before .before .before .loop .inv .4), (c .before .before .before .before .before .before .before .before .before .before .before .before .before .before .before .before .before .before .before .before .before .before .pre .3))) ((c .if1 .left)) ((c .before .before .before .before .before .before .before .before .before .before .before .before .before .before .before .before .loop .inv .5)) ((c .before .before .before .before .before .before .before .before .before .turn .ensures)))
+loop-again c = (
+  search needs,
+  search needs,
+  search needs,
+  search needs,
+  search needs,
+  going-next _ _ _ _ _ _ _ _ _ _ _ _ _ _ _ _ _ (c .before .before .before .before .before .before .before .before .before .before .before .before .before .before .before .before .loop-test .taken) (omega (arith, c .before .before .before .before .before .before .before .before .before .before .before .before .before .before .before .before .before .loop .inv .4, c .before .before .before .before .before .before .before .before .before .before .before .before .before .before .before .before .before .before .before .before .before .before .before .pre .3)) (c .if1 .left) (c .before .before .before .before .before .before .before .before .before .before .before .before .before .before .before .before .before .loop .inv .5)
+      (rw (c .before .before .before .before .before .before .before .before .before .before .before .before .before .before .event-at .ensures) at (c .before .before .before .before .before .before .before .before .before .told-step .ensures)),
+)
 
 same-length-5 : tie.Need-same-length-5 Inv-loop μ-loop
 same-length-5 c = search needs
@@ -91,7 +104,7 @@ same-length-8 : tie.Need-same-length-8 Inv-loop μ-loop
 same-length-8 c = search needs
 
 returns-2 : tie.Need-returns-2 Inv-loop μ-loop
-returns-2 c = going-ended _ _ _ _ _ _ _ _ _ _ _ _ _ (omega (arith, (c .before .loop .inv .0), (c .loop-test .left))) (omega (arith, (c .before .loop .inv .4), (c .before .before .before .before .before .before .before .pre .3))) ((c .before .before .before .before .before .before .before .pre .4)) ((c .before .loop .inv .5))
+returns-2 c = going-ended _ _ _ _ _ _ _ _ _ _ _ _ (omega (arith, c .before .loop .inv .0, c .loop-test .left)) (omega (arith, c .before .loop .inv .4, c .before .before .before .before .before .before .before .pre .3)) (c .before .before .before .before .before .before .before .pre .4) (c .before .loop .inv .5)
 
 pub each-spec : {M : Type 1} → statement M
 each-spec =
@@ -103,14 +116,15 @@ each-spec =
     mul-from
     mul-at
     add-i
-    sub-turn
-    part-turn-start
-    part-turn-end
-    mul-turn
-    sub-turn-2
-    part-turn-start-2
-    part-turn-end-2
-    turn-requires
+    sub-event-at
+    part-event-at-start
+    part-event-at-end
+    event-at-requires
+    mul-told-step
+    sub-told-step
+    part-told-step-start
+    part-told-step-end
+    told-step-requires
     same-length
     same-length-2
     same-length-3

@@ -1,7 +1,7 @@
 -- `handle` meets its contract.
 -- Assumes nothing.
 use native.Mathlib.Omega.{arith}
-use Rattle.events.proofs.Goes.{handled-on}
+use Rattle.events.proofs.Answering.{handled-on}
 use Rattle.events.proofs.Back.{read-again}
 use Rattle.events.specs.State.{movingWords, stateWords}
 use borrow.Author.Needs.{needs}

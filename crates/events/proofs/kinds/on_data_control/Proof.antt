@@ -1,6 +1,7 @@
 -- `on_data_control` meets its contract.
 -- Assumes nothing.
-use Rattle.events.proofs.Done.{did-refused-inside, did-accepted-inside}
+use Rattle.events.proofs.Done.{did-accepted, did-refused}
+use Rattle.events.proofs.Timely.{number-as, timely-told}
 use Rattle.parts.specs.Kind.{Use, DataControl}
 use borrow.Author.Needs.{needs}
 use Rattle.events.proofs.kinds.on_data_control.Statement.{statement}
@@ -9,23 +10,14 @@ use Rattle.events.proofs.kinds.on_data_control.Tie as tie
 none-after-1-requires : tie.Need-none-after-1-requires
 none-after-1-requires c κs = search needs
 
-is-selected-requires : tie.Need-is-selected-requires
-is-selected-requires c κs = search needs
-
-is-one-open-requires : tie.Need-is-one-open-requires
-is-one-open-requires c κs = search needs
-
-is-refused-requires : tie.Need-is-refused-requires
-is-refused-requires c κs = search needs
-
-inside-refusal-requires : tie.Need-inside-refusal-requires
-inside-refusal-requires c κs = search needs
+refusal-requires : tie.Need-refusal-requires
+refusal-requires c κs = search needs
 
 same-length : tie.Need-same-length
 same-length c = search needs
 
 returns : tie.Need-returns
-returns c = did-refused-inside (Use DataControl) _ _ _ _ _ _ ((c .before .before .before .before .before .before .before .before .before .pre .0)) ((c .inside-refusal .ensures)) ((c .before .before .is-refused .ensures)) ((c .before .if1 .taken)) (rw ((c .before .before .before .before .before .before .before .none-after-1 .ensures), (c .before .before .before .before .before .is-selected .ensures), (c .before .before .before .is-one-open .ensures)))
+returns c = did-refused (Use DataControl) _ _ _ _ (c .before .before .before .before .before .pre .0) (number-as _ (c .before .refusal .ensures) (c .before .before .before .none-after-1 .ensures) (timely-told (c .before .before .before .before .before .pre .0) .none)) (c .if1 .taken)
 
 cast-ask : tie.Need-cast-ask
 cast-ask c = search needs
@@ -37,17 +29,14 @@ same-length-2 : tie.Need-same-length-2
 same-length-2 c = search needs
 
 returns-2 : tie.Need-returns-2
-returns-2 c = did-accepted-inside (Use DataControl) _ _ _ _ (rw ((c .before .before .before .before .before .before .before .before .before .before .before .none-after-1 .ensures), (c .before .before .before .before .before .before .before .before .before .is-selected .ensures), (c .before .before .before .before .before .before .before .is-one-open .ensures)) at ((c .before .before .before .before .before .before .is-refused .ensures))) ((c .before .before .before .before .before .if1 .left)) ((c .before .before .ask .ensures))
+returns-2 c = did-accepted (Use DataControl) _ _ _ _ (number-as _ (c .before .before .before .before .before .before .refusal .ensures) (c .before .before .before .before .before .before .before .before .none-after-1 .ensures) (timely-told (c .before .before .before .before .before .before .before .before .before .before .pre .0) .none)) (c .before .before .before .before .before .if1 .left) (c .before .before .ask .ensures)
 
 pub on-data-control-spec : {M : Type 1} → statement M
 on-data-control-spec =
     tie.close
     (tie.spec
     none-after-1-requires
-    is-selected-requires
-    is-one-open-requires
-    is-refused-requires
-    inside-refusal-requires
+    refusal-requires
     same-length
     returns
     cast-ask

@@ -1,7 +1,8 @@
 -- `on_deselect` meets its contract.
 -- Assumes nothing.
 use mathlib.Core.Path.{_∙_, refl}
-use Rattle.events.proofs.Done.{did-refused-inside, did-accepted-inside}
+use Rattle.events.proofs.Done.{did-accepted, did-refused}
+use Rattle.events.proofs.Timely.{number-as, timely-told}
 use Rattle.parts.specs.Kind.{Deselect}
 use borrow.Author.Needs.{needs}
 use Rattle.events.proofs.kinds.on_deselect.Statement.{statement}
@@ -10,23 +11,14 @@ use Rattle.events.proofs.kinds.on_deselect.Tie as tie
 none-at-all-requires : tie.Need-none-at-all-requires
 none-at-all-requires c κs = search needs
 
-is-selected-requires : tie.Need-is-selected-requires
-is-selected-requires c κs = search needs
-
-is-one-open-requires : tie.Need-is-one-open-requires
-is-one-open-requires c κs = search needs
-
-is-refused-requires : tie.Need-is-refused-requires
-is-refused-requires c κs = search needs
-
-inside-refusal-requires : tie.Need-inside-refusal-requires
-inside-refusal-requires c κs = search needs
+refusal-requires : tie.Need-refusal-requires
+refusal-requires c κs = search needs
 
 same-length : tie.Need-same-length
 same-length c = search needs
 
 returns : tie.Need-returns
-returns c = did-refused-inside Deselect _ _ _ _ _ _ (c .before .before .before .before .before .before .before .before .before .pre) ((c .inside-refusal .ensures)) ((c .before .before .is-refused .ensures)) ((c .before .if1 .taken)) (rw ((c .before .before .before .before .before .before .before .none-at-all .ensures), (c .before .before .before .before .before .is-selected .ensures), (c .before .before .before .is-one-open .ensures)))
+returns c = did-refused Deselect _ _ _ _ (c .before .before .before .before .before .pre) (number-as _ (c .before .refusal .ensures) (c .before .before .before .none-at-all .ensures) (timely-told (c .before .before .before .before .before .pre) .none)) (c .if1 .taken)
 
 drive-in-requires : tie.Need-drive-in-requires
 drive-in-requires c κs = search needs
@@ -35,23 +27,20 @@ deselect-requires : tie.Need-deselect-requires
 deselect-requires c κs = search needs
 
 put-moved-requires : tie.Need-put-moved-requires
-put-moved-requires c κs = (c .before .before .before .before .before .before .before .before .before .before .before .before .pre .long)
+put-moved-requires c κs = c .before .before .before .before .before .before .before .before .before .pre .long
 
 same-length-2 : tie.Need-same-length-2
 same-length-2 c = search needs
 
 returns-2 : tie.Need-returns-2
-returns-2 c = did-accepted-inside Deselect _ _ _ _ (rw ((c .before .before .before .before .before .before .before .before .before .before .before .before .before .none-at-all .ensures), (c .before .before .before .before .before .before .before .before .before .before .before .is-selected .ensures), (c .before .before .before .before .before .before .before .before .before .is-one-open .ensures)) at ((c .before .before .before .before .before .before .before .before .is-refused .ensures))) ((c .before .before .before .before .before .before .before .if1 .left)) (record { answer = refl; state = (c .before .before .put-moved .ensures) ∙ rw ((c .before .before .before .before .deselect .ensures), (c .before .before .before .before .before .drive-in .ensures)) })
+returns-2 c = did-accepted Deselect _ _ _ _ (number-as _ (c .before .before .before .before .before .before .before .before .refusal .ensures) (c .before .before .before .before .before .before .before .before .before .before .none-at-all .ensures) (timely-told (c .before .before .before .before .before .before .before .before .before .before .before .before .pre) .none)) (c .before .before .before .before .before .before .before .if1 .left) (record { answer = refl; state = c .before .before .put-moved .ensures ∙ rw (c .before .before .before .before .deselect .ensures, c .before .before .before .before .before .drive-in .ensures) })
 
 pub on-deselect-spec : {M : Type 1} → statement M
 on-deselect-spec =
     tie.close
     (tie.spec
     none-at-all-requires
-    is-selected-requires
-    is-one-open-requires
-    is-refused-requires
-    inside-refusal-requires
+    refusal-requires
     same-length
     returns
     drive-in-requires

@@ -1,7 +1,7 @@
 -- `on_end` meets its contract.
 -- Assumes nothing.
-use Rattle.events.proofs.Done.{did-refused-inside, did-accepted-inside}
-use mathlib.Core.Path.{refl}
+use Rattle.events.proofs.Done.{did-accepted, did-refused}
+use mathlib.Core.Path.{_∙_, refl}
 use Rattle.parts.specs.Kind.{End, Use}
 use borrow.Author.Needs.{needs}
 use Rattle.events.proofs.kinds.on_end.Statement.{statement}
@@ -16,9 +16,6 @@ is-selected-requires c κs = search needs
 is-one-open-requires : tie.Need-is-one-open-requires
 is-one-open-requires c κs = search needs
 
-is-refused-requires : tie.Need-is-refused-requires
-is-refused-requires c κs = search needs
-
 inside-refusal-requires : tie.Need-inside-refusal-requires
 inside-refusal-requires c κs = search needs
 
@@ -26,7 +23,7 @@ same-length : tie.Need-same-length
 same-length c = search needs
 
 returns : tie.Need-returns
-returns c = did-refused-inside (Use End) _ _ _ _ _ _ (c .before .before .before .before .before .before .before .before .before .pre) ((c .inside-refusal .ensures)) ((c .before .before .is-refused .ensures)) ((c .before .if1 .taken)) (rw ((c .before .before .before .before .before .before .before .none-at-all .ensures), (c .before .before .before .before .before .is-selected .ensures), (c .before .before .before .is-one-open .ensures)))
+returns c = did-refused (Use End) _ _ _ _ (c .before .before .before .before .before .before .before .before .pre) (c .before .inside-refusal .ensures ∙ rw (c .before .before .before .before .before .before .none-at-all .ensures, c .before .before .before .before .is-selected .ensures, c .before .before .is-one-open .ensures)) (c .if1 .taken)
 
 end-transfer-requires : tie.Need-end-transfer-requires
 end-transfer-requires c κs = search needs
@@ -35,7 +32,7 @@ same-length-2 : tie.Need-same-length-2
 same-length-2 c = search needs
 
 returns-2 : tie.Need-returns-2
-returns-2 c = did-accepted-inside (Use End) _ _ _ _ (rw ((c .before .before .before .before .before .before .before .before .before .before .none-at-all .ensures), (c .before .before .before .before .before .before .before .before .is-selected .ensures), (c .before .before .before .before .before .before .is-one-open .ensures)) at ((c .before .before .before .before .before .is-refused .ensures))) ((c .before .before .before .before .if1 .left)) (record { answer = refl; state = (c .before .before .end-transfer .ensures) })
+returns-2 c = did-accepted (Use End) _ _ _ _ (c .before .before .before .before .before .inside-refusal .ensures ∙ rw (c .before .before .before .before .before .before .before .before .before .before .none-at-all .ensures, c .before .before .before .before .before .before .before .before .is-selected .ensures, c .before .before .before .before .before .before .is-one-open .ensures)) (c .before .before .before .before .if1 .left) (record { answer = refl; state = c .before .before .end-transfer .ensures })
 
 pub on-end-spec : {M : Type 1} → statement M
 on-end-spec =
@@ -44,7 +41,6 @@ on-end-spec =
     none-at-all-requires
     is-selected-requires
     is-one-open-requires
-    is-refused-requires
     inside-refusal-requires
     same-length
     returns

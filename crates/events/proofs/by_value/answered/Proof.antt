@@ -1,11 +1,11 @@
 -- `answered` meets its contract.
 -- Assumes nothing.
-use Rattle.events.proofs.Goes.{answered-refused, answered-stepped}
+use Rattle.events.proofs.Answering.{answered-refused, answered-stepped}
 use Rattle.drive.proofs.Turns.{passable}
 use mathlib.Core.Path.{sym, _∙_}
 use borrow.Author.Needs.{needs}
-use Rattle.events.proofs.batch.answered.Statement.{statement}
-use Rattle.events.proofs.batch.answered.Tie as tie
+use Rattle.events.proofs.by_value.answered.Statement.{statement}
+use Rattle.events.proofs.by_value.answered.Tie as tie
 
 returns : tie.Need-returns
 returns c = answered-refused _ _ _ _ _ ((c .before .before .before .before .pre .0)) ((c .before .before .before .before .pre .1)) ((c .if1 .taken))

@@ -1,0 +1,82 @@
+-- `work` meets its contract.
+-- Assumes nothing.
+use mathlib.Core.Path.{sym, _∙_}
+use borrow.Author.Tests.{not-true, not-false}
+use Rattle.events.proofs.Batches.{refused-all, refused-quietly}
+use borrow.Author.Needs.{needs}
+use Rattle.events.proofs.batch.work.Statement.{statement}
+use Rattle.events.proofs.batch.work.Tie as tie
+
+judge-requires : tie.Need-judge-requires
+judge-requires c κs = search needs
+
+each-requires : tie.Need-each-requires
+each-requires c κs = (c .before .before .before .before .before .before .before .before .before .before .before .before .before .before .pre .0, sym (c .before .before .before .before .if1 .taken) ∙ c .before .before .before .before .before .judge .ensures, c .before .before .before .before .before .before .before .before .before .before .before .before .before .before .pre .1, c .before .before .before .before .before .before .before .before .before .before .before .before .before .before .pre .2, c .before .before .before .before .before .before .before .before .before .before .before .before .before .before .pre .3)
+
+same-length : tie.Need-same-length
+same-length c = search needs
+
+same-length-2 : tie.Need-same-length-2
+same-length-2 c = search needs
+
+same-length-3 : tie.Need-same-length-3
+same-length-3 c = search needs
+
+same-length-4 : tie.Need-same-length-4
+same-length-4 c = search needs
+
+returns : tie.Need-returns
+returns c = search needs
+
+same-length-5 : tie.Need-same-length-5
+same-length-5 c = search needs
+
+same-length-6 : tie.Need-same-length-6
+same-length-6 c = search needs
+
+same-length-7 : tie.Need-same-length-7
+same-length-7 c = search needs
+
+returns-2 : tie.Need-returns-2
+returns-2 c = let quiet = not-true _ (c .if2 .taken) in
+    rw (quiet, c .before .before .before .before .before .before .before .before .before .before .before .pre .3 quiet) (refused-quietly _ _ _ _ _ _ (c .before .before .before .before .before .before .before .before .before .before .before .pre .0) (c .before .before .judge .ensures) (c .before .if1 .left))
+
+refuse-all-requires : tie.Need-refuse-all-requires
+refuse-all-requires c κs = search needs
+
+same-length-8 : tie.Need-same-length-8
+same-length-8 c = search needs
+
+same-length-9 : tie.Need-same-length-9
+same-length-9 c = search needs
+
+same-length-10 : tie.Need-same-length-10
+same-length-10 c = search needs
+
+same-length-11 : tie.Need-same-length-11
+same-length-11 c = search needs
+
+returns-3 : tie.Need-returns-3
+returns-3 c = rw (not-false (c .before .before .before .before .before .before .before .before .before .before .before .before .before .before .before .args .telling) (c .before .before .before .before .if2 .left)) (refused-all _ _ _ _ _ _ _ (c .before .before .before .before .before .before .before .before .before .before .before .before .before .before .before .pre .0) (c .before .before .before .before .before .before .judge .ensures) (c .before .before .before .before .before .if1 .left) (c .before .before .refuse-all .ensures))
+
+pub work-spec : {M : Type 1} → statement M
+work-spec =
+    tie.close
+    (tie.spec
+    judge-requires
+    each-requires
+    same-length
+    same-length-2
+    same-length-3
+    same-length-4
+    returns
+    same-length-5
+    same-length-6
+    same-length-7
+    returns-2
+    refuse-all-requires
+    same-length-8
+    same-length-9
+    same-length-10
+    same-length-11
+    returns-3)
