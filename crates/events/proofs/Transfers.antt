@@ -73,24 +73,24 @@ staging-set i word f =
 -- ---- a word from the host, by how many are staged
 
 -- the header differs
-pub differs : (d : Drive) (c count start : ℕ) (sectors staging : List ℕ) → c ≡ d .transfer .control → miscompares (d .setup) c count start sectors staging ≡ true
+pub differs : (d : Drive) (count start : ℕ) (sectors staging : List ℕ) → miscompares (d .setup) (d .transfer .control) count start sectors staging ≡ true
     → result (told (Status headerMiscompare) (ended d)) sectors staging ≡ staged d count start sectors staging
 unfolding staged pick
-differs d c count start sectors staging e h = rw (rw e at h)
+differs d count start sectors staging h = rw h
 
 -- it was the last word
-pub last-word : (d : Drive) (s : Setup) (c count start : ℕ) (sectors staging : List ℕ) → s ≡ d .setup → c ≡ d .transfer .control
-    → miscompares (d .setup) c count start sectors staging ≡ false → count ≡ wordsToCome s c
-    → result (told (Status normal) (ended d)) (committed s c start sectors staging) staging ≡ staged d count start sectors staging
+pub last-word : (d : Drive) (c count start : ℕ) (sectors staging : List ℕ) → c ≡ d .transfer .control
+    → miscompares (d .setup) (d .transfer .control) count start sectors staging ≡ false → count ≡ wordsToCome (d .setup) c
+    → result (told (Status normal) (ended d)) (committed (d .setup) c start sectors staging) staging ≡ staged d count start sectors staging
 unfolding staged pick
-last-word d s c count start sectors staging q e h n = rw (rw e at h, eq-eqb count _ (rw (q, e) at n), q, e)
+last-word d c count start sectors staging e h n = rw (h, eq-eqb count _ (rw e at n), e)
 
 -- more are to come
-pub one-of-more : (d : Drive) (s : Setup) (c count start : ℕ) (sectors staging : List ℕ) → s ≡ d .setup → c ≡ d .transfer .control
-    → miscompares (d .setup) c count start sectors staging ≡ false → (count ≡ wordsToCome s c → ⊥)
+pub one-of-more : (d : Drive) (c count start : ℕ) (sectors staging : List ℕ) → c ≡ d .transfer .control
+    → miscompares (d .setup) (d .transfer .control) count start sectors staging ≡ false → (count ≡ wordsToCome (d .setup) c → ⊥)
     → result (told Done (withTransfer d (transferring (d .transfer .control) count))) sectors staging ≡ staged d count start sectors staging
 unfolding staged pick
-one-of-more d s c count start sectors staging q e h n = rw (rw e at h, ne-eqb count _ (rw (q, e) at n))
+one-of-more d c count start sectors staging e h n = rw (h, ne-eqb count _ (rw e at n))
 
 -- ---- a word to the host
 
@@ -103,13 +103,13 @@ word-at d s p start offset sectors staging e q b h r =
     rw (b, e, q) (read-in-place (d .setup) (d .place) (d .transfer .control) (d .transfer .moved) offset sectors h′ (rw e at r))
 
 pub last-taken : (d : Drive) (s : Setup) (p : Place) (start offset : ℕ) (sectors staging : List ℕ) → s ≡ d .setup → p ≡ d .place → start ≡ sectorStart s p
-    → Room s start sectors staging → ReadsAt s (d .transfer .control) (d .transfer .moved) offset → d .transfer .moved + 1 ≡ wordsToCome s (d .transfer .control)
+    → Room s start sectors staging → ReadsAt s (d .transfer .control) (d .transfer .moved) offset → d .transfer .moved + 1 ≡ wordsToCome (d .setup) (d .transfer .control)
     → told (LastWord (getD sectors (start + offset) 0)) (ended d) ≡ wordTaken d sectors
 unfolding wordTaken pick
-last-taken d s p start offset sectors staging e q b h r n = rw (eq-eqb _ _ (rw e at n), word-at d s p start offset sectors staging e q b h r)
+last-taken d s p start offset sectors staging e q b h r n = rw (eq-eqb _ _ n, word-at d s p start offset sectors staging e q b h r)
 
 pub one-taken : (d : Drive) (s : Setup) (p : Place) (start offset : ℕ) (sectors staging : List ℕ) → s ≡ d .setup → p ≡ d .place → start ≡ sectorStart s p
-    → Room s start sectors staging → ReadsAt s (d .transfer .control) (d .transfer .moved) offset → (d .transfer .moved + 1 ≡ wordsToCome s (d .transfer .control) → ⊥)
+    → Room s start sectors staging → ReadsAt s (d .transfer .control) (d .transfer .moved) offset → (d .transfer .moved + 1 ≡ wordsToCome (d .setup) (d .transfer .control) → ⊥)
     → told (Word (getD sectors (start + offset) 0)) (withTransfer d (transferring (d .transfer .control) (d .transfer .moved + 1))) ≡ wordTaken d sectors
 unfolding wordTaken pick
-one-taken d s p start offset sectors staging e q b h r n = rw (ne-eqb _ _ (rw e at n), word-at d s p start offset sectors staging e q b h r)
+one-taken d s p start offset sectors staging e q b h r n = rw (ne-eqb _ _ n, word-at d s p start offset sectors staging e q b h r)

@@ -156,7 +156,7 @@ unsound-words state =
     (broken-by (d .setup) (d .holding) control moved)
     (λ e. held-by (ltb (getD state 9 0) 3) (getD state 7 0) (getD state 8 0) (getD state 9 0) control (d .transfer) refl (open-by (d .setup) control moved e)))
 
--- and with the set-up that a callee told
+-- and with the set-up that a callee told, but where the code reads its words
 pub unsound-with : (s : Setup) (state : List ℕ) → s ≡ driveIn state .setup
-    → row11 (driveIn state) ≡ (not (withinLimits s) || misopened s state || misheld state || strays state || misplaced s state)
+    → row11 (driveIn state) ≡ (not (withinLimits s) || misopened (driveIn state .setup) state || misheld state || strays state || misplaced s state)
 unsound-with s state e = rw e (unsound-words state)

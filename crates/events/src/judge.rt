@@ -1,5 +1,6 @@
 // Rows 11 and 10: whether the words are those of a sound state, and whether the slices hold it. The tests that take longest come first, and each
 // ends the others: this is what a single event spends most of its time on.
+use crate::coming;
 use crate::sizes;
 use crate::state;
 use parts::Setup;
@@ -38,7 +39,7 @@ fn is_unsound(state: &[u16]) -> bool
     if !setup.within_limits() {
         return true;
     }
-    if is_misopened(setup, state[14], state[15]) {
+    if is_misopened(state, state[14], state[15]) {
         return true;
     }
     if is_misheld(state[7], state[8], state[9], state[14]) {
@@ -51,17 +52,18 @@ fn is_unsound(state: &[u16]) -> bool
 }
 
 // A transfer with a control that opens none, or with all its words moved or more.
-fn is_misopened(setup: Setup, control: u16, moved: u16) -> bool
-    ensures { λ r. ⌜ r ≡ isMisopened setup control moved ⌝ }
+fn is_misopened(state: &[u16], control: u16, moved: u16) -> bool
+    requires { ⌜ 18 ≤ length (now state) ⌝ }
+    ensures { λ r. ⌜ r ≡ isMisopened (driveIn (now (state .entry)) .setup) control moved ⌝ }
 {
     if control == 0 {
         return moved != 0;
     }
     if parts::is_write(control) {
-        return setup.words_to_come(control) <= moved as usize;
+        return coming::write_words(state, control) <= moved as usize;
     }
     if parts::is_read(control) {
-        return setup.words_to_come(control) <= moved as usize;
+        return coming::read_words(state, control) <= moved as usize;
     }
     true
 }

@@ -3,6 +3,7 @@ mod answer;
 mod answer_words;
 mod batch;
 mod by_value;
+mod coming;
 mod event;
 mod judge;
 mod kinds;

@@ -1,5 +1,6 @@
 // Kinds 4 and 5, an open transfer: words from the host are staged, and committed at the last one; words to the host are taken from the sector.
 use crate::answer;
+use crate::coming;
 use crate::place;
 use crate::sizes;
 use crate::state;
@@ -53,12 +54,12 @@ fn after_word(
     requires { ⌜ Fits (now state) (now sectors) (now staging) × (control ≡ driveIn (now state) .transfer .control) × (isWrite (controlOf control) ≡ true) × (count < 65536) ⌝ }
     ensures { λ r. ⌜ DidIn (now (state .entry)) (staged (driveIn (now (state .entry))) count (sectorStart (driveIn (now (state .entry)) .setup) (driveIn (now (state .entry)) .place)) (now (sectors .entry)) (now (staging .entry))) r (now (state .exit)) (now (sectors .exit)) (now (staging .entry)) ⌝ }
 {
-    if header_miscompares(&state[..], control, count, &sectors[..], staging) {
+    if header_miscompares(&state[..], count, &sectors[..], staging) {
         place::end_transfer(state);
         return Answer::Status(answer::HEADER_MISCOMPARE);
     }
-    let setup = state::setup_in(&state[..]);
-    if count == write_words(setup, control) {
+    if count == coming::write_words(&state[..], control) {
+        let setup = state::setup_in(&state[..]);
         let start = sizes::sector_start(setup, state::place_in(&state[..]));
         commit(setup, control, start, sectors, staging);
         place::end_transfer(state);
@@ -68,33 +69,20 @@ fn after_word(
     Answer::Done
 }
 
-fn header_miscompares(
-    state: &[u16],
-    control: u16,
-    count: usize,
-    sectors: &[u16],
-    staging: &[u16],
-) -> bool
+// The tests come one by one, each with its own reads: this is asked at every word.
+fn header_miscompares(state: &[u16], count: usize, sectors: &[u16], staging: &[u16]) -> bool
     requires { ⌜ Fits (now state) (now sectors) (now staging) ⌝ }
-    ensures { λ r. ⌜ r ≡ miscompares (driveIn (now (state .entry)) .setup) control count (sectorStart (driveIn (now (state .entry)) .setup) (driveIn (now (state .entry)) .place)) (now (sectors .entry)) (now (staging .entry)) ⌝ }
+    ensures { λ r. ⌜ r ≡ miscompares (driveIn (now (state .entry)) .setup) (driveIn (now (state .entry)) .transfer .control) count (sectorStart (driveIn (now (state .entry)) .setup) (driveIn (now (state .entry)) .place)) (now (sectors .entry)) (now (staging .entry)) ⌝ }
 {
-    let setup = state::setup_in(state);
-    let header = setup.header as usize;
-    if parts::verifies_header(control) & (count == header) {
-        let start = sizes::sector_start(setup, state::place_in(state));
-        return !words::same_words(staging, 0, sectors, start, header);
+    if count != state[3] as usize {
+        return false;
     }
-    false
-}
-
-// A write passes its header, verified or moved.
-fn write_words(setup: Setup, control: u16) -> usize
-    requires { ⌜ isWrite (controlOf control) ≡ true ⌝ }
-    ensures { λ r. ⌜ r ≡ wordsToCome setup control ⌝ }
-{
-    let field1 = parts::part_of(parts::names_field1(control), setup.field1);
-    let field2 = parts::part_of(parts::names_field2(control), setup.field2);
-    setup.header as usize + field1 + field2
+    if !parts::verifies_header(state[14]) {
+        return false;
+    }
+    let setup = state::setup_in(state);
+    let start = sizes::sector_start(setup, state::place_in(state));
+    !words::same_words(staging, 0, sectors, start, count)
 }
 
 // The named written fields go from the staging words to the sector.
@@ -143,7 +131,7 @@ fn take(state: &mut [u16], sectors: &[u16], staging: &[u16]) -> Answer
     let start = sizes::sector_start(setup, state::place_in(&state[..]));
     let at = start + word_offset(setup, control, moved);
     let word = sectors[at];
-    if moved as usize + 1 == setup.words_to_come(control) {
+    if moved as usize + 1 == coming::read_words(&state[..], control) {
         place::end_transfer(state);
         return Answer::LastWord(word);
     }

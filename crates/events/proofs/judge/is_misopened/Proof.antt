@@ -1,5 +1,6 @@
 -- `is_misopened` meets its contract.
 -- Assumes nothing.
+use mathlib.Core.Path.{sym, _∙_}
 use mathlib.Core.Bool.{or-true}
 use borrow.Author.Tests.{eq-eqb, ne-eqb}
 use Rattle.laws.specs.Pick.{pick}
@@ -15,23 +16,23 @@ returns c = rw (eq-eqb _ _ (c .if1 .taken))
 is-write-requires : tie.Need-is-write-requires
 is-write-requires c κs = search needs
 
-words-to-come-requires : tie.Need-words-to-come-requires
-words-to-come-requires c κs = search needs
+write-words-requires : tie.Need-write-words-requires
+write-words-requires c κs = (c .before .before .before .before .pre, sym (c .before .is-write .ensures) ∙ c .if2 .taken)
 
 returns-2 : tie.Need-returns-2
 unfolding isMisopened pick
-returns-2 c = rw (ne-eqb _ _ (c .before .before .before .if1 .left), ← (c .before .before .is-write .ensures), c .before .if2 .taken, c .words-to-come .ensures)
+returns-2 c = rw (ne-eqb _ _ (c .before .before .before .if1 .left), ← (c .before .before .is-write .ensures), c .before .if2 .taken, c .write-words .ensures)
 
 is-read-requires : tie.Need-is-read-requires
 is-read-requires c κs = search needs
 
-words-to-come-requires-2 : tie.Need-words-to-come-requires-2
-words-to-come-requires-2 c κs = search needs
+read-words-requires : tie.Need-read-words-requires
+read-words-requires c κs = search needs
 
 returns-3 : tie.Need-returns-3
 unfolding isMisopened pick
 returns-3 c =
-    rw (ne-eqb _ _ (c .before .before .before .before .before .if1 .left), ← (c .before .before .is-read .ensures), c .before .if3 .taken, or-true, c .words-to-come2 .ensures)
+    rw (ne-eqb _ _ (c .before .before .before .before .before .if1 .left), ← (c .before .before .is-read .ensures), c .before .if3 .taken, or-true, c .read-words .ensures)
 
 returns-4 : tie.Need-returns-4
 unfolding isMisopened pick
@@ -44,9 +45,9 @@ is-misopened-spec =
     (tie.spec
     returns
     is-write-requires
-    words-to-come-requires
+    write-words-requires
     returns-2
     is-read-requires
-    words-to-come-requires-2
+    read-words-requires
     returns-3
     returns-4)

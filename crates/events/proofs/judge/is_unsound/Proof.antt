@@ -22,7 +22,7 @@ returns c = rw (unsound-with _ _ (c .before .before .setup-in .ensures), ← (c 
 limited : (c : tie.Else1)
     → let state = c .before .before .before .before .args .state .now in
     let setup = c .before .before .setup-in .result in
-    row11 (driveIn state) ≡ (misopened setup state || misheld state || strays state || misplaced setup state)
+    row11 (driveIn state) ≡ (misopened (driveIn state .setup) state || misheld state || strays state || misplaced setup state)
 limited c = rw (unsound-with _ _ (c .before .before .setup-in .ensures), ← (c .before .within-limits .ensures), c .if1 .left)
 
 shared-slice-read-is-misopened : tie.Need-shared-slice-read-is-misopened

@@ -1,48 +1,91 @@
 -- `header_miscompares` meets its contract.
 -- Assumes nothing.
-use Rattle.drive.specs.Transfer.{miscompares}
-use Rattle.events.proofs.Transfers.{has-room, placed}
+use Prim.Native.Nat.{ℕ}
+use mathlib.Core.Path.{_≡_, refl, sym, _∙_}
+use mathlib.Core.Bool.{Bool, true, not, and-false}
+use mathlib.Core.List.{List}
 use native.Mathlib.Omega.{arith}
+use borrow.Author.Tests.{eq-eqb, ne-eqb, not-true, not-false}
+use lib.ListN.{getD, take, drop}
+use Rattle.parts.specs.Control.{verifiesHeader}
+use Rattle.parts.specs.declared.setup.Setup.{Setup}
+use Rattle.drive.specs.Transfer.{miscompares, sameWords}
+use Rattle.events.specs.State.{driveIn}
+use Rattle.events.proofs.Transfers.{has-room, placed}
+use denote.Ref.{now}
 use borrow.Author.Needs.{needs}
 use Rattle.events.proofs.transfer.header_miscompares.Statement.{statement}
 use Rattle.events.proofs.transfer.header_miscompares.Tie as tie
 
-setup-in-requires : tie.Need-setup-in-requires
-setup-in-requires c κs = search needs
+-- the word 3 that the code reads is the header of the set-up that a callee told
+header-word : (state : List ℕ) (s : Setup) (count : ℕ) → s ≡ driveIn state .setup → count ≡ getD state 3 0 → count ≡ s .header
+unfolding driveIn
+header-word state s count e n = rw (n, e)
 
-cast-header : tie.Need-cast-header
-cast-header c = search needs
+-- and word 14 is the control
+verified : (state : List ℕ) (b : Bool) → b ≡ verifiesHeader (getD state 14 0) → b ≡ true → verifiesHeader (driveIn state .transfer .control) ≡ true
+unfolding driveIn
+verified state b e t = sym e ∙ t
+
+-- with verify, at the last header word, the header decides
+compared : (s : Setup) (c count start : ℕ) (sectors staging : List ℕ) → verifiesHeader c ≡ true → count ≡ s .header
+    → miscompares s c count start sectors staging ≡ not (sameWords (take count staging) (take count (drop start sectors)))
+unfolding miscompares
+compared s c count start sectors staging v e = rw (v, ← e, eq-eqb count count refl)
+
+shared-slice-read-if1 : tie.Need-shared-slice-read-if1
+shared-slice-read-if1 c = search needs
+
+cast-if1 : tie.Need-cast-if1
+cast-if1 c = omega (arith, c .shared-slice-known4 .given 3)
+
+returns : tie.Need-returns
+unfolding miscompares driveIn
+returns c = rw (ne-eqb _ _ (c .if1 .taken), and-false)
+
+shared-slice-read-verifies-header : tie.Need-shared-slice-read-verifies-header
+shared-slice-read-verifies-header c = search needs
 
 verifies-header-requires : tie.Need-verifies-header-requires
 verifies-header-requires c κs = search needs
+
+returns-2 : tie.Need-returns-2
+unfolding miscompares driveIn
+returns-2 c = rw (← (c .before .verifies-header .ensures), not-true (c .before .verifies-header .result) (c .if2 .taken))
+
+setup-in-requires : tie.Need-setup-in-requires
+setup-in-requires c κs = search needs
 
 place-in-requires : tie.Need-place-in-requires
 place-in-requires c κs = search needs
 
 sector-start-requires : tie.Need-sector-start-requires
-sector-start-requires c κs = placed (c .before .before .before .before .before .before .before .before .pre) _ _ (c .before .before .before .before .setup-in .ensures) (c .place-in .ensures)
+sector-start-requires c κs = placed (c .before .before .before .before .before .before .before .before .before .before .pre) _ _ (c .before .setup-in .ensures) (c .place-in .ensures)
 
 same-words-requires : tie.Need-same-words-requires
-same-words-requires c κs = let r = has-room (c .before .before .before .before .before .before .before .before .before .pre) _ _ _ (c .before .before .before .before .before .setup-in .ensures) (c .before .place-in .ensures) (c .sector-start .ensures) in
-    (omega (arith, r .stage), omega (arith, r .sector))
+same-words-requires c κs =
+    let n = header-word _ _ _ (c .before .before .setup-in .ensures) (c .before .before .before .before .before .before .if1 .left) in
+    let r = has-room (c .before .before .before .before .before .before .before .before .before .before .before .pre) _ _ _ (c .before .before .setup-in .ensures) (c .before .place-in .ensures) (c .sector-start .ensures) in
+    (omega (arith, n, r .stage), omega (arith, n, r .sector))
 
-returns : tie.Need-returns
-unfolding miscompares
-returns c = rw (← (c .before .before .before .before .before .before .setup-in .ensures), ← (c .before .before .place-in .ensures), ← (c .before .before .before .before .verifies-header .ensures), c .before .before .before .if1 .taken, ← (c .before .sector-start .ensures), c .same-words .ensures)
-
-returns-2 : tie.Need-returns-2
-unfolding miscompares
-returns-2 c = rw (← (c .before .before .before .setup-in .ensures), ← (c .before .verifies-header .ensures), c .if1 .left)
+returns-3 : tie.Need-returns-3
+returns-3 c =
+    let state = now (c .before .before .before .before .before .before .before .before .before .before .before .before .args .state) in
+    rw (← (c .before .before .before .setup-in .ensures), ← (c .before .before .place-in .ensures), ← (c .before .sector-start .ensures), c .same-words .ensures)
+    (sym (compared _ _ _ _ _ _ (verified state _ (c .before .before .before .before .before .verifies-header .ensures) (not-false _ (c .before .before .before .before .if2 .left))) (header-word state _ _ (c .before .before .before .setup-in .ensures) (c .before .before .before .before .before .before .before .if1 .left))))
 
 pub header-miscompares-spec : {M : Type 1} → statement M
 header-miscompares-spec =
     tie.close
     (tie.spec
-    setup-in-requires
-    cast-header
+    shared-slice-read-if1
+    cast-if1
+    returns
+    shared-slice-read-verifies-header
     verifies-header-requires
+    returns-2
+    setup-in-requires
     place-in-requires
     sector-start-requires
     same-words-requires
-    returns
-    returns-2)
+    returns-3)

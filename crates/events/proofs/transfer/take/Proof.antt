@@ -48,8 +48,8 @@ cast-if1 c = let m = moving (c .before .before .before .before .before .before .
 add-if1 : tie.Need-add-if1
 add-if1 c = let m = moving (c .before .before .before .before .before .before .before .before .before .before .before .before .pre .1) in omega (arith, m .few)
 
-words-to-come-requires : tie.Need-words-to-come-requires
-words-to-come-requires c κs = search needs
+read-words-requires : tie.Need-read-words-requires
+read-words-requires c κs = search needs
 
 end-transfer-requires : tie.Need-end-transfer-requires
 end-transfer-requires c κs = search needs
@@ -59,11 +59,17 @@ same-length c = search needs
 
 returns : tie.Need-returns
 unfolding driveIn
-returns c = did-as _ _ (last-taken (driveIn (now (c .before .before .before .before .before .before .before .before .before .before .before .before .before .before .before .before .before .before .args .state))) _ _ _ _ _ _ (c .before .before .before .before .before .before .before .before .before .before .before .setup-in .ensures) (c .before .before .before .before .before .before .before .before .before .place-in .ensures) (c .before .before .before .before .before .before .before .before .sector-start .ensures) (has-room (c .before .before .before .before .before .before .before .before .before .before .before .before .before .before .before .before .before .before .pre .0) _ _ _ (c .before .before .before .before .before .before .before .before .before .before .before .setup-in .ensures) (c .before .before .before .before .before .before .before .before .before .place-in .ensures) (c .before .before .before .before .before .before .before .before .sector-start .ensures)) (c .before .before .before .before .before .before .before .word-offset .ensures) (c .before .before .before .before .if1 .taken ∙ c .before .before .before .before .before .words-to-come .ensures))
+returns c =
+    let read = c .before .before .before .before .before in
+    let setup = read .before .before .before .before .before .before .before .setup-in .ensures in
+    let place = read .before .before .before .before .before .place-in .ensures in
+    let begin = read .before .before .before .before .sector-start .ensures in
+    let start = read .before .before .before .before .before .before .before .before .before .before .before .before .before .before in
+    did-as _ _ (last-taken (driveIn (now (start .args .state))) _ _ _ _ _ _ setup place begin (has-room (start .pre .0) _ _ _ setup place begin) (read .before .before .before .word-offset .ensures) (c .before .before .before .before .if1 .taken ∙ read .read-words .ensures))
     (record { answer = refl; state = c .before .before .end-transfer .ensures })
 
 add-state : tie.Need-add-state
-add-state c = let m = moving (c .before .before .before .before .before .before .before .before .before .before .before .before .before .before .pre .1) in omega (arith, m .few)
+add-state c = let m = moving (c .before .before .before .before .before .before .before .before .before .before .before .before .before .before .before .pre .1) in omega (arith, m .few)
 
 slice-write-state : tie.Need-slice-write-state
 slice-write-state c = search needs
@@ -73,8 +79,14 @@ same-length-2 c = search needs
 
 returns-2 : tie.Need-returns-2
 unfolding driveIn
-returns-2 c = did-as _ _ (one-taken (driveIn (now (c .before .before .before .before .before .before .before .before .before .before .before .before .before .before .args .state))) _ _ _ _ _ _ (c .before .before .before .before .before .before .before .setup-in .ensures) (c .before .before .before .before .before .place-in .ensures) (c .before .before .before .before .sector-start .ensures) (has-room (c .before .before .before .before .before .before .before .before .before .before .before .before .before .before .pre .0) _ _ _ (c .before .before .before .before .before .before .before .setup-in .ensures) (c .before .before .before .before .before .place-in .ensures) (c .before .before .before .before .sector-start .ensures)) (c .before .before .before .word-offset .ensures) (λ e. c .if1 .left (e ∙ sym (c .before .words-to-come .ensures))))
-    (record { answer = refl; state = word-moved _ _ (c .before .before .before .before .before .before .before .before .before .before .before .before .before .before .pre .0 .long) (known (fit (c .before .before .before .before .before .before .before .before .before .before .before .before .before .before .pre .0))) })
+returns-2 c =
+    let read = c .before in
+    let setup = read .before .before .before .before .before .before .before .setup-in .ensures in
+    let place = read .before .before .before .before .before .place-in .ensures in
+    let begin = read .before .before .before .before .sector-start .ensures in
+    let start = read .before .before .before .before .before .before .before .before .before .before .before .before .before .before in
+    did-as _ _ (one-taken (driveIn (now (start .args .state))) _ _ _ _ _ _ setup place begin (has-room (start .pre .0) _ _ _ setup place begin) (read .before .before .before .word-offset .ensures) (λ e. c .if1 .left (e ∙ sym (read .read-words .ensures))))
+    (record { answer = refl; state = word-moved _ _ (start .pre .0 .long) (known (fit (start .pre .0))) })
 
 pub take-spec : {M : Type 1} → statement M
 take-spec =
@@ -91,7 +103,7 @@ take-spec =
     shared-slice-read-word
     cast-if1
     add-if1
-    words-to-come-requires
+    read-words-requires
     end-transfer-requires
     same-length
     returns

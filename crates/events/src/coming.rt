@@ -1,0 +1,48 @@
+// The words to come of a transfer, on the words of a state. A field's words are read where the control names it and nowhere else: it seldom names all.
+ghost use Prim.Native.Nat.{_+_, _≤_, _<_};
+ghost use mathlib.Core.Path.{_≡_};
+ghost use mathlib.Core.Bool.{true};
+ghost use lib.ListN.{length, getD};
+ghost use Rattle.parts.specs.Control.{controlOf, isWrite, namesField1, namesField2, part, wordsToCome};
+ghost use Rattle.events.specs.State.{driveIn};
+
+const HEADER: usize = 3;
+
+const FIELD_1: usize = 4;
+
+const FIELD_2: usize = 5;
+
+// A write passes its header, verified or moved.
+pub(crate) fn write_words(state: &[u16], control: u16) -> usize
+    requires { ⌜ (18 ≤ length (now state)) × (isWrite (controlOf control) ≡ true) ⌝ }
+    ensures { λ r. ⌜ r ≡ wordsToCome (driveIn (now (state .entry)) .setup) control ⌝ }
+{
+    state[HEADER] as usize + field_words(state, control)
+}
+
+pub(crate) fn read_words(state: &[u16], control: u16) -> usize
+    requires { ⌜ 18 ≤ length (now state) ⌝ }
+    ensures { λ r. ⌜ r ≡ wordsToCome (driveIn (now (state .entry)) .setup) control ⌝ }
+{
+    words_at(state, parts::header_passes(control), HEADER) + field_words(state, control)
+}
+
+// The words of the named fields.
+fn field_words(state: &[u16], control: u16) -> usize
+    requires { ⌜ 18 ≤ length (now state) ⌝ }
+    ensures { λ r. ⌜ (r ≡ part (namesField1 control) (getD (now (state .entry)) 4 0) + part (namesField2 control) (getD (now (state .entry)) 5 0)) × (r < 131072) ⌝ }
+{
+    words_at(state, parts::names_field1(control), FIELD_1)
+        + words_at(state, parts::names_field2(control), FIELD_2)
+}
+
+// The word at an index, or 0 where its part does not pass.
+fn words_at(state: &[u16], passes: bool, at: usize) -> usize
+    requires { ⌜ at < length (now state) ⌝ }
+    ensures { λ r. ⌜ (r ≡ part passes (getD (now (state .entry)) at 0)) × (r < 65536) ⌝ }
+{
+    if passes {
+        return state[at] as usize;
+    }
+    0
+}
