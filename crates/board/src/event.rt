@@ -1,6 +1,5 @@
 // One event on the words of the state.
 use parts::Event;
-ghost use mathlib.Core.Path.{_≡_};
 ghost use Rattle.events.specs.Event.{eventOfOctets, EventOnWords};
 
 #[no_mangle]

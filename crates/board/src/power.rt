@@ -1,5 +1,4 @@
 // Power-up.
-ghost use mathlib.Core.Path.{_≡_};
 ghost use Rattle.drive.specs.Power.{setupOf};
 ghost use Rattle.events.specs.Power.{PoweredUpOnWords};
 

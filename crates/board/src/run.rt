@@ -1,5 +1,4 @@
 // Events on the words of the state: many at once.
-ghost use mathlib.Core.Path.{_≡_};
 ghost use Rattle.events.specs.Run.{RunOnWords};
 
 #[no_mangle]

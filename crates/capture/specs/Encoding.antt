@@ -4,7 +4,7 @@ use mathlib.Core.Path.{_≡_}
 use mathlib.Core.Bool.{not, _||_}
 use mathlib.Core.List.{List, [], _∷_, _++_}
 use lib.Dec.{eqb, ltb, leb}
-use lib.ListN.{length, take, drop}
+use lib.ListN.{length}
 use Rattle.laws.specs.Rows.{Row, first, _when_, unlessRefused}
 use Rattle.laws.specs.Octets.{octetsOf}
 use Rattle.laws.specs.Lists.{writtenOver}

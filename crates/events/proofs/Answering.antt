@@ -21,7 +21,6 @@ use Rattle.drive.specs.declared.answer.Answer.the-variants.{Refused}
 use Rattle.drive.proofs.Laws.{accepts, doneBy}
 use Rattle.drive.proofs.Turns.{refused-as-judged}
 use Rattle.events.specs.State.{driveIn, stateAfter}
-use Rattle.events.specs.Event.{machineIn}
 use Rattle.events.specs.Turn.{Numbered, Telling, Answered, Turn}
 use Rattle.events.specs.Fit.{Fits, DidIn}
 use Rattle.events.proofs.Done.{fit, known}

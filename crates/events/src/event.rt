@@ -3,7 +3,6 @@ use crate::answer_words;
 use crate::batch;
 use crate::state;
 use parts::Event;
-ghost use mathlib.Core.Path.{_≡_};
 ghost use Rattle.events.specs.Event.{EventOnWords};
 ghost use Rattle.events.specs.Run.{RunOnWords};
 

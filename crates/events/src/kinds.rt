@@ -9,7 +9,6 @@ use drive::Answer;
 use parts::Event;
 use parts::Place;
 ghost use Prim.Native.Nat.{_≤_};
-ghost use mathlib.Core.Path.{_≡_};
 ghost use Rattle.parts.specs.Kind.{Kind, Work, wordOf, placeOf};
 ghost use Rattle.drive.specs.Answer.{normal};
 ghost use Rattle.drive.specs.State.{told};

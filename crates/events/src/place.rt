@@ -1,7 +1,5 @@
 // The words of the position and of the open transfer.
-use crate::state;
 use parts::Place;
-ghost use Prim.Native.Nat.{_<_};
 ghost use mathlib.Core.Path.{_≡_};
 ghost use Rattle.parts.specs.Tests.{transferring};
 ghost use Rattle.drive.specs.State.{withPlace, withTransfer};

@@ -1,7 +1,6 @@
 // Power-up on the words of a state.
 use crate::state;
 use drive::Powered;
-ghost use mathlib.Core.Path.{_≡_};
 ghost use Rattle.drive.specs.Power.{setupOf};
 ghost use Rattle.events.specs.Power.{PoweredUpOnWords};
 

@@ -6,10 +6,8 @@ use crate::state;
 use drive::Answer;
 use parts::Control;
 use parts::Place;
-ghost use Prim.Native.Nat.{_≤_, _<_};
-ghost use mathlib.Core.Path.{_≡_};
-ghost use Rattle.drive.specs.Request.{opened, opening, controlled, dataControl, positioned, targeted};
-ghost use Rattle.parts.specs.Control.{controlOf};
+ghost use Prim.Native.Nat.{_≤_};
+ghost use Rattle.drive.specs.Request.{opened, opening, dataControl, positioned, targeted};
 ghost use Rattle.events.specs.State.{driveIn};
 ghost use Rattle.events.specs.Fit.{Fit, Did};
 

@@ -1,7 +1,7 @@
 -- No second answer satisfies a promise of this crate, and each refusal is given exactly when its row says so.
 -- Assumes nothing.
 use Prim.Native.Nat.{ℕ, suc}
-use mathlib.Core.Path.{_≡_, refl, sym, _∙_}
+use mathlib.Core.Path.{_≡_, refl}
 use mathlib.Core.Logic.{_↔_}
 use lib.Dec.{eqb}
 use Rattle.laws.specs.Pick.{pick}

@@ -8,7 +8,7 @@ use borrow.Author.Tests.{lt-ltb, le-ltb, ne-eqb, ltb-true, ltb-false, leb-true}
 use lib.Dec.{ltb, leb, eqb}
 use Rattle.laws.specs.Pick.{pick}
 use Rattle.laws.proofs.Tests.{and-l, and-r}
-use Rattle.parts.specs.Control.{controlOf, isWrite, namesField1, namesField2, movesHeader, headerBits, headerPasses, wordsToCome, wordsRead}
+use Rattle.parts.specs.Control.{controlOf, namesField1, namesField2, headerBits, headerPasses, wordsToCome, wordsRead}
 use Rattle.parts.specs.Bit4.{hasPartner, Bit4ChangesNothing}
 use Rattle.parts.specs.declared.control.Control.the-variants.{Write, Read, Unsupported}
 
