@@ -2,6 +2,7 @@
 ghost use Prim.Native.Nat.{_+_, _≤_, _<_};
 ghost use mathlib.Core.Path.{_≡_};
 ghost use mathlib.Core.Bool.{true};
+ghost use lib.Dec.{leb};
 ghost use lib.ListN.{length, getD};
 ghost use Rattle.parts.specs.Control.{controlOf, isWrite, namesField1, namesField2, part, wordsToCome};
 ghost use Rattle.events.specs.State.{driveIn};
@@ -45,4 +46,40 @@ fn words_at(state: &[u16], passes: bool, at: usize) -> usize
         return state[at] as usize;
     }
     0
+}
+
+// All the words of a transfer moved, or more? Part by part: the first part that the words do not fill answers.
+pub(crate) fn is_through(state: &[u16], control: u16, moved: u16) -> bool
+    requires { ⌜ 18 ≤ length (now state) ⌝ }
+    ensures { λ r. ⌜ r ≡ leb (wordsToCome (driveIn (now (state .entry)) .setup) control) moved ⌝ }
+{
+    if !parts::header_passes(control) {
+        return fields_are_through(state, control, moved);
+    }
+    let header = state[HEADER];
+    if moved < header {
+        return false;
+    }
+    fields_are_through(state, control, moved - header)
+}
+
+fn fields_are_through(state: &[u16], control: u16, moved: u16) -> bool
+    requires { ⌜ 18 ≤ length (now state) ⌝ }
+    ensures { λ r. ⌜ r ≡ leb (part (namesField1 control) (getD (now (state .entry)) 4 0) + part (namesField2 control) (getD (now (state .entry)) 5 0)) moved ⌝ }
+{
+    if !parts::names_field1(control) {
+        return field2_is_through(state, control, moved);
+    }
+    let field1 = state[FIELD_1];
+    if moved < field1 {
+        return false;
+    }
+    field2_is_through(state, control, moved - field1)
+}
+
+fn field2_is_through(state: &[u16], control: u16, moved: u16) -> bool
+    requires { ⌜ 18 ≤ length (now state) ⌝ }
+    ensures { λ r. ⌜ r ≡ leb (part (namesField2 control) (getD (now (state .entry)) 5 0)) moved ⌝ }
+{
+    !parts::names_field2(control) | (state[FIELD_2] <= moved)
 }

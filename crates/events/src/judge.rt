@@ -60,10 +60,10 @@ fn is_misopened(state: &[u16], control: u16, moved: u16) -> bool
         return moved != 0;
     }
     if parts::is_write(control) {
-        return coming::write_words(state, control) <= moved as usize;
+        return coming::is_through(state, control, moved);
     }
     if parts::is_read(control) {
-        return coming::read_words(state, control) <= moved as usize;
+        return coming::is_through(state, control, moved);
     }
     true
 }

@@ -1,6 +1,5 @@
 -- `is_misopened` meets its contract.
 -- Assumes nothing.
-use mathlib.Core.Path.{sym, _∙_}
 use mathlib.Core.Bool.{or-true}
 use borrow.Author.Tests.{eq-eqb, ne-eqb}
 use Rattle.laws.specs.Pick.{pick}
@@ -16,23 +15,23 @@ returns c = rw (eq-eqb _ _ (c .if1 .taken))
 is-write-requires : tie.Need-is-write-requires
 is-write-requires c κs = search needs
 
-write-words-requires : tie.Need-write-words-requires
-write-words-requires c κs = (c .before .before .before .before .pre, sym (c .before .is-write .ensures) ∙ c .if2 .taken)
+is-through-requires : tie.Need-is-through-requires
+is-through-requires c κs = search needs
 
 returns-2 : tie.Need-returns-2
 unfolding isMisopened pick
-returns-2 c = rw (ne-eqb _ _ (c .before .before .before .if1 .left), ← (c .before .before .is-write .ensures), c .before .if2 .taken, c .write-words .ensures)
+returns-2 c = rw (ne-eqb _ _ (c .before .before .before .if1 .left), ← (c .before .before .is-write .ensures), c .before .if2 .taken, c .is-through .ensures)
 
 is-read-requires : tie.Need-is-read-requires
 is-read-requires c κs = search needs
 
-read-words-requires : tie.Need-read-words-requires
-read-words-requires c κs = search needs
+is-through-requires-2 : tie.Need-is-through-requires-2
+is-through-requires-2 c κs = search needs
 
 returns-3 : tie.Need-returns-3
 unfolding isMisopened pick
 returns-3 c =
-    rw (ne-eqb _ _ (c .before .before .before .before .before .if1 .left), ← (c .before .before .is-read .ensures), c .before .if3 .taken, or-true, c .read-words .ensures)
+    rw (ne-eqb _ _ (c .before .before .before .before .before .if1 .left), ← (c .before .before .is-read .ensures), c .before .if3 .taken, or-true, c .is-through2 .ensures)
 
 returns-4 : tie.Need-returns-4
 unfolding isMisopened pick
@@ -45,9 +44,9 @@ is-misopened-spec =
     (tie.spec
     returns
     is-write-requires
-    write-words-requires
+    is-through-requires
     returns-2
     is-read-requires
-    read-words-requires
+    is-through-requires-2
     returns-3
     returns-4)
