@@ -20,8 +20,7 @@ pub(crate) fn ask(state: &mut [u16], port: u8, control: u16) -> Answer
     }
     let kind = parts::control_of(control);
     match kind {
-        Control::Write => open_there(state, port, control),
-        Control::Read => open_there(state, port, control),
+        Control::Write | Control::Read => open_there(state, port, control),
         Control::StepHead => {
             place::step_head(state);
             Answer::Status(answer::NORMAL)

@@ -1,13 +1,38 @@
 -- `ask` meets its contract.
 -- Assumes nothing.
-use Rattle.events.proofs.Asking.{did-controlled, did-request, did-unsolicited}
-use Rattle.drive.specs.Request.{dataControl}
+use Prim.Native.Nat.{ℕ, _<_}
+use mathlib.Core.Path.{_≡_, refl, sym, _∙_}
+use mathlib.Core.List.{List}
+use mathlib.Core.Logic.{_⊎_, inl, inr}
+use native.Mathlib.Omega.{arith}
+use denote.Enum.Declared.{tagOf}
+use Rattle.parts.proofs.control.Control.{the-type}
+use Rattle.parts.specs.Control.{controlOf}
+use Rattle.parts.specs.declared.control.Control.{Control}
 use Rattle.parts.specs.declared.control.Control.the-variants.{Write, Read, StepHead, Reserved, Unsupported, Invalid}
 use Rattle.parts.specs.Pending.{bit5, bit7}
-use mathlib.Core.Path.{refl, sym, _∙_}
+use Rattle.drive.specs.Request.{controlled, dataControl, opening}
+use Rattle.drive.specs.declared.answer.Answer.{Answer}
+use Rattle.events.specs.State.{driveIn}
+use Rattle.events.specs.Fit.{Did}
+use Rattle.events.proofs.Asking.{did-controlled, did-request, did-unsolicited}
 use borrow.Author.Needs.{needs}
 use Rattle.events.proofs.request.ask.Statement.{statement}
 use Rattle.events.proofs.request.ask.Tie as tie
+
+-- the arm of two kinds, by the tag of the kind that was told
+low : (tag : ℕ) → (tag ≡ 0) ⊎ (tag ≡ 1) → tag < 2
+low tag (inl e) = omega arith
+low tag (inr e) = omega arith
+
+did-opening : (state : List ℕ) (port control : ℕ) (kind : Control) {answer : Answer} {state′ : List ℕ} → tagOf the-type kind < 2
+    → kind ≡ controlOf control → Did state (opening (driveIn state) port control) answer state′ → Did state (controlled (controlOf control) (driveIn state) port control) answer state′
+did-opening state port control Write h e d = did-controlled state port control Write e d
+did-opening state port control Read h e d = did-controlled state port control Read e d
+did-opening state port control StepHead h e d = absurd (omega (arith, h))
+did-opening state port control Reserved h e d = absurd (omega (arith, h))
+did-opening state port control Unsupported h e d = absurd (omega (arith, h))
+did-opening state port control Invalid h e d = absurd (omega (arith, h))
 
 is-unsolicited-requires : tie.Need-is-unsolicited-requires
 is-unsolicited-requires c κs = search needs
@@ -17,88 +42,72 @@ same-length c = search needs
 
 returns : tie.Need-returns
 unfolding dataControl
-returns c = did-unsolicited _ _ _ _ ((c .before .before .before .before .pre .0)) ((c .before .is-unsolicited .ensures)) ((c .if1 .taken))
+returns c = did-unsolicited _ _ _ _ (c .before .before .before .before .pre .0) (c .before .is-unsolicited .ensures) (c .if1 .taken)
 
 control-of-requires : tie.Need-control-of-requires
 control-of-requires c κs = search needs
 
-enum-told : tie.Need-enum-told
-enum-told c = search needs
-
 open-there-requires : tie.Need-open-there-requires
 open-there-requires c κs = search needs
 
-enum-told-2 : tie.Need-enum-told-2
-enum-told-2 c = search needs
-
-open-there-requires-2 : tie.Need-open-there-requires-2
-open-there-requires-2 c κs = search needs
-
-enum-told-3 : tie.Need-enum-told-3
-enum-told-3 c = search needs
+enum-told : tie.Need-enum-told
+enum-told c = search needs
 
 step-head-requires : tie.Need-step-head-requires
 step-head-requires c κs = search needs
 
+enum-told-2 : tie.Need-enum-told-2
+enum-told-2 c = search needs
+
+fault-requires : tie.Need-fault-requires
+fault-requires c κs = (c .before .before .before .before .before .before .before .before .pre .0, c .before .before .before .before .before .before .before .before .pre .1, bit7)
+
+enum-told-3 : tie.Need-enum-told-3
+enum-told-3 c = search needs
+
+fault-requires-2 : tie.Need-fault-requires-2
+fault-requires-2 c κs = (c .before .before .before .before .before .before .before .before .pre .0, c .before .before .before .before .before .before .before .before .pre .1, bit5)
+
 enum-told-4 : tie.Need-enum-told-4
 enum-told-4 c = search needs
 
-fault-requires : tie.Need-fault-requires
-fault-requires c κs = ((c .before .before .before .before .before .before .before .before .pre .0), (c .before .before .before .before .before .before .before .before .pre .1), bit7)
-
-enum-told-5 : tie.Need-enum-told-5
-enum-told-5 c = search needs
-
-fault-requires-2 : tie.Need-fault-requires-2
-fault-requires-2 c κs = ((c .before .before .before .before .before .before .before .before .pre .0), (c .before .before .before .before .before .before .before .before .pre .1), bit5)
-
-enum-told-6 : tie.Need-enum-told-6
-enum-told-6 c = search needs
-
 fault-requires-3 : tie.Need-fault-requires-3
-fault-requires-3 c κs = ((c .before .before .before .before .before .before .before .before .pre .0), (c .before .before .before .before .before .before .before .before .pre .1), bit7)
+fault-requires-3 c κs = (c .before .before .before .before .before .before .before .before .pre .0, c .before .before .before .before .before .before .before .before .pre .1, bit7)
 
 same-length-2 : tie.Need-same-length-2
 same-length-2 c = search needs
 
 returns-2 : tie.Need-returns-2
 unfolding dataControl
-returns-2 c = did-request _ _ _ _ ((c .before .before .before .before .before .before .before .before .is-unsolicited .ensures)) ((c .before .before .before .before .before .before .before .if1 .left)) (did-controlled _ _ _ Write (sym ((c .before .before .before .before .enum-told .given .1)) ∙ (c .before .before .before .before .before .before .control-of .ensures)) ((c .before .before .open-there .ensures)))
+returns-2 c = did-request _ _ _ _ (c .before .before .before .before .before .before .before .is-unsolicited .ensures) (c .before .before .before .before .before .before .if1 .left) (did-opening _ _ _ (c .before .before .before .before .before .control-of .result) (low _ (c .before .before .before .before .match .keys1)) (c .before .before .before .before .before .control-of .ensures) (c .before .before .open-there .ensures))
 
 same-length-3 : tie.Need-same-length-3
 same-length-3 c = search needs
 
 returns-3 : tie.Need-returns-3
 unfolding dataControl
-returns-3 c = did-request _ _ _ _ ((c .before .before .before .before .before .before .before .before .is-unsolicited .ensures)) ((c .before .before .before .before .before .before .before .if1 .left)) (did-controlled _ _ _ Read (sym ((c .before .before .before .before .enum-told2 .given .1)) ∙ (c .before .before .before .before .before .before .control-of .ensures)) ((c .before .before .open-there2 .ensures)))
+returns-3 c = did-request _ _ _ _ (c .before .before .before .before .before .before .before .before .is-unsolicited .ensures) (c .before .before .before .before .before .before .before .if1 .left) (did-controlled _ _ _ StepHead (sym (c .before .before .before .before .enum-told .given .1) ∙ c .before .before .before .before .before .before .control-of .ensures) (record { answer = refl; state = c .before .before .step-head .ensures }))
 
 same-length-4 : tie.Need-same-length-4
 same-length-4 c = search needs
 
 returns-4 : tie.Need-returns-4
 unfolding dataControl
-returns-4 c = did-request _ _ _ _ ((c .before .before .before .before .before .before .before .before .is-unsolicited .ensures)) ((c .before .before .before .before .before .before .before .if1 .left)) (did-controlled _ _ _ StepHead (sym ((c .before .before .before .before .enum-told3 .given .1)) ∙ (c .before .before .before .before .before .before .control-of .ensures)) (record { answer = refl; state = (c .before .before .step-head .ensures) }))
+returns-4 c = did-request _ _ _ _ (c .before .before .before .before .before .before .before .before .is-unsolicited .ensures) (c .before .before .before .before .before .before .before .if1 .left) (did-controlled _ _ _ Reserved (sym (c .before .before .before .before .enum-told2 .given .1) ∙ c .before .before .before .before .before .before .control-of .ensures) (c .before .before .fault .ensures))
 
 same-length-5 : tie.Need-same-length-5
 same-length-5 c = search needs
 
 returns-5 : tie.Need-returns-5
 unfolding dataControl
-returns-5 c = did-request _ _ _ _ ((c .before .before .before .before .before .before .before .before .is-unsolicited .ensures)) ((c .before .before .before .before .before .before .before .if1 .left)) (did-controlled _ _ _ Reserved (sym ((c .before .before .before .before .enum-told4 .given .1)) ∙ (c .before .before .before .before .before .before .control-of .ensures)) ((c .before .before .fault .ensures)))
+returns-5 c = did-request _ _ _ _ (c .before .before .before .before .before .before .before .before .is-unsolicited .ensures) (c .before .before .before .before .before .before .before .if1 .left) (did-controlled _ _ _ Unsupported (sym (c .before .before .before .before .enum-told3 .given .1) ∙ c .before .before .before .before .before .before .control-of .ensures) (c .before .before .fault2 .ensures))
 
 same-length-6 : tie.Need-same-length-6
 same-length-6 c = search needs
 
 returns-6 : tie.Need-returns-6
 unfolding dataControl
-returns-6 c = did-request _ _ _ _ ((c .before .before .before .before .before .before .before .before .is-unsolicited .ensures)) ((c .before .before .before .before .before .before .before .if1 .left)) (did-controlled _ _ _ Unsupported (sym ((c .before .before .before .before .enum-told5 .given .1)) ∙ (c .before .before .before .before .before .before .control-of .ensures)) ((c .before .before .fault2 .ensures)))
-
-same-length-7 : tie.Need-same-length-7
-same-length-7 c = search needs
-
-returns-7 : tie.Need-returns-7
-unfolding dataControl
-returns-7 c = did-request _ _ _ _ ((c .before .before .before .before .before .before .before .before .is-unsolicited .ensures)) ((c .before .before .before .before .before .before .before .if1 .left)) (did-controlled _ _ _ Invalid (sym ((c .before .before .before .before .enum-told6 .given .1)) ∙ (c .before .before .before .before .before .before .control-of .ensures)) ((c .before .before .fault3 .ensures)))
+returns-6 c = did-request _ _ _ _ (c .before .before .before .before .before .before .before .before .is-unsolicited .ensures) (c .before .before .before .before .before .before .before .if1 .left) (did-controlled _ _ _ Invalid (sym (c .before .before .before .before .enum-told4 .given .1) ∙ c .before .before .before .before .before .before .control-of .ensures) (c .before .before .fault3 .ensures))
 
 pub ask-spec : {M : Type 1} → statement M
 ask-spec =
@@ -108,17 +117,14 @@ ask-spec =
     same-length
     returns
     control-of-requires
-    enum-told
     open-there-requires
-    enum-told-2
-    open-there-requires-2
-    enum-told-3
+    enum-told
     step-head-requires
-    enum-told-4
+    enum-told-2
     fault-requires
-    enum-told-5
+    enum-told-3
     fault-requires-2
-    enum-told-6
+    enum-told-4
     fault-requires-3
     same-length-2
     returns-2
@@ -129,6 +135,4 @@ ask-spec =
     same-length-5
     returns-5
     same-length-6
-    returns-6
-    same-length-7
-    returns-7)
+    returns-6)
