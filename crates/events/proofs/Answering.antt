@@ -21,10 +21,11 @@ use Rattle.drive.specs.declared.answer.Answer.the-variants.{Refused}
 use Rattle.drive.proofs.Laws.{accepts, doneBy}
 use Rattle.drive.proofs.Turns.{refused-as-judged}
 use Rattle.events.specs.State.{driveIn, stateAfter}
-use Rattle.events.specs.Turn.{Numbered, Telling, Answered, Turn}
+use Rattle.events.specs.Turn.{Telling, Answered, Turn}
 use Rattle.events.specs.Fit.{Fits, DidIn}
 use Rattle.events.proofs.Done.{fit, known}
 use Rattle.events.proofs.Goes.{goes, moved-known, unmoved}
+use Rattle.events.proofs.ToldWords.{Numbered}
 
 pub answered-refused : (e : Event) (state sectors staging : List ℕ) (n : ℕ) → 18 ≤ length state → n ≡ judgement (driveIn state) sectors staging → (n ≡ 0 → ⊥)
     → Answered e state sectors staging (Refused n) state sectors staging

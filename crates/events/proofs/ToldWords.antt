@@ -10,7 +10,7 @@ use Rattle.laws.specs.Pick.{pick}
 use Rattle.laws.specs.Lists.{writtenOver}
 use Rattle.laws.specs.Rows.{unlessRefused}
 use Rattle.parts.specs.declared.setup.Place.{Place}
-use Rattle.events.specs.Turn.{Numbered, Telling}
+use Rattle.events.specs.Turn.{Telling}
 use Rattle.drive.specs.Accepted.{isRefused}
 use Rattle.drive.specs.Answer.{paper, refusalIn}
 use Rattle.drive.specs.AnswerWords.{answerWords}
@@ -60,6 +60,10 @@ refusal-told telling answer n out out′ e t w = rw (e, t) (record { number = re
 pub refusal-kept : (telling : Bool) (answer : Answer) (n : ℕ) (out : List ℕ) → answer ≡ Refused n → telling ≡ false → Telling telling answer out n out
 unfolding pick
 refusal-kept telling answer n out e t = rw (e, t) (record { number = refl; out = refl })
+
+-- a refusal has a number that is not 0: 0 stands for none
+abbrev pub Numbered : Answer → Type 0
+Numbered answer = isRefused answer ≡ true → refusalIn answer ≡ 0 → ⊥
 
 -- by the number that is handed back, where a refusal has one
 pub told-out : (telling : Bool) (answer : Answer) {out out′ : List ℕ} {n : ℕ} → Numbered answer → Telling telling answer out n out′

@@ -1,7 +1,7 @@
 -- What the private functions under `event` and `run` do: an event on the words of a state, and so many of them.
 use Prim.Native.Nat.{ℕ, zero, suc}
 use mathlib.Core.Path.{_≡_}
-use mathlib.Core.Bool.{Bool, true, false}
+use mathlib.Core.Bool.{Bool, false}
 use mathlib.Core.List.{List, [], _++_}
 use Rattle.laws.specs.Pick.{pick}
 use Rattle.laws.specs.Rows.{unlessRefused}
@@ -16,10 +16,6 @@ use Rattle.drive.specs.declared.answer.Answer.{Answer}
 use Rattle.drive.specs.declared.answer.Answer.the-variants.{Refused}
 use Rattle.events.specs.State.{stateAfter}
 use Rattle.events.specs.Event.{machineIn}
-
--- A refusal has a number that is not 0: 0 stands for none.
-abbrev pub Numbered : Answer → Type 0
-Numbered answer = isRefused answer ≡ true → refusalIn answer ≡ 0 → ⊥
 
 -- A refusal's number, unless it is told in the words.
 abbrev pub quietly : Bool → Answer → ℕ

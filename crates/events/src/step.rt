@@ -1,5 +1,5 @@
-// The event on a state that rows 11 and 10 let pass: a dispatch on the kind. There are two of them, since an answer that is handed up before its words
-// are written costs a fifth of an event's time.
+// The event on a state that rows 11 and 10 let pass: a dispatch on the kind. There are two, since an answer that is handed up before its words are
+// written is packed and taken apart again, some 20 instructions an event.
 use crate::answer_words;
 use crate::kinds;
 use crate::transfer;
