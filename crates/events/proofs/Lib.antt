@@ -6,7 +6,6 @@ pub mod Goes
 pub mod Answering
 pub mod Batches
 pub mod Steps
-pub mod Filling
 pub mod Unsoundness
 pub mod Transfers
 pub mod Asking

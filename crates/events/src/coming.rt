@@ -48,38 +48,13 @@ fn words_at(state: &[u16], passes: bool, at: usize) -> usize
     0
 }
 
-// All the words of a transfer moved, or more? Part by part: the first part that the words do not fill answers.
+// All the words of a transfer moved, or more? Field 1 is asked for first: most words of a long transfer are its.
 pub(crate) fn is_through(state: &[u16], control: u16, moved: u16) -> bool
     requires { ⌜ 18 ≤ length (now state) ⌝ }
     ensures { λ r. ⌜ r ≡ leb (wordsToCome (driveIn (now (state .entry)) .setup) control) moved ⌝ }
 {
-    if !parts::header_passes(control) {
-        return fields_are_through(state, control, moved);
-    }
-    let header = state[HEADER];
-    if moved < header {
+    if parts::names_field1(control) & (moved < state[FIELD_1]) {
         return false;
     }
-    fields_are_through(state, control, moved - header)
-}
-
-fn fields_are_through(state: &[u16], control: u16, moved: u16) -> bool
-    requires { ⌜ 18 ≤ length (now state) ⌝ }
-    ensures { λ r. ⌜ r ≡ leb (part (namesField1 control) (getD (now (state .entry)) 4 0) + part (namesField2 control) (getD (now (state .entry)) 5 0)) moved ⌝ }
-{
-    if !parts::names_field1(control) {
-        return field2_is_through(state, control, moved);
-    }
-    let field1 = state[FIELD_1];
-    if moved < field1 {
-        return false;
-    }
-    field2_is_through(state, control, moved - field1)
-}
-
-fn field2_is_through(state: &[u16], control: u16, moved: u16) -> bool
-    requires { ⌜ 18 ≤ length (now state) ⌝ }
-    ensures { λ r. ⌜ r ≡ leb (part (namesField2 control) (getD (now (state .entry)) 5 0)) moved ⌝ }
-{
-    !parts::names_field2(control) | (state[FIELD_2] <= moved)
+    read_words(state, control) <= moved as usize
 }

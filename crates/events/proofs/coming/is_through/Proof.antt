@@ -1,45 +1,43 @@
--- `is_through` meets its contract.
+-- `is_through` meets its contract: words that do not fill field 1 are fewer than those to come.
 -- Assumes nothing.
-use mathlib.Core.Path.{sym, _∙_}
-use borrow.Author.Tests.{not-true, not-false}
+use Prim.Native.Nat.{ℕ}
+use mathlib.Core.Path.{_≡_, sym}
+use mathlib.Core.Bool.{true, false, _&&_}
+use native.Mathlib.Omega.{arith}
+use borrow.Author.Tests.{lt-leb, ltb-true}
+use lib.Dec.{leb, ltb}
+use Rattle.laws.specs.Pick.{pick}
+use Rattle.laws.proofs.Tests.{and-l, and-r}
+use Rattle.parts.specs.Control.{namesField1, wordsToCome}
+use Rattle.parts.specs.declared.setup.Setup.{Setup}
 use Rattle.events.specs.State.{driveIn}
-use Rattle.events.proofs.Filling.{behind-header, in-header, no-header}
 use borrow.Author.Needs.{needs}
 use Rattle.events.proofs.coming.is_through.Statement.{statement}
 use Rattle.events.proofs.coming.is_through.Tie as tie
 
-header-passes-requires : tie.Need-header-passes-requires
-header-passes-requires c κs = search needs
+in-field1 : (s : Setup) (c moved : ℕ) → (namesField1 c && ltb moved (s .field1)) ≡ true → false ≡ leb (wordsToCome s c) moved
+unfolding wordsToCome pick
+in-field1 s c moved h =
+    let named = and-l (namesField1 c) (ltb moved (s .field1)) h in
+    let fewer = ltb-true moved (s .field1) (and-r (namesField1 c) (ltb moved (s .field1)) h) in
+    sym (lt-leb (wordsToCome s c) moved (rw named (omega (arith, fewer))))
 
-fields-are-through-requires : tie.Need-fields-are-through-requires
-fields-are-through-requires c κs = search needs
+names-field1-requires : tie.Need-names-field1-requires
+names-field1-requires c κs = search needs
+
+shared-slice-read-if1 : tie.Need-shared-slice-read-if1
+shared-slice-read-if1 c = search needs
 
 returns : tie.Need-returns
 unfolding driveIn
-returns c = c .fields-are-through .ensures ∙ no-header (driveIn (c .before .before .before .before .args .state .now) .setup) (c .before .before .before .before .args .control) (c .before .before .before .before .args .moved) (sym (c .before .before .header-passes .ensures) ∙ not-true _ (c .before .if1 .taken))
+returns c =
+    in-field1 (driveIn (c .before .before .before .before .args .state .now) .setup) (c .before .before .before .before .args .control) (c .before .before .before .before .args .moved) (rw (← (c .before .before .names-field1 .ensures)) (c .if1 .taken))
 
-shared-slice-read-header : tie.Need-shared-slice-read-header
-shared-slice-read-header c = search needs
+read-words-requires : tie.Need-read-words-requires
+read-words-requires c κs = search needs
 
 returns-2 : tie.Need-returns-2
-unfolding driveIn
-returns-2 c = in-header (driveIn (c .before .before .before .before .before .args .state .now) .setup) (c .before .before .before .before .before .args .control) (c .before .before .before .before .before .args .moved) (sym (c .before .before .before .header-passes .ensures) ∙ not-false _ (c .before .before .if1 .left)) (c .if2 .taken)
-
-fields-are-through-requires-2 : tie.Need-fields-are-through-requires-2
-fields-are-through-requires-2 c κs = search needs
-
-returns-3 : tie.Need-returns-3
-unfolding driveIn
-returns-3 c = c .fields-are-through2 .ensures ∙ behind-header (driveIn (c .before .before .before .before .before .before .args .state .now) .setup) (c .before .before .before .before .before .before .args .control) (c .before .before .before .before .before .before .args .moved) (sym (c .before .before .before .before .header-passes .ensures) ∙ not-false _ (c .before .before .before .if1 .left)) (c .before .if2 .left)
+returns-2 c = rw (c .read-words .ensures)
 
 pub is-through-spec : {M : Type 1} → statement M
-is-through-spec =
-    tie.close
-    (tie.spec
-    header-passes-requires
-    fields-are-through-requires
-    returns
-    shared-slice-read-header
-    returns-2
-    fields-are-through-requires-2
-    returns-3)
+is-through-spec = tie.close (tie.spec names-field1-requires shared-slice-read-if1 returns read-words-requires returns-2)
