@@ -114,7 +114,7 @@ quiet-noted {d} staging t Outcomes.statusTold = refl
 -- ---- a completed write
 
 -- a write takes the header's words and those of the fields that it names
-write-words : (s : Setup) (c : ℕ) → isWrite (controlOf c) ≡ true → wordsToCome s c ≡ s .header + part (namesField1 c) (s .field1) + part (namesField2 c) (s .field2)
+pub write-words : (s : Setup) (c : ℕ) → isWrite (controlOf c) ≡ true → wordsToCome s c ≡ s .header + part (namesField1 c) (s .field1) + part (namesField2 c) (s .field2)
 unfolding wordsToCome headerPasses pick
 write-words s c h = rw h
 

@@ -6,6 +6,8 @@ use mathlib.Core.Bool.{Bool, true, false}
 use mathlib.Core.List.{List, [], _++_}
 use native.Mathlib.Nat.{zero-add}
 use native.Mathlib.Omega.{arith}
+use borrow.Author.Tests.{ltb-true, ltb-false}
+use lib.Dec.{ltb}
 use lib.ListN.{length, getD, take, drop, length-take, length-drop, length-append, List·getD-append}
 use lib.Seq.{getD-take, getD-drop, getD-append-add}
 use Rattle.laws.specs.Pick.{pick}
@@ -82,7 +84,7 @@ pub at-header : (s : Setup) (c k : ℕ) → k < part (headerPasses c) (s .header
 at-header s c k h =
     record { inside = omega (arith, pick-le (headerPasses c) (s .header)); reads = λ sector l. read-header s c sector l k h }
 
-pub at-field1 : (s : Setup) (c k : ℕ) → part (headerPasses c) (s .header) ≤ k → k < part (headerPasses c) (s .header) + part (namesField1 c) (s .field1)
+at-field1 : (s : Setup) (c k : ℕ) → part (headerPasses c) (s .header) ≤ k → k < part (headerPasses c) (s .header) + part (namesField1 c) (s .field1)
     → ReadsAt s c k (k - part (headerPasses c) (s .header) + s .header)
 at-field1 s c k g h =
     let j = k - part (headerPasses c) (s .header) in
@@ -94,7 +96,7 @@ at-field1 s c k g h =
           ∙ ap (λ (i : ℕ). getD sector i 0) (omega arith);
     }
 
-pub at-field2 : (s : Setup) (c k : ℕ) → part (headerPasses c) (s .header) + part (namesField1 c) (s .field1) ≤ k → k < wordsToCome s c
+at-field2 : (s : Setup) (c k : ℕ) → part (headerPasses c) (s .header) + part (namesField1 c) (s .field1) ≤ k → k < wordsToCome s c
     → ReadsAt s c k (k - part (headerPasses c) (s .header) - part (namesField1 c) (s .field1) + s .header + s .field1)
 unfolding wordsToCome
 at-field2 s c k g h =
@@ -106,6 +108,31 @@ at-field2 s c k g h =
           ∙ read-field2 s c sector l j (omega arith)
           ∙ ap (λ (i : ℕ). getD sector i 0) (omega arith);
     }
+
+whole-part : (named : Bool) (n : ℕ) → 0 < part named n → part named n ≡ n
+unfolding pick
+whole-part true n p = refl
+whole-part false n p = absurd (omega arith)
+
+-- what does not pass is left out before a word of the fields
+pub at-fields : (s : Setup) (c k : ℕ) → part (headerPasses c) (s .header) ≤ k → k < wordsToCome s c
+    → ReadsAt s c k (k + s .header + s .field1 - part (headerPasses c) (s .header) - part (namesField1 c) (s .field1))
+at-fields s c k g h = by-field (ltb k (part (headerPasses c) (s .header) + part (namesField1 c) (s .field1))) refl
+  where
+    by-field : (b : Bool) → ltb k (part (headerPasses c) (s .header) + part (namesField1 c) (s .field1)) ≡ b
+        → ReadsAt s c k (k + s .header + s .field1 - part (headerPasses c) (s .header) - part (namesField1 c) (s .field1))
+    by-field true p =
+        let l = ltb-true k (part (headerPasses c) (s .header) + part (namesField1 c) (s .field1)) p in
+        let w = whole-part (namesField1 c) (s .field1) (omega arith) in
+        let e : k + s .header + s .field1 - part (headerPasses c) (s .header) - part (namesField1 c) (s .field1) ≡ k - part (headerPasses c) (s .header) + s .header
+        = omega arith in
+        rw e (at-field1 s c k g l)
+    by-field false p =
+        let l = ltb-false k (part (headerPasses c) (s .header) + part (namesField1 c) (s .field1)) p in
+        let e : k + s .header + s .field1 - part (headerPasses c) (s .header) - part (namesField1 c) (s .field1)
+        ≡ k - part (headerPasses c) (s .header) - part (namesField1 c) (s .field1) + s .header + s .field1
+        = omega arith in
+        rw e (at-field2 s c k l h)
 
 -- the same, in the lent words
 pub read-in-place : (s : Setup) (p : Place) (c k offset : ℕ) (sectors : List ℕ) → sectorStart s p + sectorWords s ≤ length sectors → ReadsAt s c k offset

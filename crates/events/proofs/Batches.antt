@@ -146,6 +146,11 @@ going-ended telling count records state₀ sectors₀ staging₀ out₀ state se
     by-mode true one quiet = refl
     by-mode false one quiet = sym (quiet refl (λ y. omega (arith, one refl)))
 
+-- no event at all
+pub worked-none : (count : ℕ) (records state sectors staging out : List ℕ) → 18 ≤ length state → count ≡ 0 → Worked true count records state sectors staging out 0 state sectors staging out
+unfolding pick final answers allWords eventsIn
+worked-none count records state sectors staging out h z = rw z (record { number = refl; state = sym (unmoved state h); sectors = refl; staging = refl; out = refl })
+
 -- ---- a state that rows 11 and 10 refuse
 
 -- the one event of a quiet batch

@@ -8,6 +8,7 @@ pub mod Batches
 pub mod Steps
 pub mod Unsoundness
 pub mod Transfers
+pub mod Committing
 pub mod Asking
 pub mod Timely
 pub mod Octets

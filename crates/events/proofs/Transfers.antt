@@ -6,6 +6,7 @@ use mathlib.Core.Bool.{Bool, true, false, not}
 use mathlib.Core.List.{List, [], _∷_}
 use native.Mathlib.Omega.{arith}
 use borrow.Author.Tests.{not-false, eq-eqb, ne-eqb}
+use lib.Dec.{eqb}
 use lib.ListN.{length, getD, set, length-set}
 use Rattle.laws.specs.Pick.{pick}
 use Rattle.laws.specs.Rows.{first, _when_}
@@ -80,17 +81,17 @@ differs d count start sectors staging h = rw h
 
 -- it was the last word
 pub last-word : (d : Drive) (c count start : ℕ) (sectors staging : List ℕ) → c ≡ d .transfer .control
-    → miscompares (d .setup) (d .transfer .control) count start sectors staging ≡ false → count ≡ wordsToCome (d .setup) c
+    → miscompares (d .setup) (d .transfer .control) count start sectors staging ≡ false → eqb count (wordsToCome (d .setup) c) ≡ true
     → result (told (Status normal) (ended d)) (committed (d .setup) c start sectors staging) staging ≡ staged d count start sectors staging
 unfolding staged pick
-last-word d c count start sectors staging e h n = rw (h, eq-eqb count _ (rw e at n), e)
+last-word d c count start sectors staging e h n = rw (h, rw e at n, e)
 
 -- more are to come
 pub one-of-more : (d : Drive) (c count start : ℕ) (sectors staging : List ℕ) → c ≡ d .transfer .control
-    → miscompares (d .setup) (d .transfer .control) count start sectors staging ≡ false → (count ≡ wordsToCome (d .setup) c → ⊥)
+    → miscompares (d .setup) (d .transfer .control) count start sectors staging ≡ false → eqb count (wordsToCome (d .setup) c) ≡ false
     → result (told Done (withTransfer d (transferring (d .transfer .control) count))) sectors staging ≡ staged d count start sectors staging
 unfolding staged pick
-one-of-more d c count start sectors staging e h n = rw (h, ne-eqb count _ (rw e at n))
+one-of-more d c count start sectors staging e h n = rw (h, rw e at n)
 
 -- ---- a word to the host
 

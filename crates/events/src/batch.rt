@@ -4,7 +4,7 @@ use crate::answer_words;
 use crate::judge;
 use crate::step;
 use parts::Event;
-ghost use Prim.Native.Nat.{_*_, _≤_};
+ghost use Prim.Native.Nat.{_*_, _<_, _≤_};
 ghost use mathlib.Core.Path.{_≡_};
 ghost use mathlib.Core.Bool.{false};
 ghost use lib.ListN.{length};
@@ -23,7 +23,7 @@ pub(crate) fn work(
     staging: &mut [u16],
     out: &mut [u16],
 ) -> u8
-    requires { ⌜ (18 ≤ length (now state)) × (8 * count ≤ length (now records)) × (13 * count ≤ length (now out)) × (telling ≡ false → count ≡ 1) ⌝ }
+    requires { ⌜ (18 ≤ length (now state)) × (0 < count) × (8 * count ≤ length (now records)) × (13 * count ≤ length (now out)) × (telling ≡ false → count ≡ 1) ⌝ }
     ensures { λ r. ⌜ Worked telling count (now (records .entry)) (now (state .entry)) (now (sectors .entry)) (now (staging .entry)) (now (out .entry)) r (now (state .exit)) (now (sectors .exit)) (now (staging .exit)) (now (out .exit)) ⌝ }
 {
     let judged = judge::judge(&state[..], &sectors[..], &staging[..]);
@@ -50,6 +50,7 @@ fn refuse_all(judged: u8, count: usize, out: &mut [u16])
     }
 }
 
+// There is one at least, and the last is known after it: a test less for a single event.
 fn each(
     state: &mut [u16],
     telling: bool,
@@ -59,21 +60,25 @@ fn each(
     staging: &mut [u16],
     out: &mut [u16],
 ) -> u8
-    requires { ⌜ (18 ≤ length (now state)) × (0 ≡ judgement (driveIn (now state)) (now sectors) (now staging)) × (8 * count ≤ length (now records)) × (13 * count ≤ length (now out)) × (telling ≡ false → count ≡ 1) ⌝ }
+    requires { ⌜ (18 ≤ length (now state)) × (0 ≡ judgement (driveIn (now state)) (now sectors) (now staging)) × (0 < count) × (8 * count ≤ length (now records)) × (13 * count ≤ length (now out)) × (telling ≡ false → count ≡ 1) ⌝ }
     ensures { λ r. ⌜ Worked telling count (now (records .entry)) (now (state .entry)) (now (sectors .entry)) (now (staging .entry)) (now (out .entry)) r (now (state .exit)) (now (sectors .exit)) (now (staging .exit)) (now (out .exit)) ⌝ }
 {
-    let mut i = 0;
-    while i < count {
-        let from = 8 * i;
-        let at = 13 * i;
-        i += 1;
+    let mut left = count;
+    let mut from = 0;
+    let mut at = 0;
+    loop {
         let event = event_at(&records[from..]);
         let n = step::told_step(state, event, telling, sectors, staging, &mut out[at..]);
         if n != 0 {
             return n;
         }
+        left -= 1;
+        if left == 0 {
+            return 0;
+        }
+        from += 8;
+        at += 13;
     }
-    0
 }
 
 // The event of the record at the front of the octets.

@@ -2,7 +2,7 @@
 ghost use Prim.Native.Nat.{_+_, _≤_, _<_};
 ghost use mathlib.Core.Path.{_≡_};
 ghost use mathlib.Core.Bool.{true};
-ghost use lib.Dec.{leb};
+ghost use lib.Dec.{leb, eqb};
 ghost use lib.ListN.{length, getD};
 ghost use Rattle.parts.specs.Control.{controlOf, isWrite, namesField1, namesField2, part, wordsToCome};
 ghost use Rattle.events.specs.State.{driveIn};
@@ -13,15 +13,24 @@ const FIELD_1: usize = 4;
 
 const FIELD_2: usize = 5;
 
-// A write passes its header, verified or moved.
-pub(crate) fn write_words(state: &[u16], control: u16) -> usize
+// Are so many words all of a write? It passes its header, verified or moved. Field 1 comes first: most words of a long sector are its, and end the
+// question.
+pub(crate) fn is_last(state: &[u16], control: u16, count: usize) -> bool
     requires { ⌜ (18 ≤ length (now state)) × (isWrite (controlOf control) ≡ true) ⌝ }
-    ensures { λ r. ⌜ r ≡ wordsToCome (driveIn (now (state .entry)) .setup) control ⌝ }
+    ensures { λ r. ⌜ r ≡ eqb count (wordsToCome (driveIn (now (state .entry)) .setup) control) ⌝ }
 {
-    state[HEADER] as usize + field_words(state, control)
+    let header = state[HEADER] as usize;
+    if !parts::names_field1(control) {
+        return count == header + words_at(state, parts::names_field2(control), FIELD_2);
+    }
+    let before_field2 = header + state[FIELD_1] as usize;
+    if count < before_field2 {
+        return false;
+    }
+    count == before_field2 + words_at(state, parts::names_field2(control), FIELD_2)
 }
 
-pub(crate) fn read_words(state: &[u16], control: u16) -> usize
+pub(crate) fn words_to_come(state: &[u16], control: u16) -> usize
     requires { ⌜ 18 ≤ length (now state) ⌝ }
     ensures { λ r. ⌜ r ≡ wordsToCome (driveIn (now (state .entry)) .setup) control ⌝ }
 {
@@ -56,5 +65,5 @@ pub(crate) fn is_through(state: &[u16], control: u16, moved: u16) -> bool
     if parts::names_field1(control) & (moved < state[FIELD_1]) {
         return false;
     }
-    read_words(state, control) <= moved as usize
+    words_to_come(state, control) <= moved as usize
 }

@@ -51,5 +51,8 @@ pub fn run_records(
     if records.len() % RECORD_OCTETS != 0 {
         return parts::MALFORMED;
     }
+    if count == 0 {
+        return 0;
+    }
     batch::work(state, true, count, records, sectors, staging, out)
 }

@@ -58,7 +58,7 @@ fn after_word(
         place::end_transfer(state);
         return Answer::Status(answer::HEADER_MISCOMPARE);
     }
-    if count == coming::write_words(&state[..], control) {
+    if coming::is_last(&state[..], control, count) {
         let setup = state::setup_in(&state[..]);
         let start = sizes::sector_start(setup, state::place_in(&state[..]));
         commit(setup, control, start, sectors, staging);
@@ -85,21 +85,27 @@ fn header_miscompares(state: &[u16], count: usize, sectors: &[u16], staging: &[u
     !words::same_words(staging, 0, sectors, start, count)
 }
 
-// The named written fields go from the staging words to the sector.
+// The named written fields go from the staging words to the sector. They follow one another in both, but that the sector has field 1 where it is not
+// named. One loop: copies of their own are made vectors, which every event then prepares.
 fn commit(setup: Setup, control: u16, start: usize, sectors: &mut [u16], staging: &[u16])
     requires { ⌜ Room setup start (now sectors) (now staging) ⌝ }
     ensures { λ _. ⌜ now (sectors .exit) ≡ committed setup control start (now (sectors .entry)) (now (staging .entry)) ⌝ }
 {
     let header = setup.header as usize;
-    let written_header = parts::part_of(parts::moves_header(control), setup.header);
     let field1 = parts::part_of(parts::names_field1(control), setup.field1);
     let field2 = parts::part_of(parts::names_field2(control), setup.field2);
-    let field1_at = start + header;
-    let field2_at = field1_at + setup.field1 as usize;
-    let field2_from = header + field1;
-    words::copy_words(sectors, start, staging, 0, written_header);
-    words::copy_words(sectors, field1_at, staging, header, field1);
-    words::copy_words(sectors, field2_at, staging, field2_from, field2);
+    let fields_at = start + header + setup.field1 as usize - field1;
+    let count = header + field1 + field2;
+    let mut k = header - parts::part_of(parts::moves_header(control), setup.header);
+    let mut at = start + k;
+    while k < count {
+        if k == header {
+            at = fields_at;
+        }
+        sectors[at] = staging[k];
+        at += 1;
+        k += 1;
+    }
 }
 
 // ---- words to the host
@@ -131,7 +137,7 @@ fn take(state: &mut [u16], sectors: &[u16], staging: &[u16]) -> Answer
     let start = sizes::sector_start(setup, state::place_in(&state[..]));
     let at = start + word_offset(setup, control, moved);
     let word = sectors[at];
-    if moved as usize + 1 == coming::read_words(&state[..], control) {
+    if moved as usize + 1 == coming::words_to_come(&state[..], control) {
         place::end_transfer(state);
         return Answer::LastWord(word);
     }
@@ -150,8 +156,5 @@ fn word_offset(setup: Setup, control: u16, moved: u16) -> usize
     if k < header {
         return k;
     }
-    if k < header + field1 {
-        return k - header + setup.header as usize;
-    }
-    k - header - field1 + setup.header as usize + setup.field1 as usize
+    k + setup.header as usize + setup.field1 as usize - header - field1
 }

@@ -3,13 +3,13 @@
 use Prim.Native.Nat.{ℕ, suc, _+_, _-_, _<_, _≤_}
 use mathlib.Core.Path.{_≡_, refl, sym, ap, _∙_}
 use mathlib.Core.Bool.{Bool, true, false, _&&_}
-use mathlib.Core.List.{List, _∷_, _++_}
+use mathlib.Core.List.{List, _∷_, _++_, append-assoc}
 use native.Mathlib.Numerals.{add-one}
 use native.Mathlib.Omega.{arith}
 use borrow.Author.Tests.{ltb-true, ltb-false, leb-true, leb-false}
 use lib.Dec.{ltb, leb}
 use lib.ListN.{length, getD, take, drop, set, length-drop, List·getD-append}
-use lib.Seq.{drop-cons, paste, paste-suc, getD-drop, getD-take, getD-append-add, length-take-le, length-paste-head}
+use lib.Seq.{drop-cons, drop-drop, drop-paste, paste, paste-suc, take-add, take-paste, getD-drop, getD-take, getD-append-add, length-take-le, length-paste-head}
 use Rattle.laws.specs.Pick.{pick}
 
 -- the first of a run, and the rest of it
@@ -23,6 +23,14 @@ copy-step d at s from n j h hd hs =
     let hl : j < length (drop from s) = simp length-drop (omega arith) in
     let hi : at + j < length d = omega arith in
     rw (add-one, ← (getD-drop from s j 0), paste-suc d at (drop from s) j 0)
+
+-- two pastes of which one follows the other are one
+pub paste-on : (d : List ℕ) (at : ℕ) (s : List ℕ) (n m : ℕ) → at + n ≤ length d → n ≤ length s → paste d at s (n + m) ≡ paste (paste d at s n) (at + n) (drop n s) m
+paste-on d at s n m hd hs =
+    let sum : at + (n + m) ≡ at + n + m = omega arith in
+    let front = take-paste d at s n (omega arith) hs in
+    let back = drop-paste d at s n (omega arith) hs in
+    rw (sum, take-add n m s, front, ← (drop-drop m (at + n) (paste d at s n)), back, drop-drop m (at + n) d, append-assoc (take at d) (take n s) (take m (drop n s)))
 
 -- the frame of a paste: before it, in it, after it
 pub paste-before : (d : List ℕ) (at : ℕ) (s : List ℕ) (n i : ℕ) → at ≤ length d → n ≤ length s → i < at → getD (paste d at s n) i 0 ≡ getD d i 0

@@ -1,6 +1,6 @@
 -- `each` meets its contract.
 -- Assumes nothing.
-use Prim.Native.Nat.{_-_, _≤_}
+use Prim.Native.Nat.{_+_, _-_, _*_, _<_, _≤_}
 use mathlib.Core.Path.{_≡_, refl, sym}
 use native.Mathlib.Omega.{arith}
 use lib.ListN.{length}
@@ -11,28 +11,24 @@ use Rattle.events.proofs.batch.each.Statement.{statement}
 use Rattle.events.proofs.batch.each.Tie as tie
 
 abbrev Inv-loop : tie.InvT-loop
-Inv-loop state₀ telling count records sectors₀ staging₀ out₀ i₀ state sectors staging out i =
-    (i ≤ count)
+Inv-loop state₀ telling count records sectors₀ staging₀ out₀ left₀ from₀ at₀ state sectors staging out left from at =
+    (0 < left)
+    × (left ≤ count)
+    × (from ≡ 8 * (count - left))
+    × (at ≡ 13 * (count - left))
     × (length state ≡ length state₀)
     × (length sectors ≡ length sectors₀)
     × (length staging ≡ length staging₀)
     × (length out ≡ length out₀)
-    × Going telling count records state₀ sectors₀ staging₀ out₀ state sectors staging out i
+    × Going telling count records state₀ sectors₀ staging₀ out₀ state sectors staging out (count - left)
 
 abbrev μ-loop : tie.MeasureT-loop
-μ-loop state₀ telling count records sectors₀ staging₀ out₀ i₀ state sectors staging out i = count - i
+μ-loop state₀ telling count records sectors₀ staging₀ out₀ left₀ from₀ at₀ state sectors staging out left from at = left
 
 loop-holds : tie.Need-loop-holds Inv-loop μ-loop
-loop-holds c = (search needs, refl, refl, refl, refl, going-start _ _ _ _ _ _ _ (c .before .before .before .before .before .pre .0) (c .before .before .before .before .before .pre .1))
-
-mul-from : tie.Need-mul-from Inv-loop μ-loop
-mul-from c = search needs
-
-mul-at : tie.Need-mul-at Inv-loop μ-loop
-mul-at c = search needs
-
-add-i : tie.Need-add-i Inv-loop μ-loop
-add-i c = search needs
+loop-holds c =
+    let z : (c .before .before .before .before .before .args) .count - (c .before .before .before .before .before .args) .count ≡ 0 = omega arith in
+    (search needs, search needs, search needs, search needs, refl, refl, refl, refl, rw z (going-start _ _ _ _ _ _ _ ((c .before .before .before .before .before .pre) .0) ((c .before .before .before .before .before .pre) .1)))
 
 sub-event-at : tie.Need-sub-event-at Inv-loop μ-loop
 sub-event-at c = search needs
@@ -59,7 +55,7 @@ part-told-step-end : tie.Need-part-told-step-end Inv-loop μ-loop
 part-told-step-end c = search needs
 
 told-step-requires : tie.Need-told-step-requires Inv-loop μ-loop
-told-step-requires c κs = (record { long = c .before .before .before .before .before .before .before .loop .inv .5 .long; passable = passable _ _ _ (sym (c .before .before .before .before .before .before .before .loop .inv .5 .judged)) }, search needs)
+told-step-requires c κs = (record { long = (c .before .before .before .before .before .before .loop) .inv .8 .long; passable = passable _ _ _ (sym ((c .before .before .before .before .before .before .loop) .inv .8 .judged)) }, search needs)
 
 same-length : tie.Need-same-length Inv-loop μ-loop
 same-length c = search needs
@@ -74,22 +70,10 @@ same-length-4 : tie.Need-same-length-4 Inv-loop μ-loop
 same-length-4 c = search needs
 
 returns : tie.Need-returns Inv-loop μ-loop
-returns c = going-stopped _ _ _ _ _ _ _ _ _ _ _ _ _ _ _ _ _ (c .before .before .before .before .before .before .before .before .before .before .before .before .before .before .before .before .loop-test .taken) (c .before .before .before .before .before .before .before .before .before .before .before .before .before .before .before .before .before .before .before .before .before .before .before .pre .4) (c .if1 .taken) (c .before .before .before .before .before .before .before .before .before .before .before .before .before .before .before .before .before .loop .inv .5)
-    (rw (c .before .before .before .before .before .before .before .before .before .before .before .before .before .before .event-at .ensures) at (c .before .before .before .before .before .before .before .before .before .told-step .ensures))
+returns c = rw ((c .before .before .before .before .before .before .before .before .before .before .before .before .before .before .before .before .loop) .inv .3) (going-stopped _ _ _ _ _ _ _ _ _ _ _ _ _ _ _ _ _ (search needs) ((c .before .before .before .before .before .before .before .before .before .before .before .before .before .before .before .before .before .before .before .before .before .before .pre) .5) ((c .if1) .taken) ((c .before .before .before .before .before .before .before .before .before .before .before .before .before .before .before .before .loop) .inv .8) (rw ((c .before .before .before .before .before .before .before .before .before .before .before .before .before .before .event-at) .ensures, (c .before .before .before .before .before .before .before .before .before .before .before .before .before .before .before .before .loop) .inv .2, (c .before .before .before .before .before .before .before .before .before .before .before .before .before .before .before .before .loop) .inv .3) at ((c .before .before .before .before .before .before .before .before .before .told-step) .ensures)))
 
-loop-less : tie.Need-loop-less Inv-loop μ-loop
-loop-less c = search needs
-
-loop-again : tie.Need-loop-again Inv-loop μ-loop
-loop-again c = (
-  search needs,
-  search needs,
-  search needs,
-  search needs,
-  search needs,
-  going-next _ _ _ _ _ _ _ _ _ _ _ _ _ _ _ _ _ (c .before .before .before .before .before .before .before .before .before .before .before .before .before .before .before .before .loop-test .taken) (omega (arith, c .before .before .before .before .before .before .before .before .before .before .before .before .before .before .before .before .before .loop .inv .4, c .before .before .before .before .before .before .before .before .before .before .before .before .before .before .before .before .before .before .before .before .before .before .before .pre .3)) (c .if1 .left) (c .before .before .before .before .before .before .before .before .before .before .before .before .before .before .before .before .before .loop .inv .5)
-      (rw (c .before .before .before .before .before .before .before .before .before .before .before .before .before .before .event-at .ensures) at (c .before .before .before .before .before .before .before .before .before .told-step .ensures)),
-)
+sub-left : tie.Need-sub-left Inv-loop μ-loop
+sub-left c = search needs
 
 same-length-5 : tie.Need-same-length-5 Inv-loop μ-loop
 same-length-5 c = search needs
@@ -104,7 +88,23 @@ same-length-8 : tie.Need-same-length-8 Inv-loop μ-loop
 same-length-8 c = search needs
 
 returns-2 : tie.Need-returns-2 Inv-loop μ-loop
-returns-2 c = going-ended _ _ _ _ _ _ _ _ _ _ _ _ (omega (arith, c .before .loop .inv .0, c .loop-test .left)) (omega (arith, c .before .loop .inv .4, c .before .before .before .before .before .before .before .pre .3)) (c .before .before .before .before .before .before .before .pre .4) (c .before .loop .inv .5)
+returns-2 c =
+    let i = (c .before .before .before .before .before .before .before .before .before .before .before .before .before .before .before .before .before .before .before .before .before .before .before .args) .count - (c .before .before .before .before .before .before .before .before .before .before .before .before .before .before .before .before .before .loop) .left in
+    going-ended _ _ _ _ _ _ _ _ _ _ _ (i + 1) (search needs) (search needs) ((c .before .before .before .before .before .before .before .before .before .before .before .before .before .before .before .before .before .before .before .before .before .before .before .pre) .5) (rw ((c .before .before .before .before .before .before .before .before .before .before .before .before .before .before .before .before .before .loop) .inv .3) (going-next _ _ _ _ _ _ _ _ _ _ _ _ _ _ _ _ _ (search needs) (omega (arith, (c .before .before .before .before .before .before .before .before .before .before .before .before .before .before .before .before .before .loop) .inv .7, (c .before .before .before .before .before .before .before .before .before .before .before .before .before .before .before .before .before .before .before .before .before .before .before .pre) .4)) ((c .before .if1) .left) ((c .before .before .before .before .before .before .before .before .before .before .before .before .before .before .before .before .before .loop) .inv .8) (rw ((c .before .before .before .before .before .before .before .before .before .before .before .before .before .before .before .event-at) .ensures, (c .before .before .before .before .before .before .before .before .before .before .before .before .before .before .before .before .before .loop) .inv .2, (c .before .before .before .before .before .before .before .before .before .before .before .before .before .before .before .before .before .loop) .inv .3) at ((c .before .before .before .before .before .before .before .before .before .before .told-step) .ensures))))
+
+add-from : tie.Need-add-from Inv-loop μ-loop
+add-from c = search needs
+
+add-at : tie.Need-add-at Inv-loop μ-loop
+add-at c = search needs
+
+loop-less : tie.Need-loop-less Inv-loop μ-loop
+loop-less c = search needs
+
+loop-again : tie.Need-loop-again Inv-loop μ-loop
+loop-again c =
+    let s : (c .before .before .before .before .before .before .before .before .before .before .before .before .before .before .before .before .before .before .before .before .before .before .before .args) .count - ((c .before .before .before .before .before .before .before .before .before .before .before .before .before .before .before .before .before .loop) .left - 1) ≡ (c .before .before .before .before .before .before .before .before .before .before .before .before .before .before .before .before .before .before .before .before .before .before .before .args) .count - (c .before .before .before .before .before .before .before .before .before .before .before .before .before .before .before .before .before .loop) .left + 1 = omega (arith, (c .before .before .before .before .before .before .before .before .before .before .before .before .before .before .before .before .before .loop) .inv .0, (c .before .before .before .before .before .before .before .before .before .before .before .before .before .before .before .before .before .loop) .inv .1) in
+    (search needs, search needs, search needs, search needs, search needs, search needs, search needs, search needs, rw (s, (c .before .before .before .before .before .before .before .before .before .before .before .before .before .before .before .before .before .loop) .inv .3) (going-next _ _ _ _ _ _ _ _ _ _ _ _ _ _ _ _ _ (search needs) (omega (arith, (c .before .before .before .before .before .before .before .before .before .before .before .before .before .before .before .before .before .loop) .inv .7, (c .before .before .before .before .before .before .before .before .before .before .before .before .before .before .before .before .before .before .before .before .before .before .before .pre) .4)) ((c .before .if1) .left) ((c .before .before .before .before .before .before .before .before .before .before .before .before .before .before .before .before .before .loop) .inv .8) (rw ((c .before .before .before .before .before .before .before .before .before .before .before .before .before .before .before .event-at) .ensures, (c .before .before .before .before .before .before .before .before .before .before .before .before .before .before .before .before .before .loop) .inv .2, (c .before .before .before .before .before .before .before .before .before .before .before .before .before .before .before .before .before .loop) .inv .3) at ((c .before .before .before .before .before .before .before .before .before .before .told-step) .ensures))))
 
 pub each-spec : {M : Type 1} → statement M
 each-spec =
@@ -113,9 +113,6 @@ each-spec =
     Inv-loop
     μ-loop
     loop-holds
-    mul-from
-    mul-at
-    add-i
     sub-event-at
     part-event-at-start
     part-event-at-end
@@ -130,10 +127,13 @@ each-spec =
     same-length-3
     same-length-4
     returns
-    loop-less
-    loop-again
+    sub-left
     same-length-5
     same-length-6
     same-length-7
     same-length-8
-    returns-2)
+    returns-2
+    add-from
+    add-at
+    loop-less
+    loop-again)

@@ -11,7 +11,7 @@ judge-requires : tie.Need-judge-requires
 judge-requires c κs = search needs
 
 each-requires : tie.Need-each-requires
-each-requires c κs = (c .before .before .before .before .before .before .before .before .before .before .before .before .before .before .pre .0, sym (c .before .before .before .before .if1 .taken) ∙ c .before .before .before .before .before .judge .ensures, c .before .before .before .before .before .before .before .before .before .before .before .before .before .before .pre .1, c .before .before .before .before .before .before .before .before .before .before .before .before .before .before .pre .2, c .before .before .before .before .before .before .before .before .before .before .before .before .before .before .pre .3)
+each-requires c κs = (c .before .before .before .before .before .before .before .before .before .before .before .before .before .before .pre .0, sym (c .before .before .before .before .if1 .taken) ∙ c .before .before .before .before .before .judge .ensures, c .before .before .before .before .before .before .before .before .before .before .before .before .before .before .pre .1, c .before .before .before .before .before .before .before .before .before .before .before .before .before .before .pre .2, c .before .before .before .before .before .before .before .before .before .before .before .before .before .before .pre .3, c .before .before .before .before .before .before .before .before .before .before .before .before .before .before .pre .4)
 
 same-length : tie.Need-same-length
 same-length c = search needs
@@ -39,7 +39,7 @@ same-length-7 c = search needs
 
 returns-2 : tie.Need-returns-2
 returns-2 c = let quiet = not-true _ (c .if2 .taken) in
-    rw (quiet, c .before .before .before .before .before .before .before .before .before .before .before .pre .3 quiet) (refused-quietly _ _ _ _ _ _ (c .before .before .before .before .before .before .before .before .before .before .before .pre .0) (c .before .before .judge .ensures) (c .before .if1 .left))
+    rw (quiet, c .before .before .before .before .before .before .before .before .before .before .before .pre .4 quiet) (refused-quietly _ _ _ _ _ _ (c .before .before .before .before .before .before .before .before .before .before .before .pre .0) (c .before .before .judge .ensures) (c .before .if1 .left))
 
 refuse-all-requires : tie.Need-refuse-all-requires
 refuse-all-requires c κs = search needs

@@ -33,11 +33,11 @@ unfolding driveIn
 returns c =
     in-field1 (driveIn (c .before .before .before .before .args .state .now) .setup) (c .before .before .before .before .args .control) (c .before .before .before .before .args .moved) (rw (← (c .before .before .names-field1 .ensures)) (c .if1 .taken))
 
-read-words-requires : tie.Need-read-words-requires
-read-words-requires c κs = search needs
+words-to-come-requires : tie.Need-words-to-come-requires
+words-to-come-requires c κs = search needs
 
 returns-2 : tie.Need-returns-2
-returns-2 c = rw (c .read-words .ensures)
+returns-2 c = rw (c .words-to-come .ensures)
 
 pub is-through-spec : {M : Type 1} → statement M
-is-through-spec = tie.close (tie.spec names-field1-requires shared-slice-read-if1 returns read-words-requires returns-2)
+is-through-spec = tie.close (tie.spec names-field1-requires shared-slice-read-if1 returns words-to-come-requires returns-2)

@@ -15,7 +15,7 @@ slice-aggregate-work : tie.Need-slice-aggregate-work
 slice-aggregate-work c = search needs
 
 work-requires : tie.Need-work-requires
-work-requires c κs = let r = event-room ((c .before .before .before .before .before .before .before .before .before .before .args .state .now)) ((c .before .before .before .before .before .before .before .before .before .before .args .answer .now)) ((c .before .before .before .before .before .if1 .left)) in (r .0, omega arith, r .1, λ e. refl)
+work-requires c κs = let r = event-room ((c .before .before .before .before .before .before .before .before .before .before .args .state .now)) ((c .before .before .before .before .before .before .before .before .before .before .args .answer .now)) ((c .before .before .before .before .before .if1 .left)) in (r .0, omega arith, omega arith, r .1, λ e. refl)
 
 same-length : tie.Need-same-length
 same-length c = search needs

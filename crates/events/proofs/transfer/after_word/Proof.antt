@@ -24,11 +24,11 @@ same-length-2 c = search needs
 
 returns : tie.Need-returns
 returns c =
-    did-as-in _ _ (differs (driveIn (now (c .before .before .before .before .before .before .before .before .before .before .before .args .state))) _ _ _ _ (sym (c .before .before .before .before .before .header-miscompares .ensures) ∙ c .before .before .before .before .if1 .taken))
-    (record { answer = refl; state = c .before .before .end-transfer .ensures; sectors = refl; staging = refl })
+    did-as-in _ _ (differs (driveIn (now ((c .before .before .before .before .before .before .before .before .before .before .before .args) .state))) _ _ _ _ (sym ((c .before .before .before .before .before .header-miscompares) .ensures) ∙ (c .before .before .before .before .if1) .taken))
+    (record { answer = refl; state = (c .before .before .end-transfer) .ensures; sectors = refl; staging = refl })
 
-write-words-requires : tie.Need-write-words-requires
-write-words-requires c κs = search needs
+is-last-requires : tie.Need-is-last-requires
+is-last-requires c κs = search needs
 
 setup-in-requires : tie.Need-setup-in-requires
 setup-in-requires c κs = search needs
@@ -37,13 +37,13 @@ place-in-requires : tie.Need-place-in-requires
 place-in-requires c κs = search needs
 
 sector-start-requires : tie.Need-sector-start-requires
-sector-start-requires c κs = placed (c .before .before .before .before .before .before .before .before .before .before .before .before .before .before .pre .0) _ _ (c .before .before .setup-in .ensures) (c .place-in .ensures)
+sector-start-requires c κs = placed ((c .before .before .before .before .before .before .before .before .before .before .before .before .before .before .pre) .0) _ _ ((c .before .before .setup-in) .ensures) ((c .place-in) .ensures)
 
 commit-requires : tie.Need-commit-requires
-commit-requires c κs = has-room (c .before .before .before .before .before .before .before .before .before .before .before .before .before .before .before .before .pre .0) _ _ _ (c .before .before .before .before .setup-in .ensures) (c .before .before .place-in .ensures) (c .before .sector-start .ensures)
+commit-requires c κs = has-room ((c .before .before .before .before .before .before .before .before .before .before .before .before .before .before .before .before .pre) .0) _ _ _ ((c .before .before .before .before .setup-in) .ensures) ((c .before .before .place-in) .ensures) ((c .before .sector-start) .ensures)
 
 end-transfer-requires-2 : tie.Need-end-transfer-requires-2
-end-transfer-requires-2 c κs = fit (c .before .before .before .before .before .before .before .before .before .before .before .before .before .before .before .before .before .before .before .before .pre .0)
+end-transfer-requires-2 c κs = fit ((c .before .before .before .before .before .before .before .before .before .before .before .before .before .before .before .before .before .before .before .before .pre) .0)
 
 same-length-3 : tie.Need-same-length-3
 same-length-3 c = search needs
@@ -53,11 +53,11 @@ same-length-4 c = search needs
 
 returns-2 : tie.Need-returns-2
 returns-2 c =
-    did-as-in _ _ (last-word (driveIn (now (c .before .before .before .before .before .before .before .before .before .before .before .before .before .before .before .before .before .before .before .before .before .before .before .args .state))) _ _ _ _ _ (c .before .before .before .before .before .before .before .before .before .before .before .before .before .before .before .before .before .before .before .before .before .before .before .pre .1) (sym (c .before .before .before .before .before .before .before .before .before .before .before .before .before .before .before .before .before .header-miscompares .ensures) ∙ c .before .before .before .before .before .before .before .before .before .before .before .before .before .before .before .before .if1 .left) (c .before .before .before .before .before .before .before .before .before .before .before .before .before .if2 .taken ∙ c .before .before .before .before .before .before .before .before .before .before .before .before .before .before .write-words .ensures))
+    did-as-in _ _ (last-word (driveIn (now ((c .before .before .before .before .before .before .before .before .before .before .before .before .before .before .before .before .before .before .before .before .before .before .before .args) .state))) _ _ _ _ _ ((c .before .before .before .before .before .before .before .before .before .before .before .before .before .before .before .before .before .before .before .before .before .before .before .pre) .1) (sym ((c .before .before .before .before .before .before .before .before .before .before .before .before .before .before .before .before .before .header-miscompares) .ensures) ∙ (c .before .before .before .before .before .before .before .before .before .before .before .before .before .before .before .before .if1) .left) (sym ((c .before .before .before .before .before .before .before .before .before .before .before .before .before .before .is-last) .ensures) ∙ (c .before .before .before .before .before .before .before .before .before .before .before .before .before .if2) .taken))
     (record {
       answer = refl;
-      state = c .before .before .end-transfer2 .ensures;
-      sectors = c .before .before .before .before .before .before .commit .ensures ∙ rw (c .before .before .before .before .before .before .before .before .sector-start .ensures, c .before .before .before .before .before .before .before .before .before .before .before .setup-in .ensures, c .before .before .before .before .before .before .before .before .before .place-in .ensures);
+      state = (c .before .before .end-transfer2) .ensures;
+      sectors = (c .before .before .before .before .before .before .commit) .ensures ∙ rw ((c .before .before .before .before .before .before .before .before .sector-start) .ensures, (c .before .before .before .before .before .before .before .before .before .before .before .setup-in) .ensures, (c .before .before .before .before .before .before .before .before .before .place-in) .ensures);
       staging = refl;
     })
 
@@ -75,8 +75,8 @@ same-length-6 c = search needs
 
 returns-3 : tie.Need-returns-3
 returns-3 c =
-    did-as-in _ _ (one-of-more (driveIn (now (c .before .before .before .before .before .before .before .before .before .before .args .state))) _ _ _ _ _ (c .before .before .before .before .before .before .before .before .before .before .pre .1) (sym (c .before .before .before .before .header-miscompares .ensures) ∙ c .before .before .before .if1 .left) (λ e. c .if2 .left (e ∙ sym (c .before .write-words .ensures))))
-    (record { answer = refl; state = word-moved _ _ (c .before .before .before .before .before .before .before .before .before .before .pre .0 .long) (known (fit (c .before .before .before .before .before .before .before .before .before .before .pre .0))); sectors = refl; staging = refl })
+    did-as-in _ _ (one-of-more (driveIn (now ((c .before .before .before .before .before .before .before .before .before .before .args) .state))) _ _ _ _ _ ((c .before .before .before .before .before .before .before .before .before .before .pre) .1) (sym ((c .before .before .before .before .header-miscompares) .ensures) ∙ (c .before .before .before .if1) .left) (sym ((c .before .is-last) .ensures) ∙ (c .if2) .left))
+    (record { answer = refl; state = word-moved _ _ ((c .before .before .before .before .before .before .before .before .before .before .pre) .0 .long) (known (fit ((c .before .before .before .before .before .before .before .before .before .before .pre) .0))); sectors = refl; staging = refl })
 
 pub after-word-spec : {M : Type 1} → statement M
 after-word-spec =
@@ -87,7 +87,7 @@ after-word-spec =
     same-length
     same-length-2
     returns
-    write-words-requires
+    is-last-requires
     setup-in-requires
     place-in-requires
     sector-start-requires

@@ -48,8 +48,8 @@ cast-if1 c = let m = moving (c .before .before .before .before .before .before .
 add-if1 : tie.Need-add-if1
 add-if1 c = let m = moving (c .before .before .before .before .before .before .before .before .before .before .before .before .pre .1) in omega (arith, m .few)
 
-read-words-requires : tie.Need-read-words-requires
-read-words-requires c κs = search needs
+words-to-come-requires : tie.Need-words-to-come-requires
+words-to-come-requires c κs = search needs
 
 end-transfer-requires : tie.Need-end-transfer-requires
 end-transfer-requires c κs = search needs
@@ -65,7 +65,7 @@ returns c =
     let place = read .before .before .before .before .before .place-in .ensures in
     let begin = read .before .before .before .before .sector-start .ensures in
     let start = read .before .before .before .before .before .before .before .before .before .before .before .before .before .before in
-    did-as _ _ (last-taken (driveIn (now (start .args .state))) _ _ _ _ _ _ setup place begin (has-room (start .pre .0) _ _ _ setup place begin) (read .before .before .before .word-offset .ensures) (c .before .before .before .before .if1 .taken ∙ read .read-words .ensures))
+    did-as _ _ (last-taken (driveIn (now (start .args .state))) _ _ _ _ _ _ setup place begin (has-room (start .pre .0) _ _ _ setup place begin) (read .before .before .before .word-offset .ensures) (c .before .before .before .before .if1 .taken ∙ read .words-to-come .ensures))
     (record { answer = refl; state = c .before .before .end-transfer .ensures })
 
 add-state : tie.Need-add-state
@@ -85,7 +85,7 @@ returns-2 c =
     let place = read .before .before .before .before .before .place-in .ensures in
     let begin = read .before .before .before .before .sector-start .ensures in
     let start = read .before .before .before .before .before .before .before .before .before .before .before .before .before .before in
-    did-as _ _ (one-taken (driveIn (now (start .args .state))) _ _ _ _ _ _ setup place begin (has-room (start .pre .0) _ _ _ setup place begin) (read .before .before .before .word-offset .ensures) (λ e. c .if1 .left (e ∙ sym (read .read-words .ensures))))
+    did-as _ _ (one-taken (driveIn (now (start .args .state))) _ _ _ _ _ _ setup place begin (has-room (start .pre .0) _ _ _ setup place begin) (read .before .before .before .word-offset .ensures) (λ e. c .if1 .left (e ∙ sym (read .words-to-come .ensures))))
     (record { answer = refl; state = word-moved _ _ (start .pre .0 .long) (known (fit (start .pre .0))) })
 
 pub take-spec : {M : Type 1} → statement M
@@ -103,7 +103,7 @@ take-spec =
     shared-slice-read-word
     cast-if1
     add-if1
-    read-words-requires
+    words-to-come-requires
     end-transfer-requires
     same-length
     returns

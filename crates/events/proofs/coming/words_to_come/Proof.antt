@@ -1,11 +1,11 @@
--- `read_words` meets its contract.
+-- `words_to_come` meets its contract.
 -- Assumes nothing.
 use native.Mathlib.Omega.{arith}
 use Rattle.parts.specs.Control.{wordsToCome}
 use Rattle.events.specs.State.{driveIn}
 use borrow.Author.Needs.{needs}
-use Rattle.events.proofs.coming.read_words.Statement.{statement}
-use Rattle.events.proofs.coming.read_words.Tie as tie
+use Rattle.events.proofs.coming.words_to_come.Statement.{statement}
+use Rattle.events.proofs.coming.words_to_come.Tie as tie
 
 header-passes-requires : tie.Need-header-passes-requires
 header-passes-requires c κs = search needs
@@ -23,7 +23,7 @@ returns : tie.Need-returns
 unfolding wordsToCome driveIn
 returns c = rw (c .before .words-at .ensures .0, c .before .before .header-passes .ensures, c .field-words .ensures .0) (omega arith)
 
-pub read-words-spec : {M : Type 1} → statement M
-read-words-spec =
+pub words-to-come-spec : {M : Type 1} → statement M
+words-to-come-spec =
     tie.close
     (tie.spec header-passes-requires words-at-requires field-words-requires add-result returns)
