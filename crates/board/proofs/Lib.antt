@@ -1,3 +1,4 @@
 pub mod Lines
+pub mod LinesFollow
 pub mod Singles
 pub mod Only

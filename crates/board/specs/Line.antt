@@ -1,5 +1,5 @@
 -- `pg_line`: the follower as one octet, and its answers as numbers.
-use Prim.Native.Nat.{ℕ, _+_, _%_}
+use Prim.Native.Nat.{ℕ, _+_, _%_, _≤_}
 use mathlib.Core.Path.{_≡_}
 use mathlib.Core.Bool.{Bool}
 use mathlib.Core.List.{List}
@@ -7,7 +7,7 @@ use lib.Dec.{ltb}
 use lib.ListN.{length, getD, set}
 use Rattle.laws.specs.Pick.{pick}
 use Rattle.laws.specs.Octets.{bit}
-use Rattle.lines.specs.Follower.{stepOf}
+use Rattle.lines.specs.Follower.{idle, stepOf}
 use Rattle.lines.specs.declared.follower.Answer.{Answer}
 use Rattle.lines.specs.declared.follower.Answer.the-variants.{Same, Controllers, Drives, Undefined, Lost, Idle, Refused}
 use Rattle.lines.specs.declared.follower.Follower.{Follower}
@@ -40,3 +40,9 @@ isTooShort follower = ltb (length follower) 1
 pub record LineFollowed (follower₀ : List ℕ) (setting r : ℕ) (follower₁ : List ℕ) : Type 0 where
   pub answer : r ≡ pick (isTooShort follower₀) 10 (lineNumber (stepOf (followerIn (getD follower₀ 0 0)) setting .answer))
   pub follower : follower₁ ≡ pick (ltb r 16) follower₀ (set follower₀ 0 (followerOctet (stepOf (followerIn (getD follower₀ 0 0)) setting .follower)))
+
+-- Calls one after another follow the lines as the follower does: an octet after a call stands for the follower after that step.
+pub record LinesFollow : Type 0 where
+  pub start : followerIn 0 ≡ idle
+  pub next : {follower₀ : List ℕ} {setting r : ℕ} {follower₁ : List ℕ} → 1 ≤ length follower₀ → LineFollowed follower₀ setting r follower₁
+      → followerIn (getD follower₁ 0 0) ≡ stepOf (followerIn (getD follower₀ 0 0)) setting .follower

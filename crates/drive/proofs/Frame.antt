@@ -1,4 +1,4 @@
--- `frame`: what a commit puts where and leaves, and the one staging word that an event can change.
+-- `frame`: what a commit puts where and leaves, the one staging word that an event can change, and what stays pending.
 -- Assumes nothing.
 use Prim.Native.Nat.{ℕ, _+_, _-_, _≤_}
 use mathlib.Core.Path.{_≡_, refl, sym, ap, _∙_}
@@ -16,15 +16,16 @@ use Rattle.laws.proofs.Tests.{and-l, and-r}
 use Rattle.laws.proofs.Windows.{paste-at}
 use Rattle.parts.specs.Control.{movesHeader, namesField1, namesField2, part}
 use Rattle.parts.specs.Kind.{Kind, Select, Deselect, Use, Reset, Unknown, Work, kindOf}
-use Rattle.drive.specs.State.{Result}
+use Rattle.drive.specs.State.{Result, pendingOn}
 use Rattle.drive.specs.Transfer.{committed}
 use Rattle.drive.specs.Able.{Room}
-use Rattle.drive.specs.Frame.{isIn, wordWritten, CommitFrame, StagingFrame, asItWas, oneWord, Frame}
+use Rattle.drive.specs.Frame.{isIn, wordWritten, CommitFrame, StagingFrame, asItWas, oneWord, same, PendingFrame, grown, Frame}
 use Rattle.drive.specs.Run.{Machine}
 use Rattle.parts.specs.declared.setup.Setup.{Setup}
 use Rattle.parts.specs.declared.event.Event.{Event}
 use Rattle.drive.proofs.Laws.{by-cases, doneBy}
 use Rattle.drive.proofs.Outcomes
+use Rattle.drive.proofs.Pendings.{pending-by}
 
 -- ---- the commit
 
@@ -108,4 +109,5 @@ frame =
     record {
       commit = commit-frame;
       staging = λ m e. by-cases (λ answer next. StagingFrame m e (next .staging)) m e (λ n z. asItWas refl) (λ k z p. staging-by k m e z);
+      pending = λ m e port real. by-cases (λ answer next. PendingFrame m e port (pendingOn (next .drive) port)) m e (λ n z. grown same same) (λ k z p. pending-by m e port real k z p);
     }

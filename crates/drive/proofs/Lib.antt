@@ -10,6 +10,7 @@ pub mod Outcomes
 pub mod Laws
 pub mod SoundPlace
 pub mod SoundHolding
+pub mod Pendings
 pub mod Frame
 pub mod StaysSound
 pub mod Turns

@@ -1,4 +1,5 @@
 // The words to come of a transfer, on the words of a state. A field's words are read where the control names it and nowhere else: it seldom names all.
+use crate::layout;
 ghost use Prim.Native.Nat.{_+_, _≤_, _<_};
 ghost use mathlib.Core.Path.{_≡_};
 ghost use mathlib.Core.Bool.{true};
@@ -7,34 +8,28 @@ ghost use lib.ListN.{length, getD};
 ghost use Rattle.parts.specs.Control.{controlOf, isWrite, namesField1, namesField2, part, wordsToCome};
 ghost use Rattle.events.specs.State.{driveIn};
 
-const HEADER: usize = 3;
-
-const FIELD_1: usize = 4;
-
-const FIELD_2: usize = 5;
-
 // Are so many words all of a write? It passes its header, verified or moved. Field 1 comes first: most words of a long sector are its, and end the
 // question.
 pub(crate) fn is_last(state: &[u16], control: u16, count: usize) -> bool
     requires { ⌜ (18 ≤ length (now state)) × (isWrite (controlOf control) ≡ true) ⌝ }
     ensures { λ r. ⌜ r ≡ eqb count (wordsToCome (driveIn (now (state .entry)) .setup) control) ⌝ }
 {
-    let header = state[HEADER] as usize;
+    let header = state[layout::HEADER] as usize;
     if !parts::names_field1(control) {
-        return count == header + words_at(state, parts::names_field2(control), FIELD_2);
+        return count == header + words_at(state, parts::names_field2(control), layout::FIELD_2);
     }
-    let before_field2 = header + state[FIELD_1] as usize;
+    let before_field2 = header + state[layout::FIELD_1] as usize;
     if count < before_field2 {
         return false;
     }
-    count == before_field2 + words_at(state, parts::names_field2(control), FIELD_2)
+    count == before_field2 + words_at(state, parts::names_field2(control), layout::FIELD_2)
 }
 
 pub(crate) fn words_to_come(state: &[u16], control: u16) -> usize
     requires { ⌜ 18 ≤ length (now state) ⌝ }
     ensures { λ r. ⌜ r ≡ wordsToCome (driveIn (now (state .entry)) .setup) control ⌝ }
 {
-    words_at(state, parts::header_passes(control), HEADER) + field_words(state, control)
+    words_at(state, parts::header_passes(control), layout::HEADER) + field_words(state, control)
 }
 
 // The words of the named fields.
@@ -42,8 +37,8 @@ fn field_words(state: &[u16], control: u16) -> usize
     requires { ⌜ 18 ≤ length (now state) ⌝ }
     ensures { λ r. ⌜ (r ≡ part (namesField1 control) (getD (now (state .entry)) 4 0) + part (namesField2 control) (getD (now (state .entry)) 5 0)) × (r < 131072) ⌝ }
 {
-    words_at(state, parts::names_field1(control), FIELD_1)
-        + words_at(state, parts::names_field2(control), FIELD_2)
+    words_at(state, parts::names_field1(control), layout::FIELD_1)
+        + words_at(state, parts::names_field2(control), layout::FIELD_2)
 }
 
 // The word at an index, or 0 where its part does not pass.
@@ -62,7 +57,7 @@ pub(crate) fn is_through(state: &[u16], control: u16, moved: u16) -> bool
     requires { ⌜ 18 ≤ length (now state) ⌝ }
     ensures { λ r. ⌜ r ≡ leb (wordsToCome (driveIn (now (state .entry)) .setup) control) moved ⌝ }
 {
-    if parts::names_field1(control) & (moved < state[FIELD_1]) {
+    if parts::names_field1(control) & (moved < state[layout::FIELD_1]) {
         return false;
     }
     words_to_come(state, control) <= moved as usize

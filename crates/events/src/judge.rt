@@ -1,6 +1,7 @@
 // Rows 11 and 10: whether the words are those of a sound state, and whether the slices hold it. The tests that take longest come first, and each
 // ends the others: this is what a single event spends most of its time on.
 use crate::coming;
+use crate::layout;
 use crate::sizes;
 use crate::state;
 use parts::Setup;
@@ -39,19 +40,24 @@ fn is_unsound(state: &[u16]) -> bool
     if !setup.within_limits() {
         return true;
     }
-    if is_misopened(state, state[14], state[15]) {
+    if is_misopened(state, state[layout::CONTROL], state[layout::MOVED]) {
         return true;
     }
-    if is_misheld(state[7], state[8], state[9], state[14]) {
+    if is_misheld(
+        state[layout::SELECTED],
+        state[layout::OWNER],
+        state[layout::HOLD],
+        state[layout::CONTROL],
+    ) {
         return true;
     }
-    if has_stray(state[16]) | has_stray(state[17]) {
+    if has_stray(state[layout::PENDING_0]) | has_stray(state[layout::PENDING_1]) {
         return true;
     }
-    !setup.is_place(state::place_in(state)) | !setup.is_target(state[13])
+    !setup.is_place(state::place_in(state)) | !setup.is_target(state[layout::TARGET])
 }
 
-// A transfer with a control that opens none, or with all its words moved or more.
+// A transfer with a control that opens none, or with all its words moved or more. Two arms, since one for both is tested in full by every event.
 fn is_misopened(state: &[u16], control: u16, moved: u16) -> bool
     requires { ⌜ 18 ≤ length (now state) ⌝ }
     ensures { λ r. ⌜ r ≡ isMisopened (driveIn (now (state .entry)) .setup) control moved ⌝ }

@@ -7,6 +7,7 @@ mod coming;
 mod event;
 mod judge;
 mod kinds;
+mod layout;
 mod pending;
 mod place;
 mod posting;

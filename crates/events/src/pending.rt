@@ -1,5 +1,6 @@
 // What is pending on a port, in its word of the state.
 use crate::answer;
+use crate::layout;
 use crate::posting;
 use crate::state;
 use drive::Answer;
@@ -13,14 +14,12 @@ ghost use Rattle.drive.specs.Request.{badRequest, statusRead};
 ghost use Rattle.events.specs.State.{driveIn};
 ghost use Rattle.events.specs.Fit.{Fit, Did};
 
-const PENDING: usize = 16;
-
 // A bit of octet 1.
 pub(crate) fn is_unsolicited(state: &[u16], port: u8) -> bool
     requires { ⌜ Fit (now state) × (port ≤ 1) ⌝ }
     ensures { λ r. ⌜ r ≡ not (eqb (pendingOn (driveIn (now (state .entry))) port .octet1) 0) ⌝ }
 {
-    let at = PENDING + port as usize;
+    let at = layout::PENDING_0 + port as usize;
     state[at] / 256 != 0
 }
 
@@ -29,7 +28,7 @@ pub(crate) fn fault(state: &mut [u16], port: u8, bit: u8) -> Answer
     requires { ⌜ Fit (now state) × (port ≤ 1) × OneBit bit ⌝ }
     ensures { λ r. ⌜ Did (now (state .entry)) (badRequest (driveIn (now (state .entry))) port bit) r (now (state .exit)) ⌝ }
 {
-    let at = PENDING + port as usize;
+    let at = layout::PENDING_0 + port as usize;
     let pending = state::pending_in(state[at]);
     let faulted = posting::faulted_on(pending, bit);
     let word = state::pending_word(faulted);
@@ -42,7 +41,7 @@ pub(crate) fn tell_status(state: &mut [u16], port: u8) -> Answer
     requires { ⌜ Fit (now state) × (port ≤ 1) ⌝ }
     ensures { λ r. ⌜ Did (now (state .entry)) (statusRead (driveIn (now (state .entry))) port) r (now (state .exit)) ⌝ }
 {
-    let at = PENDING + port as usize;
+    let at = layout::PENDING_0 + port as usize;
     let pending = state::pending_in(state[at]);
     let octet0 = pending.octet0();
     state[at] = 0;

@@ -1,5 +1,6 @@
 // Kinds 3, 7 and 8: a data control, a position, a target.
 use crate::answer;
+use crate::layout;
 use crate::pending;
 use crate::place;
 use crate::state;
@@ -39,7 +40,7 @@ fn open_there(state: &mut [u16], port: u8, control: u16) -> Answer
     if !parts::is_at_target(control) {
         return open(state, control);
     }
-    if state[13] == parts::NO_TARGET {
+    if state[layout::TARGET] == parts::NO_TARGET {
         return pending::fault(state, port, parts::BUS_CONTROL_CONTEXT);
     }
     place::go_to_target(state);
@@ -86,7 +87,7 @@ pub(crate) fn aim_at(state: &mut [u16], port: u8, target: u16) -> Answer
     }
     let setup = state::setup_in(&state[..]);
     if setup.is_target(target) {
-        state[13] = target;
+        state[layout::TARGET] = target;
         return Answer::Status(answer::NORMAL);
     }
     pending::fault(state, port, parts::INVALID_PARAMETER)

@@ -1,4 +1,5 @@
 // The 18 words of the state: read into a drive, and written from one.
+use crate::layout;
 use drive::Drive;
 use parts::Hold;
 use parts::Holding;
@@ -24,23 +25,23 @@ pub(crate) fn drive_in(state: &[u16]) -> Drive
     ensures { λ r. ⌜ r ≡ driveIn (now (state .entry)) ⌝ }
 {
     let selected = selected_in(state);
-    let hold = hold_of(state[9]);
-    let pending0 = pending_in(state[16]);
-    let pending1 = pending_in(state[17]);
+    let hold = hold_of(state[layout::HOLD]);
+    let pending0 = pending_in(state[layout::PENDING_0]);
+    let pending1 = pending_in(state[layout::PENDING_1]);
     let setup = setup_in(state);
     let place = place_in(state);
     Drive {
         setup,
         holding: Holding {
             selected,
-            owner: state[8],
+            owner: state[layout::OWNER],
             hold,
         },
         place,
-        target: state[13],
+        target: state[layout::TARGET],
         transfer: Transfer {
-            control: state[14],
-            moved: state[15],
+            control: state[layout::CONTROL],
+            moved: state[layout::MOVED],
         },
         pending0,
         pending1,
@@ -52,13 +53,13 @@ pub(crate) fn setup_in(state: &[u16]) -> Setup
     ensures { λ r. ⌜ r ≡ driveIn (now (state .entry)) .setup ⌝ }
 {
     Setup {
-        cylinders: state[0],
-        heads: state[1],
-        sectors: state[2],
-        header: state[3],
-        field1: state[4],
-        field2: state[5],
-        address: state[6],
+        cylinders: state[layout::CYLINDERS],
+        heads: state[layout::HEADS],
+        sectors: state[layout::SECTORS],
+        header: state[layout::HEADER],
+        field1: state[layout::FIELD_1],
+        field2: state[layout::FIELD_2],
+        address: state[layout::ADDRESS],
     }
 }
 
@@ -67,9 +68,9 @@ pub(crate) fn place_in(state: &[u16]) -> Place
     ensures { λ r. ⌜ r ≡ driveIn (now (state .entry)) .place ⌝ }
 {
     Place {
-        cylinder: state[10],
-        head: state[11],
-        sector: state[12],
+        cylinder: state[layout::CYLINDER],
+        head: state[layout::HEAD],
+        sector: state[layout::SECTOR],
     }
 }
 
@@ -87,17 +88,17 @@ pub(crate) fn put_moved(drive: Drive, state: &mut [u16])
     let held = hold_word(hold);
     let octets0 = pending_word(pending0);
     let octets1 = pending_word(pending1);
-    state[7] = h.selected;
-    state[8] = h.owner;
-    state[9] = held;
-    state[10] = p.cylinder;
-    state[11] = p.head;
-    state[12] = p.sector;
-    state[13] = drive.target;
-    state[14] = t.control;
-    state[15] = t.moved;
-    state[16] = octets0;
-    state[17] = octets1;
+    state[layout::SELECTED] = h.selected;
+    state[layout::OWNER] = h.owner;
+    state[layout::HOLD] = held;
+    state[layout::CYLINDER] = p.cylinder;
+    state[layout::HEAD] = p.head;
+    state[layout::SECTOR] = p.sector;
+    state[layout::TARGET] = drive.target;
+    state[layout::CONTROL] = t.control;
+    state[layout::MOVED] = t.moved;
+    state[layout::PENDING_0] = octets0;
+    state[layout::PENDING_1] = octets1;
 }
 
 // All 18 words.
@@ -107,21 +108,21 @@ pub(crate) fn put_state(drive: Drive, state: &mut [u16])
 {
     let s = drive.setup;
     put_moved(drive, state);
-    state[0] = s.cylinders;
-    state[1] = s.heads;
-    state[2] = s.sectors;
-    state[3] = s.header;
-    state[4] = s.field1;
-    state[5] = s.field2;
-    state[6] = s.address;
+    state[layout::CYLINDERS] = s.cylinders;
+    state[layout::HEADS] = s.heads;
+    state[layout::SECTORS] = s.sectors;
+    state[layout::HEADER] = s.header;
+    state[layout::FIELD_1] = s.field1;
+    state[layout::FIELD_2] = s.field2;
+    state[layout::ADDRESS] = s.address;
 }
 
 fn selected_in(state: &[u16]) -> u16
     requires { ⌜ 18 ≤ length (now state) ⌝ }
     ensures { λ r. ⌜ r ≡ selectedIn (now (state .entry)) ⌝ }
 {
-    if state[9] <= LAST_HOLD {
-        return state[7];
+    if state[layout::HOLD] <= LAST_HOLD {
+        return state[layout::SELECTED];
     }
     NO_PORT
 }

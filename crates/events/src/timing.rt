@@ -1,4 +1,5 @@
 // Whether an event of kinds 2 to 9 comes at its time: the rows 8, 2 and 7, on the words of a state that row 11 lets pass.
+use crate::layout;
 ghost use Prim.Native.Nat.{_/_};
 ghost use mathlib.Core.Path.{_≡_};
 ghost use mathlib.Core.Bool.{not, _||_};
@@ -27,7 +28,7 @@ pub(crate) fn refusal(state: &[u16], port: u8, formed: bool, wanted: u16) -> u8
     if !is_selected(state, port) {
         return parts::NOT_SELECTED;
     }
-    if state[14] / 64 != wanted {
+    if state[layout::CONTROL] / 64 != wanted {
         return parts::TRANSFER_OPEN_OR_NOT;
     }
     0
@@ -37,12 +38,12 @@ pub(crate) fn is_selected(state: &[u16], port: u8) -> bool
     requires { ⌜ Fit (now state) ⌝ }
     ensures { λ r. ⌜ r ≡ eqb (driveIn (now (state .entry)) .holding .selected) port ⌝ }
 {
-    state[7] == port as u16
+    state[layout::SELECTED] == port as u16
 }
 
 pub(crate) fn is_one_open(state: &[u16]) -> bool
     requires { ⌜ Fit (now state) ⌝ }
     ensures { λ r. ⌜ r ≡ (isWriteOpen (driveIn (now (state .entry)) .transfer) || isReadOpen (driveIn (now (state .entry)) .transfer)) ⌝ }
 {
-    state[14] != 0
+    state[layout::CONTROL] != 0
 }

@@ -1,6 +1,7 @@
 // Kinds 4 and 5, an open transfer: words from the host are staged, and committed at the last one; words to the host are taken from the sector.
 use crate::answer;
 use crate::coming;
+use crate::layout;
 use crate::place;
 use crate::sizes;
 use crate::state;
@@ -37,8 +38,8 @@ pub(crate) fn on_word_from_host(
     if n != 0 {
         return Answer::Refused(n);
     }
-    let control = state[14];
-    let moved = state[15] as usize;
+    let control = state[layout::CONTROL];
+    let moved = state[layout::MOVED] as usize;
     staging[moved] = parts::word_of(event);
     after_word(state, control, moved + 1, sectors, &staging[..])
 }
@@ -65,7 +66,7 @@ fn after_word(
         place::end_transfer(state);
         return Answer::Status(answer::NORMAL);
     }
-    state[15] = count as u16;
+    state[layout::MOVED] = count as u16;
     Answer::Done
 }
 
@@ -74,10 +75,10 @@ fn header_miscompares(state: &[u16], count: usize, sectors: &[u16], staging: &[u
     requires { ⌜ Fits (now state) (now sectors) (now staging) ⌝ }
     ensures { λ r. ⌜ r ≡ miscompares (driveIn (now (state .entry)) .setup) (driveIn (now (state .entry)) .transfer .control) count (sectorStart (driveIn (now (state .entry)) .setup) (driveIn (now (state .entry)) .place)) (now (sectors .entry)) (now (staging .entry)) ⌝ }
 {
-    if count != state[3] as usize {
+    if count != state[layout::HEADER] as usize {
         return false;
     }
-    if !parts::verifies_header(state[14]) {
+    if !parts::verifies_header(state[layout::CONTROL]) {
         return false;
     }
     let setup = state::setup_in(state);
@@ -85,8 +86,8 @@ fn header_miscompares(state: &[u16], count: usize, sectors: &[u16], staging: &[u
     !words::same_words(staging, 0, sectors, start, count)
 }
 
-// The named written fields go from the staging words to the sector. They follow one another in both, but that the sector has field 1 where it is not
-// named. One loop: copies of their own are made vectors, which every event then prepares.
+// The named written fields go from the staging words to the sector. They stand one behind the other in both, but that the sector has field 1 even
+// where it is not named. One loop: of a copy for each field the compiler makes vectors, and prepares them at every event.
 fn commit(setup: Setup, control: u16, start: usize, sectors: &mut [u16], staging: &[u16])
     requires { ⌜ Room setup start (now sectors) (now staging) ⌝ }
     ensures { λ _. ⌜ now (sectors .exit) ≡ committed setup control start (now (sectors .entry)) (now (staging .entry)) ⌝ }
@@ -131,8 +132,8 @@ fn take(state: &mut [u16], sectors: &[u16], staging: &[u16]) -> Answer
     requires { ⌜ Fits (now state) (now sectors) (now staging) × Able (driveIn (now state)) (now sectors) (now staging) ⌝ }
     ensures { λ r. ⌜ Did (now (state .entry)) (wordTaken (driveIn (now (state .entry))) (now (sectors .entry))) r (now (state .exit)) ⌝ }
 {
-    let control = state[14];
-    let moved = state[15];
+    let control = state[layout::CONTROL];
+    let moved = state[layout::MOVED];
     let setup = state::setup_in(&state[..]);
     let start = sizes::sector_start(setup, state::place_in(&state[..]));
     let at = start + word_offset(setup, control, moved);
@@ -141,7 +142,7 @@ fn take(state: &mut [u16], sectors: &[u16], staging: &[u16]) -> Answer
         place::end_transfer(state);
         return Answer::LastWord(word);
     }
-    state[15] = moved + 1;
+    state[layout::MOVED] = moved + 1;
     Answer::Word(word)
 }
 

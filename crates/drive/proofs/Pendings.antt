@@ -1,0 +1,116 @@
+-- No event but a port's own read status and Reset takes a bit from what is pending on it.
+-- Assumes nothing.
+use Prim.Native.Nat.{ℕ, _≤_}
+use mathlib.Core.Path.{_≡_, refl, sym, _∙_}
+use mathlib.Core.Bool.{Bool, true, false, not}
+use native.Mathlib.Omega.{arith}
+use borrow.Author.Tests.{eqb-true, eqb-false, ltb-false}
+use lib.Dec.{eqb}
+use Rattle.laws.specs.Pick.{pick}
+use Rattle.laws.proofs.Pick.{either}
+use Rattle.parts.specs.Pending.{OneBit, bit6, noticed, faulted, nothingPending}
+use Rattle.parts.specs.Kind.{Kind, Select, Deselect, Use, Reset, Unknown, Work, ReadStatus, kindOf}
+use Rattle.drive.specs.State.{Result, pendingOn, postedOn}
+use Rattle.drive.specs.Drive.{ownerNoticed, selected, deselected, afterReset, headStepped, atItsTarget, ended}
+use Rattle.drive.specs.Frame.{Grown, same, oneMore, PendingFrame, grown, byStatus, byReset}
+use Rattle.drive.specs.Run.{Machine}
+use Rattle.parts.specs.declared.event.Event.{Event}
+use Rattle.parts.specs.declared.pending.Pending.{Pending}
+use Rattle.drive.specs.declared.answer.Outcome.{Outcome}
+use Rattle.drive.specs.declared.drive.Drive.{Drive}
+use Rattle.drive.proofs.Laws.{AllPassed, doneBy}
+use Rattle.drive.proofs.Outcomes
+
+-- what is pending on a port, before and after
+record Gained (before after : Pending) : Type 0 where
+  octet1 : Grown (before .octet1) (after .octet1)
+  octet2 : Grown (before .octet2) (after .octet2)
+
+nothing-new : (p : Pending) → Gained p p
+nothing-new p = record { octet1 = same; octet2 = same }
+
+noticed-more : (p : Pending) → Gained p (noticed p)
+unfolding noticed
+noticed-more p = record { octet1 = oneMore bit6; octet2 = same }
+
+faulted-more : {bit : ℕ} (p : Pending) → OneBit bit → Gained p (faulted p bit)
+unfolding faulted
+faulted-more p o = record { octet1 = same; octet2 = oneMore o }
+
+-- what goes to one port leaves the other
+to-one : (first asked : Bool) (p q new : Pending) → Gained (pick first p q) new → Gained (pick asked p q) (pick asked (pick first new p) (pick first q new))
+unfolding pick
+to-one true true p q new g = g
+to-one true false p q new g = nothing-new q
+to-one false true p q new g = nothing-new p
+to-one false false p q new g = g
+
+posted-more : (d : Drive) (to port : ℕ) (new : Pending) → Gained (pendingOn d to) new → Gained (pendingOn d port) (pendingOn (postedOn d to new) port)
+unfolding pendingOn postedOn
+posted-more d to port new g = to-one (eqb to 0) (eqb port 0) (d .pending0) (d .pending1) new g
+
+either-port : (asked : Bool) (p : Pending) → pick asked p p ≡ p
+unfolding pick
+either-port true p = refl
+either-port false p = refl
+
+-- and clears one alone
+one-cleared : (d : Drive) (to port : ℕ) (b : Bool) → eqb to 0 ≡ b → eqb port 0 ≡ b → pendingOn (postedOn d to nothingPending) port ≡ nothingPending
+unfolding pendingOn postedOn pick
+one-cleared d to port true f a = rw (f, a)
+one-cleared d to port false f a = rw (f, a)
+
+other-left : (d : Drive) (to port : ℕ) (b : Bool) → eqb to 0 ≡ b → eqb port 0 ≡ not b → Gained (pendingOn d port) (pendingOn (postedOn d to nothingPending) port)
+unfolding pendingOn postedOn pick
+other-left d to port true f a = rw (f, a) (nothing-new (d .pending1))
+other-left d to port false f a = rw (f, a) (nothing-new (d .pending0))
+
+module _ (m : Machine) (e : Event) (port : ℕ) (real : port ≤ 1) where
+  gained : {left : Pending} → Gained (pendingOn (m .drive) port) left → PendingFrame m e port left
+  gained g = grown (g .octet1) (g .octet2)
+
+  -- the status of a port clears that port's
+  status-told : kindOf (e .kind) ≡ Use ReadStatus → e .port ≤ 1 → PendingFrame m e port (pendingOn (postedOn (m .drive) (e .port) nothingPending) port)
+  status-told z own = by-ports (eqb (e .port) 0) refl (eqb port 0) refl
+    where
+      by-ports : (first : Bool) → eqb (e .port) 0 ≡ first → (asked : Bool) → eqb port 0 ≡ asked
+          → PendingFrame m e port (pendingOn (postedOn (m .drive) (e .port) nothingPending) port)
+      by-ports true f true a = byStatus z (eqb-true port 0 a ∙ sym (eqb-true (e .port) 0 f)) (one-cleared (m .drive) (e .port) port _ f a)
+      by-ports true f false a = gained (other-left (m .drive) (e .port) port _ f a)
+      by-ports false f true a = gained (other-left (m .drive) (e .port) port _ f a)
+      by-ports false f false a = byStatus z (omega (arith, eqb-false port 0 a, eqb-false (e .port) 0 f)) (one-cleared (m .drive) (e .port) port _ f a)
+
+  quiet-left : {work : Work} {o : Outcome} → kindOf (e .kind) ≡ Use work → e .port ≤ 1 → Outcomes.Quiet (m .drive) e (m .sectors) work o
+      → PendingFrame m e port (pendingOn (o .drive) port)
+  unfolding pendingOn headStepped atItsTarget ended
+  quiet-left z own (Outcomes.unsolicited q) = gained (nothing-new _)
+  quiet-left z own (Outcomes.bad q b) = gained (posted-more (m .drive) (e .port) port _ (faulted-more _ b))
+  quiet-left z own Outcomes.stepped = gained (nothing-new _)
+  quiet-left z own (Outcomes.nothingToCome Outcomes.inPlace) = gained (nothing-new _)
+  quiet-left z own (Outcomes.nothingToCome (Outcomes.atTarget t)) = gained (nothing-new _)
+  quiet-left z own (Outcomes.opens Outcomes.inPlace o y) = gained (nothing-new _)
+  quiet-left z own (Outcomes.opens (Outcomes.atTarget t) o y) = gained (nothing-new _)
+  quiet-left z own Outcomes.takenLast = gained (nothing-new _)
+  quiet-left z own (Outcomes.taken y) = gained (nothing-new _)
+  quiet-left z own Outcomes.ends = gained (nothing-new _)
+  quiet-left z own (Outcomes.placed p) = gained (nothing-new _)
+  quiet-left z own (Outcomes.aimed t) = gained (nothing-new _)
+  quiet-left z own Outcomes.statusTold = status-told z own
+
+  work-left : {work : Work} {r : Result} → kindOf (e .kind) ≡ Use work → e .port ≤ 1 → Outcomes.WorkDone (m .drive) e (m .sectors) (m .staging) work r
+      → PendingFrame m e port (pendingOn (r .outcome .drive) port)
+  unfolding pendingOn ended
+  work-left z own (Outcomes.quiet q) = quiet-left z own q
+  work-left z own Outcomes.miscompared = gained (nothing-new _)
+  work-left z own (Outcomes.completed h) = gained (nothing-new _)
+  work-left z own (Outcomes.more h) = gained (nothing-new _)
+
+  pub pending-by : (k : Kind) → kindOf (e .kind) ≡ k → AllPassed k m e → PendingFrame m e port (pendingOn ((doneBy k m e) .outcome .drive) port)
+  unfolding pendingOn selected ownerNoticed deselected afterReset
+  pending-by Select z p =
+      let d = m .drive in
+      gained (either (λ (x : Drive). Gained (pendingOn d port) (pendingOn x port)) _ (posted-more d (d .holding .owner) port _ (noticed-more _)) (nothing-new _))
+  pending-by Deselect z p = gained (nothing-new _)
+  pending-by Reset z p = byReset z (either-port (eqb port 0) _)
+  pending-by Unknown z p = gained (nothing-new _)
+  pending-by (Use work) z p = work-left z (ltb-false 1 (e .port) (p .port)) (Outcomes.work-done (m .drive) e (m .sectors) (m .staging) work)
