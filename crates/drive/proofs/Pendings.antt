@@ -1,6 +1,6 @@
 -- No event but a port's own read status and Reset takes a bit from what is pending on it.
 -- Assumes nothing.
-use Prim.Native.Nat.{ℕ, _≤_}
+use Prim.Native.Nat.{ℕ, _<_, _≤_}
 use mathlib.Core.Path.{_≡_, refl, sym, _∙_}
 use mathlib.Core.Bool.{Bool, true, false, not}
 use native.Mathlib.Omega.{arith}
@@ -8,11 +8,12 @@ use borrow.Author.Tests.{eqb-true, eqb-false, ltb-false}
 use lib.Dec.{eqb}
 use Rattle.laws.specs.Pick.{pick}
 use Rattle.laws.proofs.Pick.{either}
-use Rattle.parts.specs.Pending.{OneBit, bit6, noticed, faulted, nothingPending}
+use Rattle.parts.specs.Pending.{OneBit, bit6, StaysSet, noticed, faulted, nothingPending}
+use Rattle.parts.proofs.Bits.{set-bits-stay}
 use Rattle.parts.specs.Kind.{Kind, Select, Deselect, Use, Reset, Unknown, Work, ReadStatus, kindOf}
 use Rattle.drive.specs.State.{Result, pendingOn, postedOn}
 use Rattle.drive.specs.Drive.{ownerNoticed, selected, deselected, afterReset, headStepped, atItsTarget, ended}
-use Rattle.drive.specs.Frame.{Grown, same, oneMore, PendingFrame, grown, byStatus, byReset}
+use Rattle.drive.specs.Frame.{AreOctets, PendingFrame, kept, byStatus, byReset}
 use Rattle.drive.specs.Run.{Machine}
 use Rattle.parts.specs.declared.event.Event.{Event}
 use Rattle.parts.specs.declared.pending.Pending.{Pending}
@@ -22,30 +23,33 @@ use Rattle.drive.proofs.Laws.{AllPassed, doneBy}
 use Rattle.drive.proofs.Outcomes
 
 -- what is pending on a port, before and after
-record Gained (before after : Pending) : Type 0 where
-  octet1 : Grown (before .octet1) (after .octet1)
-  octet2 : Grown (before .octet2) (after .octet2)
+record Kept (before after : Pending) : Type 0 where
+  octet1 : before .octet1 < 256 → StaysSet (before .octet1) (after .octet1)
+  octet2 : before .octet2 < 256 → StaysSet (before .octet2) (after .octet2)
 
-nothing-new : (p : Pending) → Gained p p
-nothing-new p = record { octet1 = same; octet2 = same }
+as-it-is : (octet : ℕ) → octet < 256 → StaysSet octet octet
+as-it-is octet h bit o s = s
 
-noticed-more : (p : Pending) → Gained p (noticed p)
+nothing-new : (p : Pending) → Kept p p
+nothing-new p = record { octet1 = as-it-is (p .octet1); octet2 = as-it-is (p .octet2) }
+
+noticed-more : (p : Pending) → Kept p (noticed p)
 unfolding noticed
-noticed-more p = record { octet1 = oneMore bit6; octet2 = same }
+noticed-more p = record { octet1 = set-bits-stay (p .octet1) bit6; octet2 = as-it-is (p .octet2) }
 
-faulted-more : {bit : ℕ} (p : Pending) → OneBit bit → Gained p (faulted p bit)
+faulted-more : {bit : ℕ} (p : Pending) → OneBit bit → Kept p (faulted p bit)
 unfolding faulted
-faulted-more p o = record { octet1 = same; octet2 = oneMore o }
+faulted-more p o = record { octet1 = as-it-is (p .octet1); octet2 = set-bits-stay (p .octet2) o }
 
 -- what goes to one port leaves the other
-to-one : (first asked : Bool) (p q new : Pending) → Gained (pick first p q) new → Gained (pick asked p q) (pick asked (pick first new p) (pick first q new))
+to-one : (first asked : Bool) (p q new : Pending) → Kept (pick first p q) new → Kept (pick asked p q) (pick asked (pick first new p) (pick first q new))
 unfolding pick
 to-one true true p q new g = g
 to-one true false p q new g = nothing-new q
 to-one false true p q new g = nothing-new p
 to-one false false p q new g = g
 
-posted-more : (d : Drive) (to port : ℕ) (new : Pending) → Gained (pendingOn d to) new → Gained (pendingOn d port) (pendingOn (postedOn d to new) port)
+posted-more : (d : Drive) (to port : ℕ) (new : Pending) → Kept (pendingOn d to) new → Kept (pendingOn d port) (pendingOn (postedOn d to new) port)
 unfolding pendingOn postedOn
 posted-more d to port new g = to-one (eqb to 0) (eqb port 0) (d .pending0) (d .pending1) new g
 
@@ -60,14 +64,14 @@ unfolding pendingOn postedOn pick
 one-cleared d to port true f a = rw (f, a)
 one-cleared d to port false f a = rw (f, a)
 
-other-left : (d : Drive) (to port : ℕ) (b : Bool) → eqb to 0 ≡ b → eqb port 0 ≡ not b → Gained (pendingOn d port) (pendingOn (postedOn d to nothingPending) port)
+other-left : (d : Drive) (to port : ℕ) (b : Bool) → eqb to 0 ≡ b → eqb port 0 ≡ not b → Kept (pendingOn d port) (pendingOn (postedOn d to nothingPending) port)
 unfolding pendingOn postedOn pick
 other-left d to port true f a = rw (f, a) (nothing-new (d .pending1))
 other-left d to port false f a = rw (f, a) (nothing-new (d .pending0))
 
-module _ (m : Machine) (e : Event) (port : ℕ) (real : port ≤ 1) where
-  gained : {left : Pending} → Gained (pendingOn (m .drive) port) left → PendingFrame m e port left
-  gained g = grown (g .octet1) (g .octet2)
+module _ (m : Machine) (e : Event) (port : ℕ) (real : port ≤ 1) (octets : AreOctets (pendingOn (m .drive) port)) where
+  gained : {left : Pending} → Kept (pendingOn (m .drive) port) left → PendingFrame m e port left
+  gained g = kept (g .octet1 (octets .0)) (g .octet2 (octets .1))
 
   -- the status of a port clears that port's
   status-told : kindOf (e .kind) ≡ Use ReadStatus → e .port ≤ 1 → PendingFrame m e port (pendingOn (postedOn (m .drive) (e .port) nothingPending) port)
@@ -109,7 +113,7 @@ module _ (m : Machine) (e : Event) (port : ℕ) (real : port ≤ 1) where
   unfolding pendingOn selected ownerNoticed deselected afterReset
   pending-by Select z p =
       let d = m .drive in
-      gained (either (λ (x : Drive). Gained (pendingOn d port) (pendingOn x port)) _ (posted-more d (d .holding .owner) port _ (noticed-more _)) (nothing-new _))
+      gained (either (λ (x : Drive). Kept (pendingOn d port) (pendingOn x port)) _ (posted-more d (d .holding .owner) port _ (noticed-more _)) (nothing-new _))
   pending-by Deselect z p = gained (nothing-new _)
   pending-by Reset z p = byReset z (either-port (eqb port 0) _)
   pending-by Unknown z p = gained (nothing-new _)

@@ -1,5 +1,5 @@
 -- `frame`: a commit changes the named written fields of one sector and no other word; staging changes at one index; what is pending stays so.
-use Prim.Native.Nat.{ℕ, _+_, _-_, _≤_}
+use Prim.Native.Nat.{ℕ, _+_, _-_, _<_, _≤_}
 use mathlib.Core.Path.{_≡_}
 use mathlib.Core.Bool.{Bool, _&&_}
 use mathlib.Core.List.{List}
@@ -7,7 +7,7 @@ use lib.Dec.{leb, ltb}
 use lib.ListN.{length, getD, set}
 use Rattle.laws.specs.Pick.{pick}
 use Rattle.parts.specs.Control.{movesHeader, namesField1, namesField2, part}
-use Rattle.parts.specs.Pending.{OneBit, nothingPending, pendingOf, resetComplete, withBit}
+use Rattle.parts.specs.Pending.{nothingPending, pendingOf, resetComplete, StaysSet}
 use Rattle.parts.specs.Kind.{Use, Reset, WordFromHost, ReadStatus, kindOf, wordOf}
 use Rattle.drive.specs.State.{pendingOn}
 use Rattle.drive.specs.Transfer.{committed}
@@ -40,16 +40,14 @@ pub data StagingFrame (m : Machine) (e : Event) (left : List ℕ) : Type 0 where
   asItWas : left ≡ m .staging → StagingFrame m e left
   oneWord : kindOf (e .kind) ≡ Use WordFromHost → left ≡ set (m .staging) (m .drive .transfer .moved) (wordOf e) → StagingFrame m e left
 
--- An octet stays, or a bit goes pending in it; none goes.
-pub data Grown (octet : ℕ) : ℕ → Type 0 where
-  same : Grown octet octet
-  oneMore : {bit : ℕ} → OneBit bit → Grown octet (withBit octet bit)
-
--- What an event leaves pending on a port: no less than before, but for that port's own read status and for Reset.
+-- What an event leaves pending on a port: every bit that was, but for that port's own read status and for Reset.
 pub data PendingFrame (m : Machine) (e : Event) (port : ℕ) (left : Pending) : Type 0 where
-  grown : Grown (pendingOn (m .drive) port .octet1) (left .octet1) → Grown (pendingOn (m .drive) port .octet2) (left .octet2) → PendingFrame m e port left
+  kept : StaysSet (pendingOn (m .drive) port .octet1) (left .octet1) → StaysSet (pendingOn (m .drive) port .octet2) (left .octet2) → PendingFrame m e port left
   byStatus : kindOf (e .kind) ≡ Use ReadStatus → port ≡ e .port → left ≡ nothingPending → PendingFrame m e port left
   byReset : kindOf (e .kind) ≡ Reset → left ≡ pendingOf resetComplete 0 → PendingFrame m e port left
+
+abbrev pub AreOctets : Pending → Type 0
+AreOctets p = (p .octet1 < 256) × (p .octet2 < 256)
 
 pub record Frame : Type 0 where
   -- "At the last word the named written fields go to the sector and nothing else does."
@@ -57,4 +55,4 @@ pub record Frame : Type 0 where
   -- "Word k of a write, counted from 0 in that transfer, is staged at index k, and no other staging word changes."
   pub staging : (m : Machine) (e : Event) → StagingFrame m e ((after m e) .staging)
   -- "Read status answers 0 with the octets and clears that port's; nothing else but Reset clears them."
-  pub pending : (m : Machine) (e : Event) (port : ℕ) → port ≤ 1 → PendingFrame m e port (pendingOn ((after m e) .drive) port)
+  pub pending : (m : Machine) (e : Event) (port : ℕ) → port ≤ 1 → AreOctets (pendingOn (m .drive) port) → PendingFrame m e port (pendingOn ((after m e) .drive) port)

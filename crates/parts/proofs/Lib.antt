@@ -1,2 +1,3 @@
 pub mod ByBits
+pub mod Bits
 pub mod Partners

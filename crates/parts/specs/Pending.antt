@@ -1,5 +1,6 @@
 -- "Status": what is pending on a port, octets 1 and 2 of its response.
 use Prim.Native.Nat.{ℕ, _+_, _/_, _%_}
+use mathlib.Core.Path.{_≡_}
 use lib.Dec.{eqb}
 use Rattle.laws.specs.Pick.{pick}
 use Rattle.parts.specs.declared.pending.Pending.{Pending}
@@ -38,7 +39,11 @@ pub data OneBit : ℕ → Type 0 where
   bit5 : OneBit 0x20
   bit4 : OneBit 0x10
 
--- A bit goes pending: bits that are set stay set.
+-- The bits that are set in an octet stay set.
+abbrev pub StaysSet : ℕ → ℕ → Type 0
+StaysSet before after = (bit : ℕ) → OneBit bit → before / bit % 2 ≡ 1 → after / bit % 2 ≡ 1
+
+-- A bit goes pending; the others stay (`set-bits-stay`).
 unfoldable pub withBit : ℕ → ℕ → ℕ
 withBit octet bit = pick (eqb (octet / bit % 2) 1) octet (octet + bit)
 

@@ -1,24 +1,11 @@
 -- `with_bit` meets its contract: a bit that is not set has room in its octet.
 -- Assumes nothing.
-use Prim.Native.Nat.{ℕ, _+_, _/_, _%_, _<_}
-use mathlib.Core.Path.{_≡_}
 use native.Mathlib.Omega.{arith}
 use Rattle.laws.proofs.Pick.{steps}
-use Rattle.parts.specs.Pending.{OneBit, bit7, bit6, bit5, bit4, withBit}
+use Rattle.parts.specs.Pending.{withBit}
+use Rattle.parts.proofs.Bits.{has-room, positive}
 use Rattle.events.proofs.posting.with_bit.Statement.{statement}
 use Rattle.events.proofs.posting.with_bit.Tie as tie
-
-positive : {bit : ℕ} → OneBit bit → 0 < bit
-positive bit7 = omega arith
-positive bit6 = omega arith
-positive bit5 = omega arith
-positive bit4 = omega arith
-
-has-room : {bit : ℕ} (octet : ℕ) → OneBit bit → octet < 256 → (octet / bit % 2 ≡ 1 → ⊥) → octet + bit < 256
-has-room octet bit7 h n = omega arith
-has-room octet bit6 h n = omega arith
-has-room octet bit5 h n = omega arith
-has-room octet bit4 h n = omega arith
 
 div-if1 : tie.Need-div-if1
 div-if1 c = positive (c .pre)
