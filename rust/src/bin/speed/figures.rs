@@ -12,19 +12,16 @@ const EVENTS_PER_ROUND: usize = 400_000;
 /// Counted at two lengths, so that the difference is free of everything before the loop.
 const CYCLES: [usize; 2] = [1, 3];
 
-/// The figures of the proved and of the plain drive.
+/// The figures of the proved and of the plain drive, and the first by the second.
 pub struct Sides {
     pub rattle: f64,
     pub plain: f64,
+    pub ratio: f64,
 }
 
-impl Sides {
-    pub fn ratio(&self) -> f64 {
-        self.rattle / self.plain
-    }
-}
-
-/// Median nanoseconds per event, the loop included, and a check that both sides did the same.
+/// Median nanoseconds per event, the loop included, and a check that both sides did the same. The
+/// ratio is the median of the rounds' own: the sides of a round follow one another, so that a
+/// machine that changes its clock between two rounds does not change it.
 pub fn nanoseconds(workload: &Workload, call: Call) -> Sides {
     let cycles = EVENTS_PER_ROUND.div_ceil(workload.records.len());
     let events = (cycles * workload.records.len()) as f64;
@@ -45,8 +42,17 @@ pub fn nanoseconds(workload: &Workload, call: Call) -> Sides {
         benches[0].agrees_with(&benches[1]),
         "{name}: the sides differ"
     );
+    let ratios = times[0]
+        .iter()
+        .zip(&times[1])
+        .map(|(rattle, plain)| rattle / plain);
+    let ratio = median(ratios.collect());
     let [rattle, plain] = times.map(median);
-    Sides { rattle, plain }
+    Sides {
+        rattle,
+        plain,
+        ratio,
+    }
 }
 
 fn median(mut numbers: Vec<f64>) -> f64 {
@@ -62,9 +68,12 @@ pub fn instructions(workload: &Workload, number: usize, call: Call) -> Option<Si
         Some((long? - short?) / events)
     };
     let nothing = per_event(Side::Nothing)?;
+    let rattle = per_event(Side::Rattle)? - nothing;
+    let plain = per_event(Side::Plain)? - nothing;
     Some(Sides {
-        rattle: per_event(Side::Rattle)? - nothing,
-        plain: per_event(Side::Plain)? - nothing,
+        rattle,
+        plain,
+        ratio: rattle / plain,
     })
 }
 

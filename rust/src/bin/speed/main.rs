@@ -75,6 +75,10 @@ fn print_row(workload: &Workload, number: usize, call: Call) {
 }
 
 fn columns(sides: &Sides, places: usize) -> String {
-    let (rattle, plain, ratio) = (sides.rattle, sides.plain, sides.ratio());
+    let Sides {
+        rattle,
+        plain,
+        ratio,
+    } = sides;
     format!("{rattle:9.places$}{plain:9.places$}{ratio:9.2}")
 }
