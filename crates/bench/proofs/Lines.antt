@@ -6,7 +6,6 @@ use mathlib.Core.List.{List, _∷_, _++_, append-assoc}
 use mathlib.Core.Option.{Option, some, none as nothing}
 use native.Mathlib.Omega.{arith}
 use lib.ListN.{length, drop, length-append}
-use lib.Seq.{drop-drop}
 use Rattle.parts.specs.declared.event.Event.{Event}
 use Rattle.drive.specs.Answer.{refusalIn, paper}
 use Rattle.drive.specs.Event.{Handled}
@@ -16,6 +15,7 @@ use Rattle.drive.specs.declared.drive.Drive.{Drive}
 use Rattle.drive.specs.declared.answer.Answer.{Answer}
 use Rattle.drive.specs.declared.answer.Outcome.{Outcome}
 use Rattle.drive.proofs.Calls.{demand-3-of-calls}
+use Rattle.drive.proofs.Turns.{events-step}
 use Rattle.bench.specs.Text.{field, numberedLine}
 use Rattle.bench.specs.Line.{statusText, lineOf, ownerLine}
 use Rattle.drive.specs.Batch.{eventOf, eventsIn, eventsOf}
@@ -51,11 +51,10 @@ left records count i m = linesOfRun (i + 1) m (eventsIn (count - i) (drop (i * 8
 module _ (records : List ℕ) (count : ℕ) where
   events-left : (i : ℕ) → i < count
       → eventsIn (count - i) (drop (i * 8) records) ≡ eventOf (drop (i * 8) records) ∷ eventsIn (count - (i + 1)) (drop ((i + 1) * 8) records)
-  unfolding eventsIn
   events-left i h =
-      let one : count - i ≡ suc (count - (i + 1)) = omega arith in
-      let behind : (i + 1) * 8 ≡ i * 8 + 8 = omega arith in
-      rw (one, behind, drop-drop 8 (i * 8) records)
+      let here : i * 8 ≡ 8 * i = omega arith in
+      let behind : (i + 1) * 8 ≡ 8 * (i + 1) = omega arith in
+      rw (here, behind) (events-step count i records h)
 
   pub left-next : (i : ℕ) {d : Drive} {e : Event} {sectors staging sectors′ staging′ : List ℕ} {r : Outcome} → i < count → e ≡ eventOf (drop (i * 8) records)
       → Handled d e sectors staging r sectors′ staging′

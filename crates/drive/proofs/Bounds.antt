@@ -1,4 +1,4 @@
--- The set-up's numbers are small, so no product of them wraps, and a sector of the drive lies within the words of all sectors.
+-- The set-up's numbers are small, so no product of them wraps, and a sector of the drive lies within the words of all sectors. The words to come.
 -- Assumes nothing.
 use Prim.Native.Nat.{ℕ, _+_, _*_, _≤_, _<_}
 use mathlib.Core.Path.{_≡_}
@@ -9,7 +9,8 @@ use native.Mathlib.Omega.{arith}
 use borrow.Author.Tests.{leb-true, ltb-true}
 use Rattle.laws.proofs.Tests.{and-l, and-r}
 use Rattle.laws.proofs.Pick.{pick-le}
-use Rattle.parts.specs.Control.{headerPasses, namesField1, namesField2, wordsToCome}
+use Rattle.laws.specs.Pick.{pick}
+use Rattle.parts.specs.Control.{controlOf, isWrite, headerPasses, namesField1, namesField2, part, wordsToCome}
 use Rattle.parts.specs.Setup.{withinLimits, sectorWords, allWords, sectorNumber, sectorStart, isPlace}
 use Rattle.parts.specs.declared.setup.Setup.{Setup}
 use Rattle.parts.specs.declared.setup.Place.{Place}
@@ -64,6 +65,11 @@ pub words-within : (s : Setup) (c : ℕ) → wordsToCome s c ≤ sectorWords s
 unfolding wordsToCome
 words-within s c =
     omega (arith, pick-le (headerPasses c) (s .header), pick-le (namesField1 c) (s .field1), pick-le (namesField2 c) (s .field2))
+
+-- a write takes the header's words and those of the fields that it names
+pub write-words : (s : Setup) (c : ℕ) → isWrite (controlOf c) ≡ true → wordsToCome s c ≡ s .header + part (namesField1 c) (s .field1) + part (namesField2 c) (s .field2)
+unfolding wordsToCome headerPasses pick
+write-words s c h = rw h
 
 pub words-few : (s : Setup) (c : ℕ) → Limits s → wordsToCome s c ≤ 2056
 words-few s c l = omega (arith, words-within s c, sector-words-few s l)

@@ -16,7 +16,7 @@ use Rattle.laws.specs.Pick.{pick}
 use Rattle.laws.proofs.Pick.{pick-alike, pick-le}
 use Rattle.laws.proofs.Tests.{and-l, and-r, or-l}
 use Rattle.parts.specs.Setup.{sectorStart}
-use Rattle.parts.specs.Control.{controlOf, isWrite, isRead, headerPasses, movesHeader, namesField1, namesField2, part, wordsToCome}
+use Rattle.parts.specs.Control.{controlOf, isWrite, isRead, movesHeader, namesField1, namesField2, part, wordsToCome}
 use Rattle.drive.specs.Answer.{Paper, paper}
 use Rattle.parts.specs.Kind.{Kind, Select, Deselect, Use, Reset, Unknown, Work, kindOf, wordOf, placeOf}
 use Rattle.drive.specs.State.{Result, withPlace, withTransfer, postedOn}
@@ -35,7 +35,7 @@ use Rattle.drive.specs.declared.drive.Drive.{Drive}
 use Rattle.parts.specs.declared.event.Event.{Event}
 use Rattle.drive.specs.declared.answer.Answer.{Answer}
 use Rattle.drive.specs.declared.answer.Outcome.{Outcome}
-use Rattle.drive.proofs.Bounds.{words-within}
+use Rattle.drive.proofs.Bounds.{words-within, write-words}
 use Rattle.drive.proofs.Sound.{room}
 use Rattle.drive.proofs.Own.{able-to-write}
 use Rattle.drive.proofs.Frame.{commit-frame, staged-room}
@@ -112,11 +112,6 @@ quiet-noted {d} staging t (Outcomes.aimed h) = refl
 quiet-noted {d} staging t Outcomes.statusTold = refl
 
 -- ---- a completed write
-
--- a write takes the header's words and those of the fields that it names
-pub write-words : (s : Setup) (c : ℕ) → isWrite (controlOf c) ≡ true → wordsToCome s c ≡ s .header + part (namesField1 c) (s .field1) + part (namesField2 c) (s .field2)
-unfolding wordsToCome headerPasses pick
-write-words s c h = rw h
 
 -- an address within a named part is that of one of its words
 part-words : (named : Bool) (start count address : ℕ) → (named && isIn start count address) ≡ true → address - start < part named count

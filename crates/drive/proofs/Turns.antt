@@ -119,7 +119,8 @@ lent-rest out part at h =
     ap (λ (rest : List ℕ). take at out ++ (part ++ rest)) (drop-drop (length out - at) at out ∙ ap (λ (n : ℕ). drop n out) e ∙ drop-length out)
     ∙ ap (λ (rest : List ℕ). take at out ++ rest) (append-nil part)
 
-events-step : (count i : ℕ) (records : List ℕ) → i < count
+-- the events that are left are the next and those behind it
+pub events-step : (count i : ℕ) (records : List ℕ) → i < count
     → eventsIn (count - i) (drop (8 * i) records) ≡ eventOf (drop (8 * i) records) ∷ eventsIn (count - (i + 1)) (drop (8 * (i + 1)) records)
 unfolding eventsIn
 events-step count i records h =

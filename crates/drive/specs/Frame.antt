@@ -46,6 +46,7 @@ pub data PendingFrame (m : Machine) (e : Event) (port : ℕ) (left : Pending) : 
   byStatus : kindOf (e .kind) ≡ Use ReadStatus → port ≡ e .port → left ≡ nothingPending → PendingFrame m e port left
   byReset : kindOf (e .kind) ≡ Reset → left ≡ pendingOf resetComplete 0 → PendingFrame m e port left
 
+-- What is pending is two octets, as in every drive that is made of octets.
 abbrev pub AreOctets : Pending → Type 0
 AreOctets p = (p .octet1 < 256) × (p .octet2 < 256)
 

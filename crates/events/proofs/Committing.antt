@@ -16,6 +16,16 @@ use Rattle.parts.specs.declared.setup.Setup.{Setup}
 use Rattle.drive.specs.Transfer.{committed}
 use Rattle.drive.specs.Able.{Room}
 
+-- word k of those from `from` on goes behind the ones before it
+next-word : (d staging : List ℕ) (at from end k : ℕ) → from ≤ k → k < end → at + (end - from) ≤ length d → end ≤ length staging
+    → set (paste d at (drop from staging) (k - from)) (at + (k - from)) (getD staging k 0) ≡ paste d at (drop from staging) (k + 1 - from)
+next-word d staging at from end k f h room stage =
+    let word : k ≡ from + (k - from) = omega arith in
+    let next : k - from + 1 ≡ k + 1 - from = omega arith in
+    ap (λ (i : ℕ). set (paste d at (drop from staging) (k - from)) (at + (k - from)) (getD staging i 0)) word
+    ∙ copy-step d at staging from (end - from) (k - from) (omega arith) room (omega arith)
+    ∙ ap (λ (n : ℕ). paste d at (drop from staging) n) next
+
 module _ (d staging : List ℕ) (start first header fields : ℕ) where
   -- the header's words before k are in the sector, from the first that is written
   abbrev headed : ℕ → List ℕ
@@ -60,24 +70,11 @@ module _ (d staging : List ℕ) (start first header fields : ℕ) where
   header-word : (k count : ℕ) → Within count → first ≤ k → k < header → set (headed k) (start + k) (getD staging k 0) ≡ headed (k + 1)
   header-word k count w f h =
       let at : start + k ≡ start + first + (k - first) = omega arith in
-      let from : k ≡ first + (k - first) = omega arith in
-      let next : k - first + 1 ≡ k + 1 - first = omega arith in
-      let room : start + first + (header - first) ≤ length d = omega (arith, w .sector) in
-      let stage : first + (header - first) ≤ length staging = omega (arith, w .stage, w .headers) in
       ap (λ (i : ℕ). set (headed k) i (getD staging k 0)) at
-      ∙ ap (λ (i : ℕ). set (headed k) (start + first + (k - first)) (getD staging i 0)) from
-      ∙ copy-step d (start + first) staging first (header - first) (k - first) (omega arith) room stage
-      ∙ ap (λ (n : ℕ). paste d (start + first) (drop first staging) n) next
+      ∙ next-word d staging (start + first) first header k f h (omega (arith, w .sector, w .from)) (omega (arith, w .stage, w .headers))
 
   field-word : (k count : ℕ) → Within count → header ≤ k → k < count → set (fielded (k - header)) (fields + (k - header)) (getD staging k 0) ≡ fielded (k + 1 - header)
-  field-word k count w f h =
-      let from : k ≡ header + (k - header) = omega arith in
-      let next : k - header + 1 ≡ k + 1 - header = omega arith in
-      let room : fields + (count - header) ≤ length (headed header) = omega (arith, headed-length count w, w .room) in
-      let stage : header + (count - header) ≤ length staging = omega (arith, w .stage) in
-      ap (λ (i : ℕ). set (fielded (k - header)) (fields + (k - header)) (getD staging i 0)) from
-      ∙ copy-step (headed header) fields staging header (count - header) (k - header) (omega arith) room stage
-      ∙ ap (λ (n : ℕ). fielded n) next
+  field-word k count w f h = next-word (headed header) staging fields header count k f h (omega (arith, headed-length count w, w .room)) (w .stage)
 
   -- the first word of the fields follows all of the header's
   first-field : (k : ℕ) (l : List ℕ) → k ≡ header → l ≡ headed k → l ≡ fielded (k - header)

@@ -1,13 +1,13 @@
 -- What is pending fits its octets after every event, so that the words of the state say it.
 -- Assumes nothing.
-use Prim.Native.Nat.{ℕ, _+_, _/_, _%_, _<_}
-use mathlib.Core.Path.{_≡_}
+use Prim.Native.Nat.{ℕ, _/_, _%_, _<_}
 use mathlib.Core.List.{List}
 use native.Mathlib.Omega.{arith}
 use borrow.Author.Tests.{eqb-false}
 use lib.Dec.{eqb}
 use Rattle.laws.proofs.Pick.{either, cases}
-use Rattle.parts.specs.Pending.{OneBit, bit7, bit6, bit5, bit4, withBit, noticed, faulted, nothingPending}
+use Rattle.parts.specs.Pending.{OneBit, withBit, noticed, faulted, nothingPending}
+use Rattle.parts.proofs.Bits.{has-room}
 use Rattle.parts.specs.Kind.{Kind, Select, Deselect, Use, Reset, Unknown, Work}
 use Rattle.parts.specs.declared.event.Event.{Event}
 use Rattle.parts.specs.declared.pending.Pending.{Pending}
@@ -23,15 +23,9 @@ use Rattle.drive.proofs.Outcomes
 abbrev pub Octets : Drive → Type 0
 Octets d = (d .pending0 .octet2 < 256) × (d .pending1 .octet2 < 256)
 
-unset-room : {bit : ℕ} (octet : ℕ) → OneBit bit → octet < 256 → (octet / bit % 2 ≡ 1 → ⊥) → octet + bit < 256
-unset-room octet bit7 h n = omega arith
-unset-room octet bit6 h n = omega arith
-unset-room octet bit5 h n = omega arith
-unset-room octet bit4 h n = omega arith
-
 bit-fits : {bit : ℕ} (octet : ℕ) → OneBit bit → octet < 256 → withBit octet bit < 256
 unfolding withBit
-bit-fits {bit} octet b h = cases (λ (n : ℕ). n < 256) (eqb (octet / bit % 2) 1) (λ z. h) (λ z. unset-room octet b h (eqb-false (octet / bit % 2) 1 z))
+bit-fits {bit} octet b h = cases (λ (n : ℕ). n < 256) (eqb (octet / bit % 2) 1) (λ z. h) (λ z. has-room octet b h (eqb-false (octet / bit % 2) 1 z))
 
 pending-fits : (d : Drive) (port : ℕ) → Octets d → pendingOn d port .octet2 < 256
 unfolding pendingOn

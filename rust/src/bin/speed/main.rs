@@ -48,7 +48,7 @@ fn print_tables() {
         println!();
     }
     println!(
-        "Times are medians of {ROUNDS} interleaved rounds. Aims: a ratio of 1.0; at most 1.30"
+        "Times and their ratios are medians of {ROUNDS} rounds. Aims: a ratio of 1.0; at most 1.30"
     );
     println!("in instructions and 1.15 in time.");
 }

@@ -1,6 +1,6 @@
 -- `commit` meets its contract: after k words, those before k are in their places.
 -- Assumes nothing.
-use Prim.Native.Nat.{_-_, _≤_}
+use Prim.Native.Nat.{_-_, _<_, _≤_}
 use mathlib.Core.Path.{_≡_, refl, _∙_, ap}
 use mathlib.Core.Bool.{Bool}
 use denote.Ref.{now}
@@ -17,6 +17,10 @@ Inv-loop control start sectors₀ staging header field1 field2 fields count k₀
 
 abbrev μ-loop : tie.MeasureT-loop
 μ-loop control start sectors₀ staging header field1 field2 fields count k₀ at₀ sectors k at = count - k
+
+inside : (c : tie.Joined1 Inv-loop μ-loop) → (c .if1) .at < length (now ((c .before .before .before .before .before .before .before .before .before .before .before .before .before .args) .sectors))
+inside c =
+    place-within (now ((c .before .before .before .before .before .before .before .before .before .before .before .before .before .args) .sectors)) (now ((c .before .before .before .before .before .before .before .before .before .before .before .before .before .args) .staging)) ((c .before .before .before .before .before .before .before .before .before .before .before .before .before .args) .start) _ _ _ _ _ _ _ _ (λ g. g .taken) (λ n. n .left) ((c .before .loop-test) .taken) ((c .before .before .loop) .inv .3) ((c .if1) .came) (record { sector = search needs; room = search needs; stage = search needs; from = search needs; headers = search needs })
 
 cast-header : tie.Need-cast-header Inv-loop μ-loop
 cast-header c = search needs
@@ -73,13 +77,13 @@ shared-slice-read-sectors : tie.Need-shared-slice-read-sectors Inv-loop μ-loop
 shared-slice-read-sectors c = search needs
 
 mul-sectors-2 : tie.Need-mul-sectors-2 Inv-loop μ-loop
-mul-sectors-2 c = let b = place-within (now ((c .before .before .before .before .before .before .before .before .before .before .before .before .before .before .before .args) .sectors)) (now ((c .before .before .before .before .before .before .before .before .before .before .before .before .before .before .before .args) .staging)) ((c .before .before .before .before .before .before .before .before .before .before .before .before .before .before .before .args) .start) _ _ _ _ _ _ _ _ (λ g. g .taken) (λ n. n .left) ((c .before .before .before .loop-test) .taken) ((c .before .before .before .before .loop) .inv .3) ((c .before .before .if1) .came) (record { sector = search needs; room = search needs; stage = search needs; from = search needs; headers = search needs }) in search needs
+mul-sectors-2 c = let b = inside (c .before .before) in search needs
 
 slice-write-sectors : tie.Need-slice-write-sectors Inv-loop μ-loop
-slice-write-sectors c = let b = place-within (now ((c .before .before .before .before .before .before .before .before .before .before .before .before .before .before .before .args) .sectors)) (now ((c .before .before .before .before .before .before .before .before .before .before .before .before .before .before .before .args) .staging)) ((c .before .before .before .before .before .before .before .before .before .before .before .before .before .before .before .args) .start) _ _ _ _ _ _ _ _ (λ g. g .taken) (λ n. n .left) ((c .before .before .before .loop-test) .taken) ((c .before .before .before .before .loop) .inv .3) ((c .before .before .if1) .came) (record { sector = search needs; room = search needs; stage = search needs; from = search needs; headers = search needs }) in search needs
+slice-write-sectors c = let b = inside (c .before .before) in search needs
 
 add-at-2 : tie.Need-add-at-2 Inv-loop μ-loop
-add-at-2 c = let b = place-within (now ((c .before .before .before .before .before .before .before .before .before .before .before .before .before .before .before .args) .sectors)) (now ((c .before .before .before .before .before .before .before .before .before .before .before .before .before .before .before .args) .staging)) ((c .before .before .before .before .before .before .before .before .before .before .before .before .before .before .before .args) .start) _ _ _ _ _ _ _ _ (λ g. g .taken) (λ n. n .left) ((c .before .before .before .loop-test) .taken) ((c .before .before .before .before .loop) .inv .3) ((c .before .before .if1) .came) (record { sector = search needs; room = search needs; stage = search needs; from = search needs; headers = search needs }) in search needs
+add-at-2 c = let b = inside (c .before .before) in search needs
 
 add-k : tie.Need-add-k Inv-loop μ-loop
 add-k c = search needs
