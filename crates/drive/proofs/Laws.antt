@@ -1,7 +1,7 @@
 -- The laws through which the theorems about runs speak of an event: a refusal that changes nothing, or what its kind does with all tests passed.
 -- Assumes nothing.
 use Prim.Native.Nat.{ℕ, zero, suc, _<_}
-use mathlib.Core.Path.{_≡_, refl, sym, ap, _∙_}
+use mathlib.Core.Path.{_≡_, refl, sym, ap, subst, _∙_}
 use mathlib.Core.Bool.{true, false, not, true≢false, false≢true}
 use mathlib.Core.List.{List}
 use native.Mathlib.Omega.{arith}
@@ -71,6 +71,13 @@ by-cases P m e refused done =
     let k = kindOf (e .kind) in
     by-refusal P (refusalOf k (m .drive) e (m .sectors) (m .staging)) m (doneBy k m e) (refused _ refl) (λ z. done k refl (passed-all k m e z))
 
+-- an accepted event whose kind is known
+pub accepted-by : (P : Answer → Machine → Type 0) (k : Kind) (m : Machine) (e : Event) → kindOf (e .kind) ≡ k → isRefused (answerTo m e) ≡ false
+    → (AllPassed k m e → P ((doneBy k m e) .outcome .answer) (left (doneBy k m e))) → P (answerTo m e) (after m e)
+accepted-by P k m e z accepted done =
+    by-cases (λ answer next. isRefused answer ≡ false → P answer next) m e (λ n y r. absurd (true≢false r))
+    (λ k′ y p r. subst (λ (j : Kind). AllPassed j m e → P ((doneBy j m e) .outcome .answer) (left (doneBy j m e))) (sym z ∙ y) done p) accepted
+
 -- ---- kinds 3 to 9 leave the set-up and who is selected, the owner and the hold, and their answers are no refusals
 
 pub record Stays (d : Drive) (o : Outcome) : Type 0 where
@@ -85,11 +92,11 @@ quiet-stays : {d : Drive} {e : Event} {sectors : List ℕ} {work : Work} {o : Ou
 unfolding postedOn headStepped atItsTarget ended
 quiet-stays (Outcomes.unsolicited q) = as-it-was refl refl refl
 quiet-stays (Outcomes.bad q b) = as-it-was refl refl refl
-quiet-stays Outcomes.stepped = as-it-was refl refl refl
-quiet-stays (Outcomes.nothingToCome Outcomes.inPlace) = as-it-was refl refl refl
-quiet-stays (Outcomes.nothingToCome (Outcomes.atTarget t)) = as-it-was refl refl refl
-quiet-stays (Outcomes.opens Outcomes.inPlace o z) = as-it-was refl refl refl
-quiet-stays (Outcomes.opens (Outcomes.atTarget t) o z) = as-it-was refl refl refl
+quiet-stays (Outcomes.stepped k) = as-it-was refl refl refl
+quiet-stays (Outcomes.nothingToCome (Outcomes.inPlace a) w) = as-it-was refl refl refl
+quiet-stays (Outcomes.nothingToCome (Outcomes.atTarget a t) w) = as-it-was refl refl refl
+quiet-stays (Outcomes.opens (Outcomes.inPlace a) o z) = as-it-was refl refl refl
+quiet-stays (Outcomes.opens (Outcomes.atTarget a t) o z) = as-it-was refl refl refl
 quiet-stays Outcomes.takenLast = as-it-was refl refl refl
 quiet-stays (Outcomes.taken z) = as-it-was refl refl refl
 quiet-stays Outcomes.ends = as-it-was refl refl refl

@@ -51,11 +51,11 @@ quiet-sound : {d : Drive} {e : Event} {sectors staging : List ℕ} {work : Work}
 unfolding atItsTarget
 quiet-sound {d} p n t (Outcomes.unsolicited q) = sound d (p .sound)
 quiet-sound {d} {e} p n t (Outcomes.bad q b) = let s = sound d (p .sound) in posted-kept (e .port) _ s (fault-stray _ b (pending-stray (e .port) s))
-quiet-sound {d} p n t Outcomes.stepped = head-step-kept (sound d (p .sound))
-quiet-sound {d} p n t (Outcomes.nothingToCome Outcomes.inPlace) = ended-kept (sound d (p .sound))
-quiet-sound {d} p n t (Outcomes.nothingToCome (Outcomes.atTarget z)) = ended-kept (at-target-kept (sound d (p .sound)) z)
-quiet-sound {d} p n t (Outcomes.opens Outcomes.inPlace o z) = transfer-kept (sound d (p .sound)) n o (some-to-come _ z)
-quiet-sound {d} p n t (Outcomes.opens (Outcomes.atTarget y) o z) = transfer-kept (at-target-kept (sound d (p .sound)) y) n o (some-to-come _ z)
+quiet-sound {d} p n t (Outcomes.stepped k) = head-step-kept (sound d (p .sound))
+quiet-sound {d} p n t (Outcomes.nothingToCome (Outcomes.inPlace a) w) = ended-kept (sound d (p .sound))
+quiet-sound {d} p n t (Outcomes.nothingToCome (Outcomes.atTarget a z) w) = ended-kept (at-target-kept (sound d (p .sound)) z)
+quiet-sound {d} p n t (Outcomes.opens (Outcomes.inPlace a) o z) = transfer-kept (sound d (p .sound)) n o (some-to-come _ z)
+quiet-sound {d} p n t (Outcomes.opens (Outcomes.atTarget a y) o z) = transfer-kept (at-target-kept (sound d (p .sound)) y) n o (some-to-come _ z)
 quiet-sound {d} p n t Outcomes.takenLast = ended-kept (sound d (p .sound))
 quiet-sound {d} p n t (Outcomes.taken z) =
     let r = not-false (isReadOpen (d .transfer)) t in

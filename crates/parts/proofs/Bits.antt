@@ -5,10 +5,11 @@ use mathlib.Core.Path.{_≡_, refl}
 use mathlib.Core.Bool.{Bool, true, not, _||_}
 use mathlib.Core.List.{List, [], _∷_}
 use native.Mathlib.Omega.{arith}
-use borrow.Author.Tests.{eqb-true}
+use borrow.Author.Tests.{eqb-true, eqb-false}
 use lib.Dec.{eqb}
 use Rattle.laws.specs.Pick.{pick}
 use Rattle.laws.specs.Lists.{oneOf}
+use Rattle.laws.proofs.Pick.{cases}
 use Rattle.laws.proofs.Lists.{everyBelow, every-below, every, every-one-of}
 use Rattle.parts.specs.Pending.{OneBit, bit7, bit6, bit5, bit4, StaysSet, withBit}
 
@@ -23,6 +24,10 @@ has-room octet bit7 h n = omega arith
 has-room octet bit6 h n = omega arith
 has-room octet bit5 h n = omega arith
 has-room octet bit4 h n = omega arith
+
+pub bit-fits : {bit : ℕ} (octet : ℕ) → OneBit bit → octet < 256 → withBit octet bit < 256
+unfolding withBit
+bit-fits {bit} octet b h = cases (λ (n : ℕ). n < 256) (eqb (octet / bit % 2) 1) (λ z. h) (λ z. has-room octet b h (eqb-false (octet / bit % 2) 1 z))
 
 -- ---- one computed test over all octets
 

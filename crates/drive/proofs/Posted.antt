@@ -1,0 +1,77 @@
+-- What is pending changes by a bit more, by a read status and by a reset alone: what these keep, every event keeps on both ports.
+-- Assumes nothing.
+use Prim.Native.Nat.{ℕ}
+use mathlib.Core.List.{List}
+use Rattle.laws.proofs.Pick.{either}
+use Rattle.parts.specs.Pending.{OneBit, resetComplete, pendingOf, nothingPending, noticed, faulted}
+use Rattle.parts.specs.Kind.{Kind, Select, Deselect, Use, Reset, Unknown, Work}
+use Rattle.parts.specs.declared.event.Event.{Event}
+use Rattle.parts.specs.declared.pending.Pending.{Pending}
+use Rattle.drive.specs.State.{Result, pendingOn, postedOn}
+use Rattle.drive.specs.Drive.{ownerNoticed, selected, deselected, afterReset, headStepped, atItsTarget, ended}
+use Rattle.drive.specs.Run.{Machine, after}
+use Rattle.drive.specs.declared.drive.Drive.{Drive}
+use Rattle.drive.specs.declared.answer.Outcome.{Outcome}
+use Rattle.drive.proofs.Laws.{by-cases, doneBy}
+use Rattle.drive.proofs.Outcomes
+
+-- a property of what is pending on a port that every posting keeps
+pub record Postable (P : Pending → Type 0) : Type 0 where
+  pub nothing : P nothingPending
+  pub reset : P (pendingOf resetComplete 0)
+  pub notice : (p : Pending) → P p → P (noticed p)
+  pub fault : {bit : ℕ} (p : Pending) → OneBit bit → P p → P (faulted p bit)
+
+abbrev pub OnBoth : (Pending → Type 0) → Drive → Type 0
+OnBoth P d = P (d .pending0) × P (d .pending1)
+
+pub on-either : (P : Pending → Type 0) (d : Drive) (port : ℕ) → OnBoth P d → P (pendingOn d port)
+unfolding pendingOn
+on-either P d port o = either P _ (o .0) (o .1)
+
+module _ (P : Pending → Type 0) (q : Postable P) where
+  posted : (d : Drive) (port : ℕ) (p : Pending) → OnBoth P d → P p → OnBoth P (postedOn d port p)
+  unfolding postedOn
+  posted d port p o h = (either P _ h (o .0), either P _ (o .1) h)
+
+  sought : {d at : Drive} {c : ℕ} → Outcomes.Sought d c at → OnBoth P d → OnBoth P at
+  unfolding atItsTarget
+  sought (Outcomes.inPlace a) o = o
+  sought (Outcomes.atTarget a z) o = o
+
+  quiet-keeps : {d : Drive} {e : Event} {sectors : List ℕ} {work : Work} {o : Outcome} → OnBoth P d → Outcomes.Quiet d e sectors work o → OnBoth P (o .drive)
+  unfolding headStepped ended
+  quiet-keeps o (Outcomes.unsolicited r) = o
+  quiet-keeps {d} {e} o (Outcomes.bad r b) = posted d (e .port) _ o (q .fault _ b (on-either P d (e .port) o))
+  quiet-keeps o (Outcomes.stepped k) = o
+  quiet-keeps o (Outcomes.nothingToCome s w) = sought s o
+  quiet-keeps o (Outcomes.opens s c z) = sought s o
+  quiet-keeps o Outcomes.takenLast = o
+  quiet-keeps o (Outcomes.taken z) = o
+  quiet-keeps o Outcomes.ends = o
+  quiet-keeps o (Outcomes.placed h) = o
+  quiet-keeps o (Outcomes.aimed h) = o
+  quiet-keeps {d} {e} o Outcomes.statusTold = posted d (e .port) nothingPending o (q .nothing)
+
+  work-keeps : {d : Drive} {e : Event} {sectors staging : List ℕ} {work : Work} {r : Result} → OnBoth P d → Outcomes.WorkDone d e sectors staging work r
+      → OnBoth P (r .outcome .drive)
+  unfolding ended
+  work-keeps o (Outcomes.quiet w) = quiet-keeps o w
+  work-keeps o Outcomes.miscompared = o
+  work-keeps o (Outcomes.completed z) = o
+  work-keeps o (Outcomes.more z) = o
+
+  notice-keeps : (d : Drive) (port : ℕ) → OnBoth P d → OnBoth P (ownerNoticed d port)
+  unfolding ownerNoticed
+  notice-keeps d port o = either (OnBoth P) _ (posted d (d .holding .owner) _ o (q .notice _ (on-either P d (d .holding .owner) o))) o
+
+  kind-keeps : (k : Kind) (m : Machine) (e : Event) → OnBoth P (m .drive) → OnBoth P ((doneBy k m e) .outcome .drive)
+  unfolding selected deselected afterReset
+  kind-keeps Select m e o = notice-keeps (m .drive) (e .port) o
+  kind-keeps Deselect m e o = o
+  kind-keeps Reset m e o = (q .reset, q .reset)
+  kind-keeps Unknown m e o = o
+  kind-keeps (Use work) m e o = work-keeps o (Outcomes.work-done (m .drive) e (m .sectors) (m .staging) work)
+
+  pub kept-on-both : (m : Machine) (e : Event) → OnBoth P (m .drive) → OnBoth P ((after m e) .drive)
+  kept-on-both m e o = by-cases (λ answer next. OnBoth P (next .drive)) m e (λ n z. o) (λ k z p. kind-keeps k m e o)
