@@ -1,8 +1,8 @@
 -- The journal and the drive keep step: after every event the write that the journal has going is the drive's open one,
 -- and the sectors are what the completed writes made of them.
 -- Assumes nothing.
-use Prim.Native.Nat.{ℕ, _+_, _-_, _<_}
-use mathlib.Core.Path.{_≡_, refl, sym, ap, _∙_}
+use Prim.Native.Nat.{ℕ, _+_, _-_, _<_, _≤_}
+use mathlib.Core.Path.{_≡_, refl, sym, ap, subst, _∙_}
 use mathlib.Core.Bool.{Bool, true, false, not, _&&_, _||_, true≢false, false≢true}
 use mathlib.Core.List.{List, [], _∷_, _++_}
 use mathlib.Core.Option.{Option, some, none}
@@ -10,8 +10,8 @@ use native.Mathlib.Numerals.{add-one}
 use native.Mathlib.Omega.{arith}
 use borrow.Author.Tests.{eqb-true, leb-true, ltb-true, not-false}
 use lib.Dec.{eqb, leb, ltb}
-use lib.ListN.{getD, take, set}
-use lib.Seq.{take-suc-set, getD-take}
+use lib.ListN.{length, getD, take, set, length-append}
+use lib.Seq.{length-take-le, take-suc-set, getD-take}
 use Rattle.laws.specs.Pick.{pick}
 use Rattle.laws.proofs.Pick.{pick-alike, pick-le}
 use Rattle.laws.proofs.Tests.{and-l, and-r, or-l}
@@ -28,7 +28,7 @@ use Rattle.drive.specs.Able.{Passable}
 use Rattle.drive.specs.Run.{Machine, machine, answerTo, after, answers, final}
 use Rattle.drive.specs.Accepted.{isRefused}
 use Rattle.drive.specs.Frame.{isIn, wordWritten}
-use Rattle.drive.specs.Journal.{Write, Page, page, noted, pageAfter, journalFrom, lastWrite}
+use Rattle.drive.specs.Journal.{Write, withWord, Page, page, noted, pageAfter, journalFrom, lastWrite, Whole, AllWhole}
 use Rattle.parts.specs.declared.control.Control.{Control}
 use Rattle.parts.specs.declared.setup.Setup.{Setup}
 use Rattle.drive.specs.declared.drive.Drive.{Drive}
@@ -36,7 +36,7 @@ use Rattle.parts.specs.declared.event.Event.{Event}
 use Rattle.drive.specs.declared.answer.Answer.{Answer}
 use Rattle.drive.specs.declared.answer.Outcome.{Outcome}
 use Rattle.drive.proofs.Bounds.{words-within, write-words}
-use Rattle.drive.proofs.Sound.{room}
+use Rattle.drive.proofs.Sound.{sound, room}
 use Rattle.drive.proofs.Own.{able-to-write}
 use Rattle.drive.proofs.Frame.{commit-frame, staged-room}
 use Rattle.drive.proofs.Laws.{by-cases, doneBy, left, AllPassed, accepts}
@@ -76,6 +76,14 @@ read-not-write Control.Reserved h = refl
 read-not-write Control.Unsupported h = refl
 read-not-write Control.Invalid h = refl
 
+pub write-not-read : (k : Control) → isWrite k ≡ true → isRead k ≡ false
+write-not-read Control.Write h = refl
+write-not-read Control.Read h = absurd (false≢true h)
+write-not-read Control.StepHead h = refl
+write-not-read Control.Reserved h = refl
+write-not-read Control.Unsupported h = refl
+write-not-read Control.Invalid h = refl
+
 -- ---- kinds 3 to 9
 
 -- kinds 3, 7 and 8 that were stopped or bad leave the page as it was
@@ -100,8 +108,8 @@ quiet-noted : {d : Drive} {e : Event} {sectors : List ℕ} {work : Work} {o : Ou
 unfolding paper goingOn postedOn headStepped ended
 quiet-noted {d} {e} staging t (Outcomes.unsolicited q) = request-noted q e _ (goingOn d staging) refl
 quiet-noted {d} {e} staging t (Outcomes.bad q b) = request-noted q e _ (goingOn d staging) refl
-quiet-noted {d} staging t Outcomes.stepped = still-none d (headStepped d) staging (not-written d t) (not-written d t)
-quiet-noted {d} staging t (Outcomes.nothingToCome {at = at} q) = still-none d (ended at) staging (not-written d t) no-write
+quiet-noted {d} staging t (Outcomes.stepped k) = still-none d (headStepped d) staging (not-written d t) (not-written d t)
+quiet-noted {d} staging t (Outcomes.nothingToCome {at = at} q w) = still-none d (ended at) staging (not-written d t) no-write
 quiet-noted {d} staging t (Outcomes.opens q o z) = refl
 quiet-noted {d} staging t Outcomes.takenLast = still-none d (ended d) staging (being-read d t) no-write
 quiet-noted {d} staging t (Outcomes.taken z) =
@@ -140,11 +148,14 @@ enough-words s c start words address before w =
 record InStep (m : Machine) (p : Page) (n : Machine) : Type 0 where
   going : p .going ≡ goingOn (n .drive) (n .staging)
   word : (address : ℕ) → getD (n .sectors) address 0 ≡ lastWrite (m .drive .setup) (p .complete) address (getD (m .sectors) address 0)
+  whole : AllWhole (m .drive .setup) (p .complete)
 
 -- nothing completed, no sector word changed
 nothing-complete : {m n : Machine} {p : Page} → n .sectors ≡ m .sectors → p ≡ page (goingOn (n .drive) (n .staging)) [] → InStep m p n
 unfolding lastWrite
-nothing-complete {m} {n} {p} e q = record { going = ap (λ p. p .going) q; word = λ address. rw (ap (λ p. p .complete) q, e) }
+nothing-complete {m} {n} {p} e q =
+    let none-complete = ap (λ p. p .complete) q in
+    record { going = ap (λ p. p .going) q; word = λ address. rw (none-complete, e); whole = rw none-complete tt }
 
 -- the staged words with the one that came
 words-so-far : (d : Drive) (e : Event) (sectors staging : List ℕ) → Passable d sectors staging → isWriteOpen (d .transfer) ≡ true
@@ -168,6 +179,19 @@ committed-word d e sectors staging address p w z =
     ∙ enough-words (d .setup) c start all address (getD sectors address 0) w
     ∙ ap (λ words. wordWritten (d .setup) c start words address (getD sectors address 0)) (ap (λ n. take n all) (sym last) ∙ words-so-far d e sectors staging p w)
 
+-- and the write that it completes is whole
+completed-whole : (d : Drive) (e : Event) (sectors staging : List ℕ) → Passable d sectors staging → isWriteOpen (d .transfer) ≡ true
+    → eqb (d .transfer .moved + 1) (wordsToCome (d .setup) (d .transfer .control)) ≡ true → Whole (d .setup) (withWord (openWrite d staging) (wordOf e))
+completed-whole d e sectors staging p w z =
+    let r = room d sectors staging (p .sound) (p .room) in
+    let last = eqb-true (d .transfer .moved + 1) (wordsToCome (d .setup) (d .transfer .control)) z in
+    let there : d .transfer .moved ≤ length staging = omega (arith, words-within (d .setup) (d .transfer .control), r .stage) in
+    record {
+      control = w;
+      place = sound d (p .sound) .place;
+      words = length-append (take (d .transfer .moved) staging) (wordOf e ∷ []) ∙ ap (λ (n : ℕ). n + 1) (length-take-le (d .transfer .moved) staging there) ∙ last;
+    }
+
 work-noted : {d : Drive} {e : Event} {sectors staging : List ℕ} {work : Work} {r : Result} → Passable d sectors staging → row7 work d ≡ false
     → Outcomes.WorkDone d e sectors staging work r → InStep (machine d sectors staging) (noted (Use work) e (paper (r .outcome .answer)) (goingOn d staging)) (left r)
 unfolding paper pick lastWrite
@@ -180,6 +204,7 @@ work-noted {d} {e} {sectors} {staging} p t (Outcomes.completed z) =
     record {
       going = rw (one-going d staging w) (sym (none-after d all));
       word = λ address. rw (one-going d staging w) (committed-word d e sectors staging address p w z);
+      whole = rw (one-going d staging w) (completed-whole d e sectors staging p w z, tt);
     }
 work-noted {d} {e} {sectors} {staging} p t (Outcomes.more z) =
     let w = not-false (isWriteOpen (d .transfer)) t in
@@ -229,3 +254,19 @@ as-journalled m (e ∷ events) address =
     let now = in-step m e in
     as-journalled (after m e) events address
     ∙ rw (same-size m e .setup, now .going, later-write, now .word address)
+
+-- every write that the journal notes is whole
+all-whole : (s : Setup) (early late : List Write) → AllWhole s early → AllWhole s late → AllWhole s (early ++ late)
+all-whole s [] late e l = l
+all-whole s (write ∷ early) late e l = (e .0, all-whole s early late (e .1) l)
+
+pub whole-from : (m : Machine) (events : List Event) → AllWhole (m .drive .setup) (journalFrom (goingOn (m .drive) (m .staging)) events (answers m events))
+unfolding answers journalFrom
+whole-from m [] = tt
+whole-from m (e ∷ events) =
+    let now = in-step m e in
+    let told = answers (after m e) events in
+    let going = (pageAfter e (answerTo m e) (goingOn (m .drive) (m .staging))) .going in
+    let later : AllWhole ((after m e) .drive .setup) (journalFrom going events told) = rw (now .going) (whole-from (after m e) events) in
+    all-whole (m .drive .setup) ((pageAfter e (answerTo m e) (goingOn (m .drive) (m .staging))) .complete) (journalFrom going events told) (now .whole)
+    (subst (λ (s : Setup). AllWhole s (journalFrom going events told)) (same-size m e .setup) later)

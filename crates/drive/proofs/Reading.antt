@@ -84,7 +84,7 @@ pub at-header : (s : Setup) (c k : ℕ) → k < part (headerPasses c) (s .header
 at-header s c k h =
     record { inside = omega (arith, pick-le (headerPasses c) (s .header)); reads = λ sector l. read-header s c sector l k h }
 
-at-field1 : (s : Setup) (c k : ℕ) → part (headerPasses c) (s .header) ≤ k → k < part (headerPasses c) (s .header) + part (namesField1 c) (s .field1)
+pub at-field1 : (s : Setup) (c k : ℕ) → part (headerPasses c) (s .header) ≤ k → k < part (headerPasses c) (s .header) + part (namesField1 c) (s .field1)
     → ReadsAt s c k (k - part (headerPasses c) (s .header) + s .header)
 at-field1 s c k g h =
     let j = k - part (headerPasses c) (s .header) in
@@ -96,7 +96,7 @@ at-field1 s c k g h =
           ∙ ap (λ (i : ℕ). getD sector i 0) (omega arith);
     }
 
-at-field2 : (s : Setup) (c k : ℕ) → part (headerPasses c) (s .header) + part (namesField1 c) (s .field1) ≤ k → k < wordsToCome s c
+pub at-field2 : (s : Setup) (c k : ℕ) → part (headerPasses c) (s .header) + part (namesField1 c) (s .field1) ≤ k → k < wordsToCome s c
     → ReadsAt s c k (k - part (headerPasses c) (s .header) - part (namesField1 c) (s .field1) + s .header + s .field1)
 unfolding wordsToCome
 at-field2 s c k g h =

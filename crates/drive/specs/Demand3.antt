@@ -10,7 +10,10 @@ use Rattle.drive.specs.Power.{atRest}
 use Rattle.drive.specs.Run.{Machine, machine, answers, final}
 use Rattle.drive.specs.Accepted.{accepted}
 use Rattle.drive.specs.Sessions.{Sessions}
-use Rattle.drive.specs.Journal.{journal, lastWrite}
+use Rattle.drive.specs.Journal.{journal, lastWrite, AllWhole}
+use Rattle.drive.specs.Along.{HoldsAlong}
+use Rattle.drive.specs.Reading.{WordFollows}
+use Rattle.drive.specs.Standing.{OpeningFollows}
 use Rattle.drive.specs.StaysSound.{Never11Or10}
 use Rattle.parts.specs.declared.setup.Setup.{Setup}
 use Rattle.parts.specs.declared.event.Event.{Event}
@@ -35,6 +38,12 @@ pub record MeetsDemand3 (start : Machine) (events : List Event) (told : List Ans
   pub whole-sessions : Sessions (accepted events told)
   -- "Each sector word is that of the last completed write that covered it .. or else its power-up word."
   pub last-write : LastWrite start events told end
+  -- "the last completed write": every one that the journal notes is whole.
+  pub whole-writes : AllWhole (start .drive .setup) (journal events told)
+  -- What a host takes is what was last written, "read off the set-up, the events and the answers alone".
+  pub words-read : HoldsAlong (WordFollows start) events told
+  -- And so are the place and the number of words to come of every opening.
+  pub openings : HoldsAlong (OpeningFollows (start .drive .setup)) events told
   -- "A write cut short at any word writes nothing": while the journal notes no completed write, the sectors stay as they were.
   pub cut-short : (stretch : List Event) → journal (events ++ stretch) (told ++ answers end stretch) ≡ journal events told
       → (final end stretch) .sectors ≡ end .sectors

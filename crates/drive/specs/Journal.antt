@@ -1,11 +1,14 @@
 -- The journal of completed writes, "read off the set-up, the events and the answers alone": it never sees the drive.
 use Prim.Native.Nat.{ℕ}
+use mathlib.Core.Path.{_≡_}
+use mathlib.Core.Bool.{true}
 use mathlib.Core.List.{List, [], _∷_, _++_}
 use mathlib.Core.Option.{Option, some, none}
 use lib.Dec.{eqb}
+use lib.ListN.{length}
 use Rattle.laws.specs.Pick.{pick}
-use Rattle.parts.specs.Setup.{sectorStart}
-use Rattle.parts.specs.Control.{controlOf, isWrite}
+use Rattle.parts.specs.Setup.{sectorStart, isPlace}
+use Rattle.parts.specs.Control.{controlOf, isWrite, wordsToCome}
 use Rattle.drive.specs.Answer.{Paper, paper, normal}
 use Rattle.parts.specs.Kind.{Kind, Select, Deselect, Use, Reset, Unknown, DataControl, WordFromHost, TakeWord, End, Position, Target, ReadStatus, kindOf, wordOf}
 use Rattle.drive.specs.Accepted.{isRefused}
@@ -76,3 +79,15 @@ unfoldable pub lastWrite : Setup → List Write → ℕ → ℕ → ℕ
 lastWrite s [] address powerUp = powerUp
 lastWrite s (write ∷ later) address powerUp =
     lastWrite s later address (wordWritten s (write .control) (sectorStart s (write .place)) (write .words) address powerUp)
+
+-- ---- a completed write is whole
+
+-- A write control, a place in the drive, and exactly "the number of words to come".
+pub record Whole (s : Setup) (write : Write) : Type 0 where
+  pub control : isWrite (controlOf (write .control)) ≡ true
+  pub place : isPlace s (write .place) ≡ true
+  pub words : length (write .words) ≡ wordsToCome s (write .control)
+
+abbrev pub AllWhole : Setup → List Write → Type 0
+AllWhole s [] = Unit
+AllWhole s (write ∷ later) = Whole s write × AllWhole s later

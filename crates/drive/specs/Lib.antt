@@ -17,7 +17,11 @@ pub mod Accepted
 pub mod StaysSound
 pub mod Frame
 pub mod Sessions
+pub mod Along
 pub mod Journal
+pub mod Standing
+pub mod Reading
+pub mod CutShort
 pub mod Demand3
 pub mod Calls
 pub mod Demand3Examples

@@ -1,0 +1,184 @@
+-- A write cut short at any word writes nothing: while its words come no sector word changes but at the last, and where no write is open none does.
+-- Assumes nothing.
+use Prim.Native.Nat.{ℕ, suc, _+_, _<_}
+use mathlib.Core.Path.{_≡_, refl, sym, ap, subst, _∙_}
+use mathlib.Core.Bool.{true, false, not, false≢true}
+use mathlib.Core.List.{List, [], _∷_}
+use mathlib.Core.Option.{some, none}
+use native.Mathlib.Omega.{arith}
+use borrow.Author.Tests.{not-false, eqb-true}
+use Rattle.laws.proofs.Pick.{either, cases}
+use Rattle.parts.specs.Control.{wordsToCome}
+use Rattle.parts.specs.Kind.{Kind, Select, Deselect, Use, Reset, Unknown, Work, WordFromHost, End, kindOf}
+use Rattle.parts.specs.Tests.{isWriteOpen}
+use Rattle.parts.specs.declared.setup.Place.{Place}
+use Rattle.parts.specs.declared.event.Event.{Event}
+use Rattle.drive.specs.State.{Result, postedOn}
+use Rattle.drive.specs.Drive.{selected, deselected, afterReset, headStepped, ended}
+use Rattle.drive.specs.Answer.{paper}
+use Rattle.drive.specs.Transfer.{wordStaged, staged}
+use Rattle.drive.specs.Refusal.{row7}
+use Rattle.drive.specs.Accepted.{isRefused}
+use Rattle.drive.specs.Run.{Machine, machine, answerTo, after, answers, final}
+use Rattle.drive.specs.CutShort.{opensWrite, Words, Cuts, byEnd, byTakeover, byReset, OpensNoWrite, CutShort}
+use Rattle.drive.specs.CutShort as cut
+use Rattle.drive.specs.declared.drive.Drive.{Drive}
+use Rattle.drive.specs.declared.answer.Answer.{Answer}
+use Rattle.drive.specs.declared.answer.Answer.the-variants.{Opened}
+use Rattle.drive.specs.declared.answer.Outcome.{Outcome}
+use Rattle.drive.proofs.Laws.{by-cases, accepted-by, refused-changes-nothing, doneBy, left, AllPassed}
+use Rattle.drive.proofs.Journal.{no-write}
+use Rattle.drive.proofs.Outcomes
+
+-- ---- the words of a write
+
+-- j words of a write came, of n; or it is over. The sectors are what they were.
+record Coming (n j : ℕ) (d : Drive) : Type 0 where
+  moved : d .transfer .moved ≡ j
+  words : wordsToCome (d .setup) (d .transfer .control) ≡ n
+
+data Unfinished (n j : ℕ) (sectors : List ℕ) (m : Machine) : Type 0 where
+  going : Coming n j (m .drive) → m .sectors ≡ sectors → Unfinished n j sectors m
+  over : isWriteOpen (m .drive .transfer) ≡ false → m .sectors ≡ sectors → Unfinished n j sectors m
+
+same-sectors : {n j : ℕ} {sectors : List ℕ} {m : Machine} → Unfinished n j sectors m → m .sectors ≡ sectors
+same-sectors (going c s) = s
+same-sectors (over w s) = s
+
+-- an opening of a write
+not-opened : {answer : Answer} {n : ℕ} {place : Place} → paper answer .place ≡ none → answer ≡ Opened n place → ⊥
+unfolding paper
+not-opened {place = place} h o =
+    let there : none ≡ some place = sym h ∙ ap (λ (a : Answer). paper a .place) o in
+    let z : _≡_ {A = ℕ} 0 1 = cc in
+    omega arith
+
+opened-coming : {d : Drive} {e : Event} {sectors : List ℕ} {work : Work} {o : Outcome} {n : ℕ} {place : Place} → Outcomes.Told d e sectors work o
+    → o .answer ≡ Opened n place → Coming n 0 (o .drive)
+opened-coming (Outcomes.anOpening q) h = record { moved = refl; words = cc }
+opened-coming (Outcomes.aWord w p) h = absurd (not-opened p h)
+opened-coming (Outcomes.neither w p) h = absurd (not-opened p h)
+
+opened-quietly : {d : Drive} {e : Event} {sectors staging : List ℕ} {work : Work} {r : Result} {n : ℕ} {place : Place} → Outcomes.WorkDone d e sectors staging work r
+    → r .outcome .answer ≡ Opened n place → r .sectors ≡ sectors
+unfolding paper
+opened-quietly (Outcomes.quiet q) h = refl
+opened-quietly Outcomes.miscompared h = refl
+opened-quietly (Outcomes.completed z) h = absurd (not-opened refl h)
+opened-quietly (Outcomes.more z) h = refl
+
+opened-by : (k : Kind) (m : Machine) (e : Event) {n : ℕ} {place : Place} → (doneBy k m e) .outcome .answer ≡ Opened n place
+    → Unfinished n 0 (m .sectors) (left (doneBy k m e))
+unfolding paper
+opened-by Select m e h = absurd (not-opened refl h)
+opened-by Deselect m e h = absurd (not-opened refl h)
+opened-by Reset m e h = absurd (not-opened refl h)
+opened-by Unknown m e h = absurd (not-opened refl h)
+opened-by (Use work) m e h =
+    let done = Outcomes.work-done (m .drive) e (m .sectors) (m .staging) work in
+    going (opened-coming (Outcomes.work-told done) h) (opened-quietly done h)
+
+opened : (m : Machine) (e : Event) {n : ℕ} {place : Place} → answerTo m e ≡ Opened n place → Unfinished n 0 (m .sectors) (after m e)
+unfolding paper
+opened m e {n} {place} =
+    by-cases (λ answer next. answer ≡ Opened n place → Unfinished n 0 (m .sectors) next) m e (λ r z h. absurd (not-opened refl h)) (λ k z p h. opened-by k m e h)
+
+-- one more word, of a write that has another to come behind it
+staged-on : {n j : ℕ} {sectors : List ℕ} (m : Machine) (e : Event) → suc j < n → Coming n j (m .drive) → m .sectors ≡ sectors
+    → Unfinished n (suc j) sectors (left (doneBy (Use WordFromHost) m e))
+unfolding wordStaged staged ended
+staged-on {n} {j} {sectors} m e more c s =
+    either (λ (r : Result). Unfinished n (suc j) sectors (left r)) _ (over no-write s)
+    (cases (λ (r : Result). Unfinished n (suc j) sectors (left r)) _
+    (λ z. absurd (omega (arith, eqb-true (m .drive .transfer .moved + 1) (wordsToCome (m .drive .setup) (m .drive .transfer .control)) z)))
+    (λ z. going (record { moved = omega arith; words = c .words }) s))
+
+one-word : {n j : ℕ} {sectors : List ℕ} (m : Machine) (e : Event) → suc j < n → Unfinished n j sectors m → isRefused (answerTo m e) ≡ false
+    → kindOf (e .kind) ≡ Use WordFromHost → Unfinished n (suc j) sectors (after m e)
+one-word {n} {j} {sectors} m e more u a z =
+    accepted-by (λ answer next. Unfinished n (suc j) sectors next) (Use WordFromHost) m e z a (λ p. by-word u (p .own .1 .0))
+  where
+    by-word : Unfinished n j sectors m → row7 WordFromHost (m .drive) ≡ false → Unfinished n (suc j) sectors (left (doneBy (Use WordFromHost) m e))
+    by-word (over w s) t = absurd (false≢true (sym w ∙ not-false (isWriteOpen (m .drive .transfer)) t))
+    by-word (going c s) t = staged-on m e more c s
+
+words-sent : {n j k : ℕ} {sectors : List ℕ} {m : Machine} {events : List Event} → Unfinished n j sectors m → Words m events k → j + k < n
+    → (final m events) .sectors ≡ sectors
+unfolding final
+words-sent u cut.none h = same-sectors u
+words-sent {n} {j} {k} {sectors} {m} u (cut.refused {e = e} r w) h = words-sent (subst (Unfinished n j sectors) (sym (refused-changes-nothing m e r)) u) w h
+words-sent {m = m} u (cut.word {e = e} a z w) h = words-sent (one-word m e (omega arith) u a z) w (omega arith)
+
+unfinished : (m : Machine) (opening : Event) {n k : ℕ} {place : Place} {sent : List Event} → answerTo m opening ≡ Opened n place
+    → Words (after m opening) sent k → k < n → (final (after m opening) sent) .sectors ≡ m .sectors
+unfinished m opening o w h = words-sent (opened m opening o) w (omega arith)
+
+-- ---- where no write is open
+
+-- an event leaves the sectors, and no write open
+record Left (m n : Machine) : Type 0 where
+  sectors : n .sectors ≡ m .sectors
+  closed : isWriteOpen (n .drive .transfer) ≡ false
+
+-- what cuts a write leaves none
+cut-by : (m : Machine) (e : Event) → Cuts m e → Left m (after m e)
+unfolding selected afterReset ended
+cut-by m e (byEnd z a) = accepted-by (λ answer next. Left m next) (Use End) m e z a (λ p. record { sectors = refl; closed = no-write })
+cut-by m e (byTakeover z a) = accepted-by (λ answer next. Left m next) Select m e z a (λ p. record { sectors = refl; closed = no-write })
+cut-by m e (byReset z a) = accepted-by (λ answer next. Left m next) Reset m e z a (λ p. record { sectors = refl; closed = no-write })
+
+quiet-closed : {d : Drive} {e : Event} {sectors : List ℕ} {work : Work} {o : Outcome} → isWriteOpen (d .transfer) ≡ false → Outcomes.Quiet d e sectors work o
+    → opensWrite e (o .answer) ≡ false → isWriteOpen (o .drive .transfer) ≡ false
+unfolding postedOn headStepped ended
+quiet-closed c (Outcomes.unsolicited q) n = c
+quiet-closed c (Outcomes.bad q b) n = c
+quiet-closed c (Outcomes.stepped k) n = c
+quiet-closed c (Outcomes.nothingToCome q w) n = no-write
+quiet-closed c (Outcomes.opens q o z) n = n
+quiet-closed c Outcomes.takenLast n = no-write
+quiet-closed c (Outcomes.taken z) n = c
+quiet-closed c Outcomes.ends n = no-write
+quiet-closed c (Outcomes.placed h) n = c
+quiet-closed c (Outcomes.aimed h) n = c
+quiet-closed c Outcomes.statusTold n = c
+
+-- a word from the host is not accepted where no write is open
+never-sent : {A : Type 0} (d : Drive) → isWriteOpen (d .transfer) ≡ false → not (isWriteOpen (d .transfer)) ≡ false → A
+never-sent d c t = absurd (false≢true (sym c ∙ not-false (isWriteOpen (d .transfer)) t))
+
+work-closed : {d : Drive} {e : Event} {sectors staging : List ℕ} {work : Work} {r : Result} → isWriteOpen (d .transfer) ≡ false → row7 work d ≡ false
+    → Outcomes.WorkDone d e sectors staging work r → opensWrite e (r .outcome .answer) ≡ false → Left (machine d sectors staging) (left r)
+work-closed c t (Outcomes.quiet q) n = record { sectors = refl; closed = quiet-closed c q n }
+work-closed {d} c t Outcomes.miscompared n = never-sent d c t
+work-closed {d} c t (Outcomes.completed z) n = never-sent d c t
+work-closed {d} c t (Outcomes.more z) n = never-sent d c t
+
+kind-closed : (k : Kind) (m : Machine) (e : Event) → isWriteOpen (m .drive .transfer) ≡ false → AllPassed k m e
+    → opensWrite e ((doneBy k m e) .outcome .answer) ≡ false → Left m (left (doneBy k m e))
+unfolding selected deselected afterReset
+kind-closed Select m e c p n = record { sectors = refl; closed = no-write }
+kind-closed Deselect m e c p n = record { sectors = refl; closed = c }
+kind-closed Reset m e c p n = record { sectors = refl; closed = no-write }
+kind-closed Unknown m e c p n = record { sectors = refl; closed = c }
+kind-closed (Use work) m e c p n = work-closed c (p .own .1 .0) (Outcomes.work-done (m .drive) e (m .sectors) (m .staging) work) n
+
+stays-closed : (m : Machine) (e : Event) → isWriteOpen (m .drive .transfer) ≡ false → opensWrite e (answerTo m e) ≡ false → Left m (after m e)
+stays-closed m e c =
+    by-cases (λ answer next. opensWrite e answer ≡ false → Left m next) m e (λ n z o. record { sectors = refl; closed = c }) (λ k z p o. kind-closed k m e c p o)
+
+nothing-written : (m : Machine) (events : List Event) → isWriteOpen (m .drive .transfer) ≡ false → OpensNoWrite events (answers m events)
+    → (final m events) .sectors ≡ m .sectors
+unfolding final answers
+nothing-written m [] c o = refl
+nothing-written m (e ∷ events) c o =
+    let now = stays-closed m e c (o .0) in
+    nothing-written (after m e) events (now .closed) (o .1) ∙ now .sectors
+
+pub cut-short : CutShort
+cut-short =
+    record {
+      unfinished = unfinished;
+      cut = λ m opening cut {n} {k} {place} {sent} o w h c later none-opened.
+          let now = cut-by (final (after m opening) sent) cut c in
+          nothing-written (after (final (after m opening) sent) cut) later (now .closed) none-opened ∙ now .sectors ∙ unfinished m opening o w h;
+    }

@@ -1,0 +1,167 @@
+-- Of a run from power-up: what the journal says of the sectors, that its writes are whole, and that openings and words taken follow from what came before.
+-- Assumes nothing.
+use Prim.Native.Nat.{ℕ, _+_, _<_}
+use mathlib.Core.Path.{_≡_, refl, sym, ap, subst, _∙_}
+use mathlib.Core.Bool.{true, false, not}
+use mathlib.Core.List.{List}
+use mathlib.Core.Option.{Option, some, none}
+use native.Mathlib.Omega.{arith}
+use borrow.Author.Tests.{not-false, ltb-true, ltb-false}
+use lib.Dec.{ltb}
+use lib.ListN.{length, getD}
+use Rattle.laws.proofs.Pick.{cases}
+use Rattle.parts.specs.Setup.{isPlace}
+use Rattle.parts.specs.Control.{headerPasses, namesField1, part, wordsToCome}
+use Rattle.parts.specs.Kind.{Kind, Select, Deselect, Use, Reset, Unknown, Work}
+use Rattle.parts.specs.Tests.{isReadOpen}
+use Rattle.parts.specs.declared.setup.Setup.{Setup}
+use Rattle.parts.specs.declared.setup.Place.{Place}
+use Rattle.parts.specs.declared.event.Event.{Event}
+use Rattle.drive.specs.Answer.{paper}
+use Rattle.drive.specs.Drive.{atItsTarget}
+use Rattle.drive.specs.Power.{atRest}
+use Rattle.drive.specs.Refusal.{row7}
+use Rattle.drive.specs.Able.{Passable, ReadsAt}
+use Rattle.drive.specs.Run.{Machine, machine, answerTo, answers, final}
+use Rattle.drive.specs.Journal.{journal, lastWrite, AllWhole}
+use Rattle.drive.specs.Standing.{Standing, OpeningTold, OpeningFollows}
+use Rattle.drive.specs.Reading.{Reading, readFrom, offsetOf, nextAddress, WordFollows}
+use Rattle.drive.specs.declared.drive.Drive.{Drive}
+use Rattle.drive.specs.declared.answer.Outcome.{Outcome}
+use Rattle.drive.proofs.Sound.{sound, room}
+use Rattle.drive.proofs.SoundPlace.{at-target-kept}
+use Rattle.drive.proofs.Own.{able-to-read}
+use Rattle.drive.proofs.Reading.{at-header, at-field1, at-field2, read-in-place}
+use Rattle.drive.proofs.Laws.{by-cases, doneBy, AllPassed}
+use Rattle.drive.proofs.Along.{same-size-along}
+use Rattle.drive.proofs.Journal.{none-going, no-write, as-journalled, whole-from}
+use Rattle.drive.proofs.Standing.{standingOf, sought-there, sought-setup, stands-there}
+use Rattle.drive.proofs.WordsRead.{openRead, none-open, one-open, no-read, reads-there}
+use Rattle.drive.proofs.Outcomes
+
+never : {A : Type 0} {B : Type 0} {x : Option B} {b : B} → x ≡ none → x ≡ some b → A
+never {x = x} {b = b} p q = let z : _≡_ {A = ℕ} 0 1 = cc in absurd (omega arith)
+
+-- ---- an opening
+
+sought-inside : {d at : Drive} {c : ℕ} {sectors staging : List ℕ} → Passable d sectors staging → Outcomes.Sought d c at → isPlace (d .setup) (at .place) ≡ true
+unfolding atItsTarget
+sought-inside {d} p (Outcomes.inPlace a) = sound d (p .sound) .place
+sought-inside {d} p (Outcomes.atTarget a z) = at-target-kept (sound d (p .sound)) z .place
+
+-- what an outcome tells of an opening, where the drive stood
+opening-told : {d : Drive} {e : Event} {sectors staging : List ℕ} {work : Work} {o : Outcome} → Passable d sectors staging → Outcomes.Told d e sectors work o
+    → (place : Place) → paper (o .answer) .place ≡ some place → OpeningTold (d .setup) (e .a0) (standingOf d) (paper (o .answer)) place
+unfolding paper
+opening-told {d} {e} p (Outcomes.anOpening {at = at} q) place h =
+    let there : at .place ≡ place = cc in
+    record {
+      follows = sym there ∙ ap (λ (w : Standing). w .place) (sym (sought-there q));
+      inside = subst (λ (x : Place). isPlace (d .setup) x ≡ true) there (sought-inside p q);
+      count = ap (λ (s : Setup). some (wordsToCome s (e .a0))) (sought-setup q);
+    }
+opening-told p (Outcomes.aWord w n) place h = never n h
+opening-told p (Outcomes.neither w n) place h = never n h
+
+opening-by : (k : Kind) (m : Machine) (e : Event) → AllPassed k m e → (place : Place) → paper ((doneBy k m e) .outcome .answer) .place ≡ some place
+    → OpeningTold (m .drive .setup) (e .a0) (standingOf (m .drive)) (paper ((doneBy k m e) .outcome .answer)) place
+unfolding paper
+opening-by Select m e p place h = never refl h
+opening-by Deselect m e p place h = never refl h
+opening-by Reset m e p place h = never refl h
+opening-by Unknown m e p place h = never refl h
+opening-by (Use work) m e p place h =
+    opening-told (record { sound = p .sound; room = p .room }) (Outcomes.work-told (Outcomes.work-done (m .drive) e (m .sectors) (m .staging) work)) place h
+
+opening-follows : (m : Machine) (e : Event) (place : Place) → paper (answerTo m e) .place ≡ some place
+    → OpeningTold (m .drive .setup) (e .a0) (standingOf (m .drive)) (paper (answerTo m e)) place
+unfolding paper
+opening-follows m e place =
+    by-cases (λ answer next. paper answer .place ≡ some place → OpeningTold (m .drive .setup) (e .a0) (standingOf (m .drive)) (paper answer) place) m e
+    (λ n z h. never refl h) (λ k z p h. opening-by k m e p place h)
+
+-- ---- a word that is taken
+
+word-stands : (s : Setup) (c k : ℕ) → k < wordsToCome s c → ReadsAt s c k (offsetOf s c k)
+unfolding offsetOf
+word-stands s c k h =
+    let header = part (headerPasses c) (s .header) in
+    let field1 = part (namesField1 c) (s .field1) in
+    cases (ReadsAt s c k) (ltb k header) (λ t. at-header s c k (ltb-true k header t))
+    (λ t. cases (ReadsAt s c k) (ltb k (header + field1))
+    (λ u. at-field1 s c k (ltb-false k header t) (ltb-true k (header + field1) u))
+    (λ u. at-field2 s c k (ltb-false k (header + field1) u) h))
+
+-- the word that a Take answers, as the drive has it
+record Taken (m : Machine) (word : ℕ) : Type 0 where
+  reading : isReadOpen (m .drive .transfer) ≡ true
+  held : word ≡ getD (m .sectors) (nextAddress (m .drive .setup) (openRead (m .drive))) 0
+  there : nextAddress (m .drive .setup) (openRead (m .drive)) < length (m .sectors)
+
+word-at : {d : Drive} {sectors staging : List ℕ} (word : ℕ) → Passable d sectors staging → not (isReadOpen (d .transfer)) ≡ false → word ≡ Outcomes.wordAt d sectors
+    → Taken (machine d sectors staging) word
+word-at {d} {sectors} {staging} word p t e =
+    let being-read = not-false (isReadOpen (d .transfer)) t in
+    let r = room d sectors staging (p .sound) (p .room) in
+    let at = word-stands (d .setup) (d .transfer .control) (d .transfer .moved) (able-to-read p being-read .moved) in
+    record {
+      reading = being-read;
+      held = e ∙ read-in-place (d .setup) (d .place) (d .transfer .control) (d .transfer .moved) _ sectors (r .sector) at;
+      there = omega (arith, at .inside, r .sector);
+    }
+
+word-told : {d : Drive} {e : Event} {sectors staging : List ℕ} {work : Work} {o : Outcome} → Passable d sectors staging → row7 work d ≡ false
+    → Outcomes.Told d e sectors work o → (word : ℕ) → paper (o .answer) .word ≡ some word → Taken (machine d sectors staging) word
+unfolding paper
+word-told p t (Outcomes.anOpening q) word h = never refl h
+word-told {d} {sectors = sectors} p t (Outcomes.aWord w n) word h = let it : word ≡ Outcomes.wordAt d sectors = cc in word-at word p t it
+word-told p t (Outcomes.neither w n) word h = never w h
+
+word-by : (k : Kind) (m : Machine) (e : Event) → AllPassed k m e → (word : ℕ) → paper ((doneBy k m e) .outcome .answer) .word ≡ some word → Taken m word
+unfolding paper
+word-by Select m e p word h = never refl h
+word-by Deselect m e p word h = never refl h
+word-by Reset m e p word h = never refl h
+word-by Unknown m e p word h = never refl h
+word-by (Use work) m e p word h =
+    word-told (record { sound = p .sound; room = p .room }) (p .own .1 .0)
+    (Outcomes.work-told (Outcomes.work-done (m .drive) e (m .sectors) (m .staging) work)) word h
+
+word-taken : (m : Machine) (e : Event) (word : ℕ) → paper (answerTo m e) .word ≡ some word → Taken m word
+unfolding paper
+word-taken m e word = by-cases (λ answer next. paper answer .word ≡ some word → Taken m word) m e (λ n z h. never refl h) (λ k z p h. word-by k m e p word h)
+
+-- ---- from power-up
+
+module _ (s : Setup) (sectors staging : List ℕ) where
+  -- every word, also behind the end, where there is none
+  pub every-word : (events : List Event) (address : ℕ) → let start = machine (atRest s) sectors staging in
+      getD ((final start events) .sectors) address 0 ≡ lastWrite s (journal events (answers start events)) address (getD sectors address 0)
+  every-word events address = rw (← (none-going (atRest s) staging no-write)) (as-journalled (machine (atRest s) sectors staging) events address)
+
+  pub completed-writes-are-whole : (events : List Event) → AllWhole s (journal events (answers (machine (atRest s) sectors staging) events))
+  completed-writes-are-whole events = rw (← (none-going (atRest s) staging no-write)) (whole-from (machine (atRest s) sectors staging) events)
+
+  pub places-are-not-made-up : (before : List Event) (e : Event) → let start = machine (atRest s) sectors staging in
+      OpeningFollows s before (answers start before) e (answerTo (final start before) e)
+  places-are-not-made-up before e place h =
+      let start = machine (atRest s) sectors staging in
+      let m = final start before in
+      subst (λ (w : Standing). OpeningTold s (e .a0) w (paper (answerTo m e)) place) (sym (stands-there start before))
+      (subst (λ (x : Setup). OpeningTold x (e .a0) (standingOf (m .drive)) (paper (answerTo m e)) place) (same-size-along start before .setup) (opening-follows m e place h))
+
+  pub hosts-read-what-was-written : (before : List Event) (e : Event) → let start = machine (atRest s) sectors staging in
+      WordFollows start before (answers start before) e (answerTo (final start before) e)
+  hosts-read-what-was-written before e word h =
+      let start = machine (atRest s) sectors staging in
+      let m = final start before in
+      let t = word-taken m e word h in
+      let same = same-size-along start before in
+      let read = openRead (m .drive) in
+      record {
+        read = read;
+        going = ap (λ (going : Option Reading). readFrom going before (answers start before)) (sym (none-open (atRest s) no-read))
+            ∙ reads-there start before ∙ one-open (m .drive) (t .reading);
+        there = subst (λ (x : Setup). nextAddress x read < length sectors) (same .setup) (subst (λ (n : ℕ). nextAddress (m .drive .setup) read < n) (same .sectors) (t .there));
+        written = t .held ∙ ap (λ (x : Setup). getD (m .sectors) (nextAddress x read) 0) (same .setup) ∙ every-word before (nextAddress s read);
+      }
