@@ -76,7 +76,7 @@ work-answers ReadStatus d e sectors staging = every.statusRead
 
 -- ---- refusals
 
-abbrev OfTheTable : ℕ → Type 0
+abbrev pub OfTheTable : ℕ → Type 0
 OfTheTable n = oneOf refusalNumbers n ≡ true
 
 own-numbers : (k : Kind) (d : Drive) (e : Event) → EachNumber OfTheTable (rowsOf k d e)
@@ -86,7 +86,7 @@ own-numbers (Use w) d e = (refl, (refl, tt))
 own-numbers Reset d e = tt
 own-numbers Unknown d e = tt
 
-numbers : (k : Kind) (d : Drive) (e : Event) (sectors staging : List ℕ) → EachNumber OfTheTable (rows k d e sectors staging)
+pub numbers : (k : Kind) (d : Drive) (e : Event) (sectors staging : List ℕ) → EachNumber OfTheTable (rows k d e sectors staging)
 numbers k d e sectors staging = (refl, (refl, (refl, (refl, own-numbers k d e))))
 
 -- a kind that is not 1 to 10 never passes row 8

@@ -44,7 +44,7 @@ never {x = x} {b = b} p q = let z : _≡_ {A = ℕ} 0 1 = cc in absurd (omega ar
 
 -- ---- an opening
 
-sought-inside : {d at : Drive} {c : ℕ} {sectors staging : List ℕ} → Passable d sectors staging → Outcomes.Sought d c at → isPlace (d .setup) (at .place) ≡ true
+pub sought-inside : {d at : Drive} {c : ℕ} {sectors staging : List ℕ} → Passable d sectors staging → Outcomes.Sought d c at → isPlace (d .setup) (at .place) ≡ true
 unfolding atItsTarget
 sought-inside {d} p (Outcomes.inPlace a) = sound d (p .sound) .place
 sought-inside {d} p (Outcomes.atTarget a z) = at-target-kept (sound d (p .sound)) z .place

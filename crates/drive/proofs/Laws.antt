@@ -57,19 +57,19 @@ passed-all k m e z =
     record { sound = p .0; room = p .1 .0; port = p .1 .1 .0; formed = p .1 .1 .1 .0; own = p .1 .1 .1 .1 }
 
 by-refusal : (P : Answer → Machine → Type 0) (n : ℕ) (m : Machine) (r : Result)
-    → P (Refused n) m → (n ≡ 0 → P (r .outcome .answer) (left r))
+    → ((j : ℕ) → n ≡ suc j → P (Refused (suc j)) m) → (n ≡ 0 → P (r .outcome .answer) (left r))
     → let given = unlessRefused n (refusedWith n (m .drive) (m .sectors) (m .staging)) r in P (given .outcome .answer) (left given)
 by-refusal P zero m r refused done = done refl
-by-refusal P (suc n) m r refused done = refused
+by-refusal P (suc n) m r refused done = refused n refl
 
 pub by-cases : (P : Answer → Machine → Type 0) (m : Machine) (e : Event)
-    → ((n : ℕ) → refusalOf (kindOf (e .kind)) (m .drive) e (m .sectors) (m .staging) ≡ n → P (Refused n) m)
+    → ((n : ℕ) → refusalOf (kindOf (e .kind)) (m .drive) e (m .sectors) (m .staging) ≡ suc n → P (Refused (suc n)) m)
     → ((k : Kind) → kindOf (e .kind) ≡ k → AllPassed k m e → P ((doneBy k m e) .outcome .answer) (left (doneBy k m e)))
     → P (answerTo m e) (after m e)
 unfolding handled answerTo after
 by-cases P m e refused done =
     let k = kindOf (e .kind) in
-    by-refusal P (refusalOf k (m .drive) e (m .sectors) (m .staging)) m (doneBy k m e) (refused _ refl) (λ z. done k refl (passed-all k m e z))
+    by-refusal P (refusalOf k (m .drive) e (m .sectors) (m .staging)) m (doneBy k m e) refused (λ z. done k refl (passed-all k m e z))
 
 -- an accepted event whose kind is known
 pub accepted-by : (P : Answer → Machine → Type 0) (k : Kind) (m : Machine) (e : Event) → kindOf (e .kind) ≡ k → isRefused (answerTo m e) ≡ false

@@ -23,6 +23,7 @@ pub mod Standing
 pub mod WordsRead
 pub mod CutShort
 pub mod FromPowerUp
+pub mod Bounded
 pub mod Demand3
 pub mod Calls
 pub mod Demand3Examples

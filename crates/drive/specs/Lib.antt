@@ -22,6 +22,7 @@ pub mod Journal
 pub mod Standing
 pub mod Reading
 pub mod CutShort
+pub mod Bounded
 pub mod Demand3
 pub mod Calls
 pub mod Demand3Examples
