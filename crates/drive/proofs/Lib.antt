@@ -14,6 +14,7 @@ pub mod Pendings
 pub mod Posted
 pub mod Frame
 pub mod StaysSound
+pub mod Excess
 pub mod Turns
 pub mod StruckOut
 pub mod Sessions

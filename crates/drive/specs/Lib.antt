@@ -16,6 +16,7 @@ pub mod Exactly
 pub mod Accepted
 pub mod StaysSound
 pub mod Frame
+pub mod Excess
 pub mod Sessions
 pub mod Along
 pub mod Journal
