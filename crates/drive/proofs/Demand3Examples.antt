@@ -29,4 +29,8 @@ demand-3-examples =
       endedAndReset = record { journalled = refl; given = refl; held = refl };
       writtenTwice = record { journalled = refl; given = refl; held = refl };
       fieldTwoAlone = record { journalled = refl; given = refl; held = refl };
+      elsewhere = record { journalled = refl; given = refl; held = refl };
+      lastSector = record { journalled = refl; given = refl; held = refl };
+      atTarget = record { journalled = refl; given = refl; held = refl };
+      takenOverBetween = record { journalled = refl; given = refl; held = refl };
     }
