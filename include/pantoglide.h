@@ -140,11 +140,12 @@ uint8_t pg_power_up(uint16_t cylinders, uint16_t heads, uint16_t sectors, uint16
 
 /* One event of a port.
  *
- * Returns 10 if state has under PG_STATE_WORDS or answer under PG_ANSWER_WORDS words; otherwise 11
+ * Returns 10 if state has under PG_STATE_WORDS words, which leaves nothing to judge; otherwise 11
  * if the state is not sound; otherwise 10 if sector_words or staging_words is shorter than the
- * state's set-up needs; otherwise 1 or 8; otherwise, for Select, 3, 4, 5 or 6, for Reset none, and
- * for the other kinds 2 or 7: always the first that holds in this order, as the table of refusals
- * says. A refused event changes nothing, the answer's words included.
+ * state's set-up needs or answer has under PG_ANSWER_WORDS words; otherwise 1 or 8; otherwise, for
+ * Select, 3, 4, 5 or 6, for Reset none, and for the other kinds 2 or 7: always the first that holds
+ * in this order, as the table of refusals says. A refused event changes nothing, the answer's words
+ * included.
  *
  * Otherwise does what the kind asks, writes the first PG_ANSWER_WORDS words of answer and returns
  * 0. Word number k of a write, from 0 in that transfer, is staged at staging_words[k], and no

@@ -50,7 +50,8 @@ pub fn power_up(
     ACCEPTED
 }
 
-/// One event, rows 11 and 10 tested.
+/// One event, row 11 tested and then row 10. A state that is not whole is row 10's, since there is
+/// nothing that row 11 could judge.
 #[allow(clippy::too_many_arguments)] // the archive's interface has as many
 #[inline(never)]
 pub fn event(
@@ -65,12 +66,15 @@ pub fn event(
     staging: &mut [u16],
     answer: &mut [u16],
 ) -> u8 {
-    let (Some(state), Some(answer)) = (state.first_chunk_mut(), answer.first_chunk_mut()) else {
+    let Some(state) = state.first_chunk_mut() else {
         return Refusal::TooShort as u8;
     };
     if !is_sound(state) {
         return Refusal::Unsound as u8;
     }
+    let Some(answer) = answer.first_chunk_mut() else {
+        return Refusal::TooShort as u8;
+    };
     let mut drive = drive_in(state);
     if !drive.setup.has_room(sectors, staging) {
         return Refusal::TooShort as u8;

@@ -55,10 +55,10 @@ fn single_event(random: &mut Random, pair: &mut Pair, tally: &mut Tally) -> u8 {
     pair.event(event, Cut::default(), tally)
 }
 
-/// One event with one of the slices too short, which must change nothing.
+/// One event with slices that are too short, which must change nothing.
 fn cut_slices(random: &mut Random, pair: &mut Pair, tally: &mut Tally) {
     let event = likely_event(random, pair.state(), pair.sectors());
-    let cut = pair.one_slice_cut(random, 1);
+    let cut = pair.slices_cut(random, 1);
     pair.event(event, cut, tally);
 }
 
@@ -73,6 +73,9 @@ fn odd_state(random: &mut Random, pair: &mut Pair, tally: &mut Tally, scale: Sca
     pair.set_state(odd);
     if random.one_in(16) {
         run(random, pair, tally);
+    }
+    if random.one_in(4) {
+        cut_slices(random, pair, tally);
     }
     let mut is_sound = true;
     for _ in 0..=random.below(scale.events_from_an_odd_state()) {
@@ -97,7 +100,7 @@ fn run(random: &mut Random, pair: &mut Pair, tally: &mut Tally) {
         records.extend(record(tick as u16, event));
     }
     if random.one_in(8) {
-        let cut = pair.one_slice_cut(random, records.len() / 8);
+        let cut = pair.slices_cut(random, records.len() / 8);
         pair.run(&records, cut, tally);
     } else if random.one_in(8) {
         records.extend(&[0; 7][..=random.below(7)]);

@@ -26,6 +26,7 @@ pub struct Tally {
     refusals: BTreeMap<u16, usize>,
     statuses: BTreeMap<u16, usize>,
     behaviours: BTreeMap<&'static str, usize>,
+    short_answers: BTreeMap<u8, usize>,
     runs: BTreeMap<u8, usize>,
 }
 
@@ -50,6 +51,11 @@ impl Tally {
                 *self.behaviours.entry(behaviour).or_default() += 1;
             }
         }
+    }
+
+    /// An event whose answer slice was too short, and what it returned.
+    pub fn short_answer(&mut self, returned: u8) {
+        *self.short_answers.entry(returned).or_default() += 1;
     }
 
     /// A run and its answers.
@@ -77,6 +83,10 @@ impl Tally {
         }
         for behaviour in BEHAVIOURS {
             assert!(self.behaviours.contains_key(behaviour), "never {behaviour}");
+        }
+        for returned in [10, 11] {
+            let has_occurred = self.short_answers.contains_key(&returned);
+            assert!(has_occurred, "no short answer gave {returned}");
         }
         for returned in [0, 8, 10] {
             assert!(self.runs.contains_key(&returned), "no run gave {returned}");
@@ -119,6 +129,9 @@ impl fmt::Display for Tally {
         }
         for (status, count) in &self.statuses {
             writeln!(out, "status {status:X}: {count}")?;
+        }
+        for (returned, count) in &self.short_answers {
+            writeln!(out, "short answers that gave {returned}: {count}")?;
         }
         for (returned, count) in &self.runs {
             writeln!(out, "runs that gave {returned}: {count}")?;

@@ -132,8 +132,9 @@ impl Pair {
         }
     }
 
-    /// Holds back so much of one slice that a call with `records` records finds it too short.
-    pub fn one_slice_cut(&self, random: &mut Random, records: usize) -> Cut {
+    /// Holds back so much of one slice, and now and then of others, that a call with `records`
+    /// records finds it too short.
+    pub fn slices_cut(&self, random: &mut Random, records: usize) -> Cut {
         let [_, heads, sectors, header, field1, field2, ..] = self.state().map(usize::from);
         let per_sector = header + field1 + field2;
         let all = usize::from(self.state()[0]) * heads * sectors * per_sector;
@@ -158,7 +159,11 @@ impl Pair {
             &mut cut.answers,
         ];
         let chosen = random.below(parts.len());
-        *parts.into_iter().nth(chosen).expect("one of four") = cuts[chosen];
+        for (number, (part, shorter)) in parts.into_iter().zip(cuts).enumerate() {
+            if number == chosen || random.one_in(8) {
+                *part = shorter;
+            }
+        }
         cut
     }
 
@@ -173,6 +178,9 @@ impl Pair {
         if returned != 0 {
             assert_eq!(*self.state(), before, "refused {event:?}");
             assert_eq!(self.plain.answers[..raw::ANSWER_WORDS], answer_before);
+        }
+        if self.plain.answers.len() - cut.answers < raw::ANSWER_WORDS {
+            tally.short_answer(returned);
         }
         tally.single(&before, event, returned, &self.plain.answers);
         returned
