@@ -8,6 +8,15 @@
  * elements (where the length is 0 it is never followed), and no two slices of one call may overlap
  * unless both are only read. Elements beyond those that a call needs are never changed.
  *
+ * Two things are not proved, and the board has to see to them:
+ *
+ * A commit copies word by word, so power lost inside a call can leave part of a write in the lent
+ * words. One pg_event commits to one sector at most, so a board that must survive this calls
+ * pg_event, not pg_run, and keeps the words of that sector back until the call has returned.
+ *
+ * Calls on one state must not overlap in time. So where each port has an interrupt of its own, the
+ * two take turns: neither makes a call before that of the other has returned.
+ *
  * The rules themselves, with the words "selected", "hold", "data control" and so on, are those of
  * the paper that the project calls document 01.
  */
