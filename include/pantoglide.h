@@ -12,7 +12,8 @@
  *
  * A commit copies word by word, so power lost inside a call can leave part of a write in the lent
  * words. One pg_event commits to one sector at most, so a board that must survive this calls
- * pg_event, not pg_run, and keeps the words of that sector back until the call has returned.
+ * pg_event, not pg_run, and keeps the words of that sector back until the call has returned, as
+ * c/mirror.c does.
  *
  * Calls on one state must not overlap in time. So where each port has an interrupt of its own, the
  * two take turns: neither makes a call before that of the other has returned.
