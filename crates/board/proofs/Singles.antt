@@ -2,10 +2,10 @@
 -- Assumes nothing.
 use Prim.Native.Nat.{ℕ, zero, suc, _≤_}
 use mathlib.Core.Path.{_≡_, refl, sym, ap, _∙_}
-use mathlib.Core.Bool.{Bool, true, false, _||_}
+use mathlib.Core.Bool.{Bool, true, false}
 use mathlib.Core.List.{List}
 use native.Mathlib.Omega.{arith}
-use borrow.Author.Tests.{le-ltb, ltb-false}
+use borrow.Author.Tests.{ltb-false}
 use lib.Dec.{ltb}
 use lib.ListN.{length, take}
 use lib.Seq.{take-at, take-append-seam}
@@ -25,7 +25,7 @@ use Rattle.events.specs.Event.{machineIn, EventOnWords}
 use Rattle.events.specs.Run.{runRefusal, RunOnWords}
 use Rattle.board.specs.Singles.{Words, words, toldBy, Singles, none, one, RunIsSingles}
 use Rattle.events.proofs.Goes.{goes, unmoved}
-use Rattle.events.proofs.Promises.{numbered-refused}
+use Rattle.events.proofs.Promises.{numbered-refused, as-the-drive}
 
 -- ---- an answer by its refusal
 
@@ -55,21 +55,13 @@ record Going (w : Words) (e : Event) (words′ : List ℕ) (w′ : Words) : Type
   state : (d : Drive) → stateAfter (w′ .state) d ≡ stateAfter (w .state) d
   told : words′ ≡ answerWords (answerTo (machineIn (w .state) (w .sectors) (w .staging)) e)
 
-no-room-needed : (state answer : List ℕ) → 18 ≤ length state → 13 ≤ length answer → (ltb (length state) 18 || ltb (length answer) 13) ≡ false
-no-room-needed state answer h k = rw (le-ltb (length state) 18 h, le-ltb (length answer) 13 k)
-
-its-refusal : {state : List ℕ} {e : Event} {sectors staging answer : List ℕ} {r : ℕ} {state′ sectors′ staging′ answer′ : List ℕ} → 18 ≤ length state → 13 ≤ length answer
-    → EventOnWords state e sectors staging answer r state′ sectors′ staging′ answer′ → r ≡ refusalIn (answerTo (machineIn state sectors staging) e)
-unfolding pick
-its-refusal {state} {answer = answer} h k call = rw (no-room-needed state answer h k) at (call .refusal)
-
 -- a refused one
 going-refused : {state : List ℕ} {e : Event} {sectors staging answer : List ℕ} {r : ℕ} {state′ sectors′ staging′ answer′ : List ℕ} (n : ℕ) → r ≡ suc n
     → 18 ≤ length state → 13 ≤ length answer → EventOnWords state e sectors staging answer r state′ sectors′ staging′ answer′
     → Going (words state sectors staging) e (toldBy r answer′) (words state′ sectors′ staging′)
 going-refused {state} {e} {sectors} {staging} {answer} {r} n z h k call =
     let m = machineIn state sectors staging in
-    let refusal : refusalIn (answerTo m e) ≡ suc n = sym (its-refusal h k call) ∙ z in
+    let refusal : refusalIn (answerTo m e) ≡ suc n = sym (call .refusal ∙ as-the-drive state e sectors staging answer h k) ∙ z in
     let still = refused-changes-nothing m e (numbered-refused (answerTo m e) (λ y. omega arith)) in
     let s = rw z at (call .state) in
     record {

@@ -2,27 +2,35 @@
 -- Assumes nothing.
 use Prim.Native.Nat.{ℕ, zero, suc, _+_, _-_, _*_, _<_, _≤_}
 use mathlib.Core.Path.{_≡_, refl, sym, ap, _∙_}
-use mathlib.Core.Bool.{Bool, true, false}
-use mathlib.Core.List.{List, _++_, append-nil, append-assoc}
+use mathlib.Core.Bool.{Bool, true, false, or-true}
+use mathlib.Core.List.{List, [], _++_, append-nil, append-assoc}
 use native.Mathlib.Omega.{arith}
+use borrow.Author.Tests.{lt-ltb}
+use lib.Dec.{ltb}
 use lib.ListN.{length, take, drop}
 use lib.Seq.{drop-length}
 use Rattle.laws.specs.Pick.{pick}
 use Rattle.laws.specs.Rows.{unlessRefused}
 use Rattle.laws.specs.Lists.{writtenOver}
+use Rattle.laws.proofs.Pick.{either}
 use Rattle.laws.proofs.Runs.{rest-whole}
+use Rattle.parts.specs.Setup as setup
+use Rattle.parts.specs.Setup.{sectorWords}
 use Rattle.parts.specs.declared.event.Event.{Event}
 use Rattle.drive.specs.Answer.{refusalIn}
+use Rattle.drive.specs.Refusal.{row11, row10}
 use Rattle.drive.specs.AnswerWords.{answerWords, allWords}
 use Rattle.drive.specs.Run.{Machine, answerTo, after, answers, final}
 use Rattle.drive.specs.Batch.{eventOf, eventsIn, judgement, TurnTaken}
 use Rattle.drive.specs.declared.drive.Drive.{Drive}
 use Rattle.drive.specs.declared.answer.Answer.{Answer}
 use Rattle.drive.specs.declared.answer.Answer.the-variants.{Refused}
+use Rattle.drive.proofs.Bounds.{limits}
+use Rattle.drive.proofs.Sound.{sound}
 use Rattle.drive.proofs.Turns.{Turned, judged-on, lent-rest, next-turn, refused-as-judged, run-behind, thirteen, turned-at-start, turned-through, whole-run}
 use Rattle.events.specs.State.{driveIn, stateAfter}
 use Rattle.events.specs.Event.{machineIn}
-use Rattle.events.specs.Turn.{quietly, refusals, Turn, Worked}
+use Rattle.events.specs.Turn.{quietly, refusals, Turn, Worked, RefusedShort}
 use Rattle.events.proofs.Goes.{goes, unmoved}
 use Rattle.events.proofs.Answering.{answered-refused, numbered, turn-told}
 use Rattle.events.proofs.ToldWords.{refusal-kept, told-out}
@@ -159,6 +167,22 @@ pub refused-quietly : (records state sectors staging out : List ℕ) (n : ℕ) �
 refused-quietly records state sectors staging out n h j z =
     stopped records state sectors staging out n state sectors staging out z
     (turn-told (answered-refused (eventOf records) state sectors staging n h j z) (refusal-kept false (Refused n) n out refl refl))
+
+-- with no staging words every event is refused, with 11, else 10
+no-staging : (d : Drive) (sectors : List ℕ) (unsound : Bool) → row11 d ≡ unsound → pick unsound 11 10 ≡ judgement d sectors []
+unfolding judgement row10 pick
+no-staging d sectors true e = rw e
+no-staging d sectors false e =
+    let k = limits (d .setup) (sound d e .limits) in
+    rw (e, lt-ltb 0 (sectorWords (d .setup)) (omega (arith, k .some-field1)), or-true (ltb (length sectors) (setup.allWords (d .setup))))
+
+pub refused-short : {records state sectors out : List ℕ} {r : ℕ} {state′ sectors′ staging′ out′ : List ℕ} → 18 ≤ length state
+    → Worked false 1 records state sectors [] out r state′ sectors′ staging′ out′ → RefusedShort state sectors r state′ sectors′
+refused-short {records} {state} {sectors} {out} h w =
+    let unsound = row11 (driveIn state) in
+    let some = either (λ (n : ℕ). n ≡ 0 → ⊥) unsound {x = 11} {y = 10} (λ z. omega arith) (λ z. omega arith) in
+    let q = refused-quietly records state sectors [] out (pick unsound 11 10) h (no-staging (driveIn state) sectors unsound refl) some in
+    record { number = w .number ∙ sym (q .number); state = w .state ∙ sym (q .state); sectors = w .sectors ∙ sym (q .sectors) }
 
 front-or-last : (n count : ℕ) → refusals n count ++ answerWords (Refused n) ≡ answerWords (Refused n) ++ refusals n count
 unfolding refusals

@@ -8,13 +8,14 @@ use Rattle.laws.specs.Rows.{unlessRefused}
 use Rattle.laws.specs.Lists.{writtenOver}
 use Rattle.parts.specs.declared.event.Event.{Event}
 use Rattle.drive.specs.Answer.{refusalIn}
+use Rattle.drive.specs.Refusal.{row11}
 use Rattle.drive.specs.Accepted.{isRefused}
 use Rattle.drive.specs.Run.{answerTo, after, answers, final}
 use Rattle.drive.specs.AnswerWords.{answerWords, allWords}
 use Rattle.drive.specs.Batch.{eventOf, eventsIn}
 use Rattle.drive.specs.declared.answer.Answer.{Answer}
 use Rattle.drive.specs.declared.answer.Answer.the-variants.{Refused}
-use Rattle.events.specs.State.{stateAfter}
+use Rattle.events.specs.State.{driveIn, stateAfter}
 use Rattle.events.specs.Event.{machineIn}
 
 -- A refusal's number, unless it is told in the words.
@@ -54,3 +55,9 @@ pub record Worked (telling : Bool) (count : ℕ) (records state₀ sectors₀ st
   pub sectors : sectors₁ ≡ final (machineIn state₀ sectors₀ staging₀) (eventsIn count records) .sectors
   pub staging : staging₁ ≡ final (machineIn state₀ sectors₀ staging₀) (eventsIn count records) .staging
   pub out : out₁ ≡ unlessRefused r out₀ (writtenOver out₀ (allWords (answers (machineIn state₀ sectors₀ staging₀) (eventsIn count records))))
+
+-- An event without room for its answer: 11, else 10, and nothing changed.
+pub record RefusedShort (state₀ sectors₀ : List ℕ) (r : ℕ) (state₁ sectors₁ : List ℕ) : Type 0 where
+  pub number : r ≡ pick (row11 (driveIn state₀)) 11 10
+  pub state : state₁ ≡ state₀
+  pub sectors : sectors₁ ≡ sectors₀

@@ -1,21 +1,17 @@
 -- `answer_event` meets its contract.
 -- Assumes nothing.
-use Rattle.events.proofs.Promises.{event-room, event-short, event-worked}
+use Rattle.events.proofs.Promises.{no-state, no-room-for-answer, event-worked}
 use Rattle.drive.specs.Batch.{eventOf}
-use native.Mathlib.Omega.{arith}
 use mathlib.Core.Path.{refl}
 use borrow.Author.Needs.{needs}
 use Rattle.events.proofs.event.answer_event.Statement.{statement}
 use Rattle.events.proofs.event.answer_event.Tie as tie
 
 returns : tie.Need-returns
-returns c = event-short _ _ _ _ _ ((c .if1 .taken))
+returns c = no-state _ _ _ _ _ (c .if1 .taken)
 
-slice-aggregate-work : tie.Need-slice-aggregate-work
-slice-aggregate-work c = search needs
-
-work-requires : tie.Need-work-requires
-work-requires c κs = let r = event-room ((c .before .before .before .before .before .before .before .before .before .before .args .state .now)) ((c .before .before .before .before .before .before .before .before .before .before .args .answer .now)) ((c .before .before .before .before .before .if1 .left)) in (r .0, omega arith, omega arith, r .1, λ e. refl)
+refuse-short-requires : tie.Need-refuse-short-requires
+refuse-short-requires c κs = search needs
 
 same-length : tie.Need-same-length
 same-length c = search needs
@@ -23,25 +19,45 @@ same-length c = search needs
 same-length-2 : tie.Need-same-length-2
 same-length-2 c = search needs
 
+returns-2 : tie.Need-returns-2
+returns-2 c = no-room-for-answer (c .before .before .before .before .before .before .before .before .if1 .left) (c .before .before .before .before .before .before .before .if2 .taken) (c .before .before .before .before .refuse-short .ensures)
+
+slice-aggregate-work : tie.Need-slice-aggregate-work
+slice-aggregate-work c = search needs
+
+work-requires : tie.Need-work-requires
+work-requires c κs = search needs
+
 same-length-3 : tie.Need-same-length-3
 same-length-3 c = search needs
 
 same-length-4 : tie.Need-same-length-4
 same-length-4 c = search needs
 
-returns-2 : tie.Need-returns-2
+same-length-5 : tie.Need-same-length-5
+same-length-5 c = search needs
+
+same-length-6 : tie.Need-same-length-6
+same-length-6 c = search needs
+
+returns-3 : tie.Need-returns-3
 unfolding eventOf
-returns-2 c = event-worked _ _ _ _ _ _ _ _ _ _ _ ((c .before .before .before .before .before .before .before .before .before .before .before .before .before .before .if1 .left)) refl ((c .before .before .before .before .before .before .before .before .work .ensures))
+returns-3 c =
+    event-worked _ _ _ _ _ _ _ _ _ _ _ (c .before .before .before .before .before .before .before .before .before .before .before .before .before .before .before .if1 .left) (c .before .before .before .before .before .before .before .before .before .before .before .before .before .before .if2 .left) refl (c .before .before .before .before .before .before .before .before .work .ensures)
 
 pub answer-event-spec : {M : Type 1} → statement M
 answer-event-spec =
     tie.close
     (tie.spec
     returns
-    slice-aggregate-work
-    work-requires
+    refuse-short-requires
     same-length
     same-length-2
+    returns-2
+    slice-aggregate-work
+    work-requires
     same-length-3
     same-length-4
-    returns-2)
+    same-length-5
+    same-length-6
+    returns-3)
