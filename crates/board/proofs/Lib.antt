@@ -1,4 +1,5 @@
 pub mod Lines
 pub mod LinesFollow
 pub mod Singles
+pub mod Demand3
 pub mod Only

@@ -29,7 +29,7 @@ use Rattle.events.proofs.Promises.{numbered-refused, as-the-drive}
 
 -- ---- an answer by its refusal
 
-refused-answer : (answer : Answer) (n : ℕ) → refusalIn answer ≡ suc n → answer ≡ Refused (suc n)
+pub refused-answer : (answer : Answer) (n : ℕ) → refusalIn answer ≡ suc n → answer ≡ Refused (suc n)
 refused-answer (Refused m) n e = ap Refused e
 refused-answer Done n e = absurd (omega arith)
 refused-answer (Status s) n e = absurd (omega arith)
@@ -49,11 +49,11 @@ state-there {state} {records} {out = out} run = state-by state records out (ltb 
 
 -- ---- one call
 
-record Going (w : Words) (e : Event) (words′ : List ℕ) (w′ : Words) : Type 0 where
-  long : 18 ≤ length (w′ .state)
-  machine : machineIn (w′ .state) (w′ .sectors) (w′ .staging) ≡ after (machineIn (w .state) (w .sectors) (w .staging)) e
-  state : (d : Drive) → stateAfter (w′ .state) d ≡ stateAfter (w .state) d
-  told : words′ ≡ answerWords (answerTo (machineIn (w .state) (w .sectors) (w .staging)) e)
+pub record Going (w : Words) (e : Event) (words′ : List ℕ) (w′ : Words) : Type 0 where
+  pub long : 18 ≤ length (w′ .state)
+  pub machine : machineIn (w′ .state) (w′ .sectors) (w′ .staging) ≡ after (machineIn (w .state) (w .sectors) (w .staging)) e
+  pub state : (d : Drive) → stateAfter (w′ .state) d ≡ stateAfter (w .state) d
+  pub told : words′ ≡ answerWords (answerTo (machineIn (w .state) (w .sectors) (w .staging)) e)
 
 -- a refused one
 going-refused : {state : List ℕ} {e : Event} {sectors staging answer : List ℕ} {r : ℕ} {state′ sectors′ staging′ answer′ : List ℕ} (n : ℕ) → r ≡ suc n
@@ -86,7 +86,7 @@ going-accepted {state} {e} {sectors} {staging} {answer} z h k call =
       told = rw (z, rw z at (call .answer)) (take-at (answerWords (answerTo m e)) _ 13 (thirteen (answerTo m e)));
     }
 
-going : {state : List ℕ} {e : Event} {sectors staging answer : List ℕ} {state′ sectors′ staging′ answer′ : List ℕ} (r : ℕ) → 18 ≤ length state → 13 ≤ length answer
+pub going : {state : List ℕ} {e : Event} {sectors staging answer : List ℕ} {state′ sectors′ staging′ answer′ : List ℕ} (r : ℕ) → 18 ≤ length state → 13 ≤ length answer
     → EventOnWords state e sectors staging answer r state′ sectors′ staging′ answer′
     → Going (words state sectors staging) e (toldBy r answer′) (words state′ sectors′ staging′)
 going zero = going-accepted refl

@@ -1,2 +1,3 @@
 pub mod Line
 pub mod Singles
+pub mod Demand3

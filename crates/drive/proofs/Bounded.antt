@@ -26,7 +26,7 @@ use Rattle.drive.specs.AnswerWords.{answerWords, allWords, answerIn, ans
 use Rattle.drive.specs.Refusal.{rows, refusalOf}
 use Rattle.drive.specs.Frame.{AreOctets}
 use Rattle.drive.specs.Able.{Passable}
-use Rattle.drive.specs.Run.{Machine, answerTo, after, answers}
+use Rattle.drive.specs.Run.{Machine, answerTo, after, answers, final}
 use Rattle.drive.specs.Bounded.{statuses, Bounded, PendingOctets, AllBounded, AnswersBounded}
 use Rattle.drive.specs.declared.drive.Drive.{Drive}
 use Rattle.drive.specs.declared.answer.Answer.{Answer}
@@ -97,6 +97,11 @@ octets-stay =
       notice = λ p o. (bit-fits (p .octet1) bit6 (o .0), o .1);
       fault = λ p b o. (o .0, bit-fits (p .octet2) b (o .1));
     })
+
+pub octets-along : (m : Machine) (events : List Event) → PendingOctets m → PendingOctets (final m events)
+unfolding final
+octets-along m [] f = f
+octets-along m (e ∷ events) f = octets-along (after m e) events (octets-stay m e f)
 
 bounded-along : (m : Machine) (events : List Event) → PendingOctets m → AllBounded (m .drive .setup) (answers m events)
 unfolding answers

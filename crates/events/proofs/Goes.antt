@@ -1,16 +1,16 @@
 -- The words of a state after an event.
 -- Assumes nothing.
 use Prim.Native.Nat.{ℕ, _≤_}
-use mathlib.Core.Path.{_≡_, refl}
+use mathlib.Core.Path.{_≡_, refl, sym, ap, subst, _∙_}
 use mathlib.Core.Bool.{Bool, true, false, not, or-true}
-use mathlib.Core.List.{List}
+use mathlib.Core.List.{List, [], _∷_}
 use lib.ListN.{length}
 use Rattle.laws.specs.Pick.{pick}
 use Rattle.parts.specs.Setup.{withinLimits}
 use Rattle.parts.specs.Tests.{isOutsideLimits}
 use Rattle.parts.specs.declared.event.Event.{Event}
 use Rattle.drive.specs.Refusal.{row11}
-use Rattle.drive.specs.Run.{after}
+use Rattle.drive.specs.Run.{Machine, machine, after, final}
 use Rattle.drive.specs.declared.drive.Drive.{Drive}
 use Rattle.drive.proofs.Step.{refused-with-11}
 use Rattle.drive.proofs.StaysSound.{same-size}
@@ -66,3 +66,26 @@ goes state sectors staging e h = by-hold (holdIsKnown state) refl
     by-hold : (test : Bool) → holdIsKnown state ≡ test → Goes state (after (machineIn state sectors staging) e .drive)
     by-hold true k = goes-known state sectors staging e h k
     by-hold false k = goes-refused state sectors staging e h k
+
+-- and after a run
+pub goes-along : (state sectors staging : List ℕ) (events : List Event) → 18 ≤ length state → Goes state (final (machineIn state sectors staging) events .drive)
+unfolding final
+goes-along state sectors staging [] h =
+    let same = unmoved state h in
+    record { long = rw same h; drive = rw same; again = λ d′. rw same }
+goes-along state sectors staging (e ∷ events) h =
+    let left = after (machineIn state sectors staging) e in
+    let now = goes state sectors staging e h in
+    let there : machineIn (stateAfter state (left .drive)) (left .sectors) (left .staging) ≡ left =
+    ap (λ (d : Drive). machine d (left .sectors) (left .staging)) (now .drive) in
+    let later = goes-along (stateAfter state (left .drive)) (left .sectors) (left .staging) events (now .long) in
+    from-there state (left .drive) _ now (subst (λ (m : Machine). Goes (stateAfter state (left .drive)) (final m events .drive)) there later)
+  where
+    from-there : (state : List ℕ) (d d′ : Drive) → Goes state d → Goes (stateAfter state d) d′ → Goes state d′
+    from-there state d d′ now later =
+        let same = now .again d′ in
+        record {
+          long = subst (λ (l : List ℕ). 18 ≤ length l) same (later .long);
+          drive = ap driveIn (sym same) ∙ later .drive;
+          again = λ d″. ap (λ (l : List ℕ). stateAfter l d″) (sym same) ∙ later .again d″ ∙ now .again d″;
+        }
