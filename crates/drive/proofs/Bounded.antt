@@ -4,6 +4,7 @@ use Prim.Native.Nat.{ℕ, zero, suc, _+_, _*_, _/_, _%_, _<_, _≤_}
 use mathlib.Core.Path.{_≡_, refl, sym, subst}
 use mathlib.Core.Bool.{true, false, true≢false}
 use mathlib.Core.List.{List, [], _∷_, _++_, append-assoc}
+use mathlib.Core.Option.{some}
 use native.Mathlib.Omega.{arith}
 use borrow.Author.Tests.{ne-eqb}
 use lib.Dec.{eqb}
@@ -20,14 +21,14 @@ use Rattle.parts.specs.Kind.{Kind, Select, Deselect, Use, Reset, Unknown, Work,
 use Rattle.parts.specs.declared.setup.Setup.{Setup}
 use Rattle.parts.specs.declared.event.Event.{Event}
 use Rattle.parts.proofs.Bits.{bit-fits}
-use Rattle.drive.specs.State.{Result}
+use Rattle.drive.specs.State.{Result, pendingOn}
 use Rattle.drive.specs.Answer.{paper, refusalIn}
 use Rattle.drive.specs.AnswerWords.{answerWords, allWords, answerIn, answersIn}
 use Rattle.drive.specs.Refusal.{rows, refusalOf}
 use Rattle.drive.specs.Frame.{AreOctets}
 use Rattle.drive.specs.Able.{Passable}
 use Rattle.drive.specs.Run.{Machine, answerTo, after, answers, final}
-use Rattle.drive.specs.Bounded.{statuses, Bounded, PendingOctets, AllBounded, AnswersBounded}
+use Rattle.drive.specs.Bounded.{statuses, responseTo, Bounded, PendingOctets, AllBounded, AnswersBounded}
 use Rattle.drive.specs.declared.drive.Drive.{Drive}
 use Rattle.drive.specs.declared.answer.Answer.{Answer}
 use Rattle.drive.specs.declared.answer.Answer.the-variants.{Refused, Done, Status, Opened, Word, LastWord, Response}
@@ -39,7 +40,7 @@ use Rattle.drive.proofs.EveryAnswer.{OfTheTable, numbers}
 use Rattle.drive.proofs.SoundPlace.{pending-stray}
 use Rattle.drive.proofs.Posted.{on-either, kept-on-both}
 use Rattle.drive.proofs.Standing.{sought-setup}
-use Rattle.drive.proofs.FromPowerUp.{sought-inside}
+use Rattle.drive.proofs.FromPowerUp.{never, sought-inside}
 use Rattle.drive.proofs.StaysSound.{same-size}
 use Rattle.drive.proofs.Turns.{thirteen}
 use Rattle.drive.proofs.Outcomes
@@ -109,6 +110,31 @@ bounded-along m [] f = tt
 bounded-along m (e ∷ events) f =
     (bounded m e f, subst (λ (s : Setup). AllBounded s (answers (after m e) events)) (same-size m e .setup) (bounded-along (after m e) events (octets-stay m e f)))
 
+-- ---- the response
+
+work-response : {d : Drive} {e : Event} {sectors : List ℕ} {work : Work} {o : Outcome} (octets : List ℕ) → Outcomes.Told d e sectors work o
+    → paper (o .answer) .response ≡ some octets → octets ≡ responseTo (pendingOn d (e .port))
+unfolding paper
+work-response octets (Outcomes.anOpening q) h = never refl h
+work-response octets (Outcomes.aWord w p r) h = never r h
+work-response {d} {e} octets Outcomes.aResponse h = cc
+work-response octets (Outcomes.nothing w p r) h = never r h
+
+kind-response : (k : Kind) (m : Machine) (e : Event) (octets : List ℕ) → paper ((doneBy k m e) .outcome .answer) .response ≡ some octets
+    → octets ≡ responseTo (pendingOn (m .drive) (e .port))
+unfolding paper
+kind-response Select m e octets h = never refl h
+kind-response Deselect m e octets h = never refl h
+kind-response Reset m e octets h = never refl h
+kind-response Unknown m e octets h = never refl h
+kind-response (Use work) m e octets h = work-response octets (Outcomes.work-told (Outcomes.work-done (m .drive) e (m .sectors) (m .staging) work)) h
+
+response-told : (m : Machine) (e : Event) (octets : List ℕ) → paper (answerTo m e) .response ≡ some octets → octets ≡ responseTo (pendingOn (m .drive) (e .port))
+unfolding paper
+response-told m e octets =
+    by-cases (λ answer next. paper answer .response ≡ some octets → octets ≡ responseTo (pendingOn (m .drive) (e .port))) m e
+    (λ n z h. never refl h) (λ k z p h. kind-response k m e octets h)
+
 -- ---- an answer, read back
 
 -- what has a word of 16 bits is not FFFF
@@ -154,4 +180,4 @@ all-told-back s (answer ∷ told) rest l b =
     rw (append-assoc ws (allWords told) rest, List·getD-append ws (allWords told ++ rest) 0 0 here, take-at ws (allWords told ++ rest) 13 size, drop-at ws (allWords told ++ rest) 13 size, refusal-first answer, told-back s answer l (b .0), all-told-back s told rest l (b .1))
 
 pub answers-bounded : AnswersBounded
-answers-bounded = record { bounded = bounded; run = bounded-along; octets = octets-stay; told-back = told-back; all-told-back = all-told-back }
+answers-bounded = record { bounded = bounded; run = bounded-along; response = response-told; octets = octets-stay; told-back = told-back; all-told-back = all-told-back }

@@ -55,9 +55,11 @@ not-opened {place = place} h o =
 
 opened-coming : {d : Drive} {e : Event} {sectors : List ℕ} {work : Work} {o : Outcome} {n : ℕ} {place : Place} → Outcomes.Told d e sectors work o
     → o .answer ≡ Opened n place → Coming n 0 (o .drive)
+unfolding paper
 opened-coming (Outcomes.anOpening q) h = record { moved = refl; words = cc }
-opened-coming (Outcomes.aWord w p) h = absurd (not-opened p h)
-opened-coming (Outcomes.neither w p) h = absurd (not-opened p h)
+opened-coming (Outcomes.aWord w p r) h = absurd (not-opened p h)
+opened-coming Outcomes.aResponse h = absurd (not-opened refl h)
+opened-coming (Outcomes.nothing w p r) h = absurd (not-opened p h)
 
 opened-quietly : {d : Drive} {e : Event} {sectors staging : List ℕ} {work : Work} {r : Result} {n : ℕ} {place : Place} → Outcomes.WorkDone d e sectors staging work r
     → r .outcome .answer ≡ Opened n place → r .sectors ≡ sectors

@@ -39,7 +39,7 @@ use Rattle.drive.proofs.Standing.{standingOf, sought-there, sought-setu
 use Rattle.drive.proofs.WordsRead.{openRead, none-open, one-open, no-read, reads-there}
 use Rattle.drive.proofs.Outcomes
 
-never : {A : Type 0} {B : Type 0} {x : Option B} {b : B} → x ≡ none → x ≡ some b → A
+pub never : {A : Type 0} {B : Type 0} {x : Option B} {b : B} → x ≡ none → x ≡ some b → A
 never {x = x} {b = b} p q = let z : _≡_ {A = ℕ} 0 1 = cc in absurd (omega arith)
 
 -- ---- an opening
@@ -60,8 +60,9 @@ opening-told {d} {e} p (Outcomes.anOpening {at = at} q) place h =
       inside = subst (λ (x : Place). isPlace (d .setup) x ≡ true) there (sought-inside p q);
       count = ap (λ (s : Setup). some (wordsToCome s (e .a0))) (sought-setup q);
     }
-opening-told p (Outcomes.aWord w n) place h = never n h
-opening-told p (Outcomes.neither w n) place h = never n h
+opening-told p (Outcomes.aWord w n r) place h = never n h
+opening-told p Outcomes.aResponse place h = never refl h
+opening-told p (Outcomes.nothing w n r) place h = never n h
 
 opening-by : (k : Kind) (m : Machine) (e : Event) → AllPassed k m e → (place : Place) → paper ((doneBy k m e) .outcome .answer) .place ≡ some place
     → OpeningTold (m .drive .setup) (e .a0) (standingOf (m .drive)) (paper ((doneBy k m e) .outcome .answer)) place
@@ -114,8 +115,9 @@ word-told : {d : Drive} {e : Event} {sectors staging : List ℕ} {work : Work} {
     → Outcomes.Told d e sectors work o → (word : ℕ) → paper (o .answer) .word ≡ some word → Taken (machine d sectors staging) word
 unfolding paper
 word-told p t (Outcomes.anOpening q) word h = never refl h
-word-told {d} {sectors = sectors} p t (Outcomes.aWord w n) word h = let it : word ≡ Outcomes.wordAt d sectors = cc in word-at word p t it
-word-told p t (Outcomes.neither w n) word h = never w h
+word-told {d} {sectors = sectors} p t (Outcomes.aWord w n r) word h = let it : word ≡ Outcomes.wordAt d sectors = cc in word-at word p t it
+word-told p t Outcomes.aResponse word h = never refl h
+word-told p t (Outcomes.nothing w n r) word h = never w h
 
 word-by : (k : Kind) (m : Machine) (e : Event) → AllPassed k m e → (word : ℕ) → paper ((doneBy k m e) .outcome .answer) .word ≡ some word → Taken m word
 unfolding paper

@@ -116,26 +116,30 @@ module _ (d : Drive) (e : Event) (sectors staging : List ℕ) where
 pub data Told (d : Drive) (e : Event) (sectors : List ℕ) : Work → Outcome → Type 0 where
   anOpening : {at : Drive} → Sought d (e .a0) at
       → Told d e sectors DataControl (told (Opened (wordsToCome (at .setup) (e .a0)) (at .place)) (withTransfer at (transferring (e .a0) 0)))
-  aWord : {o : Outcome} → paper (o .answer) .word ≡ some (wordAt d sectors) → paper (o .answer) .place ≡ none → Told d e sectors TakeWord o
-  neither : {work : Work} {o : Outcome} → paper (o .answer) .word ≡ none → paper (o .answer) .place ≡ none → Told d e sectors work o
+  aWord : {o : Outcome} → paper (o .answer) .word ≡ some (wordAt d sectors) → paper (o .answer) .place ≡ none → paper (o .answer) .response ≡ none
+      → Told d e sectors TakeWord o
+  aResponse : Told d e sectors ReadStatus
+      (told (Response (octet0 (pendingOn d (e .port))) (pendingOn d (e .port) .octet1) (pendingOn d (e .port) .octet2)) (postedOn d (e .port) nothingPending))
+  nothing : {work : Work} {o : Outcome} → paper (o .answer) .word ≡ none → paper (o .answer) .place ≡ none → paper (o .answer) .response ≡ none
+      → Told d e sectors work o
 
 quiet-told : {d : Drive} {e : Event} {sectors : List ℕ} {work : Work} {o : Outcome} → Quiet d e sectors work o → Told d e sectors work o
 unfolding paper
-quiet-told (unsolicited q) = neither refl refl
-quiet-told (bad q b) = neither refl refl
-quiet-told (stepped k) = neither refl refl
-quiet-told (nothingToCome q w) = neither refl refl
+quiet-told (unsolicited q) = nothing refl refl refl
+quiet-told (bad q b) = nothing refl refl refl
+quiet-told (stepped k) = nothing refl refl refl
+quiet-told (nothingToCome q w) = nothing refl refl refl
 quiet-told (opens q o z) = anOpening q
-quiet-told takenLast = aWord refl refl
-quiet-told (taken z) = aWord refl refl
-quiet-told ends = neither refl refl
-quiet-told (placed p) = neither refl refl
-quiet-told (aimed t) = neither refl refl
-quiet-told statusTold = neither refl refl
+quiet-told takenLast = aWord refl refl refl
+quiet-told (taken z) = aWord refl refl refl
+quiet-told ends = nothing refl refl refl
+quiet-told (placed p) = nothing refl refl refl
+quiet-told (aimed t) = nothing refl refl refl
+quiet-told statusTold = aResponse
 
 pub work-told : {d : Drive} {e : Event} {sectors staging : List ℕ} {work : Work} {r : Result} → WorkDone d e sectors staging work r → Told d e sectors work (r .outcome)
 unfolding paper
 work-told (quiet q) = quiet-told q
-work-told miscompared = neither refl refl
-work-told (completed z) = neither refl refl
-work-told (more z) = neither refl refl
+work-told miscompared = nothing refl refl refl
+work-told (completed z) = nothing refl refl refl
+work-told (more z) = nothing refl refl refl

@@ -3,6 +3,7 @@ use Prim.Native.Nat.{ℕ, _≤_}
 use mathlib.Core.Path.{_≡_}
 use mathlib.Core.Bool.{true, false}
 use mathlib.Core.List.{List, [], _∷_, _++_}
+use mathlib.Core.Option.{some}
 use lib.ListN.{length}
 use Rattle.laws.specs.Lists.{oneOf}
 use Rattle.parts.specs.Setup.{withinLimits, sectorWords, isPlace}
@@ -10,8 +11,10 @@ use Rattle.parts.specs.Pending.{pendingOf, octet0}
 use Rattle.parts.specs.Tests.{hasStrayBit}
 use Rattle.parts.specs.declared.setup.Setup.{Setup}
 use Rattle.parts.specs.declared.setup.Place.{Place}
+use Rattle.parts.specs.declared.pending.Pending.{Pending}
 use Rattle.parts.specs.declared.event.Event.{Event}
-use Rattle.drive.specs.Answer.{refusalIn}
+use Rattle.drive.specs.State.{pendingOn}
+use Rattle.drive.specs.Answer.{paper, refusalIn}
 use Rattle.drive.specs.AnswerWords.{answerWords, allWords, answerIn, answersIn}
 use Rattle.drive.specs.EveryAnswer.{refusalNumbers}
 use Rattle.drive.specs.Frame.{AreOctets}
@@ -42,6 +45,10 @@ Bounded s (Word word) = Unit
 Bounded s (LastWord word) = Unit
 Bounded s (Response first second third) = ResponseOf first second third
 
+-- "The response is 8 octets", by what is pending: "All else 0."
+abbrev pub responseTo : Pending → List ℕ
+responseTo p = octet0 p ∷ p .octet1 ∷ p .octet2 ∷ 0 ∷ 0 ∷ 0 ∷ 0 ∷ 0 ∷ []
+
 -- What is pending on both ports is two octets.
 abbrev pub PendingOctets : Machine → Type 0
 PendingOctets m = AreOctets (m .drive .pending0) × AreOctets (m .drive .pending1)
@@ -53,6 +60,8 @@ AllBounded s (answer ∷ told) = Bounded s answer × AllBounded s told
 pub record AnswersBounded : Type 0 where
   pub bounded : (m : Machine) (e : Event) → PendingOctets m → Bounded (m .drive .setup) (answerTo m e)
   pub run : (m : Machine) (events : List Event) → PendingOctets m → AllBounded (m .drive .setup) (answers m events)
+  -- "Read status answers 0 with the octets": those that were pending on the port.
+  pub response : (m : Machine) (e : Event) (octets : List ℕ) → paper (answerTo m e) .response ≡ some octets → octets ≡ responseTo (pendingOn (m .drive) (e .port))
   -- What is pending stays two octets.
   pub octets : (m : Machine) (e : Event) → PendingOctets m → PendingOctets (after m e)
   -- The answer to an event is read back from its refusal and its 13 words, the answers of a run from their words.

@@ -33,7 +33,7 @@ has-written {octets} {before} h e =
 
 -- ---- the drive status octet
 
-octet-of-status : (octet : ℕ) → isDriveStatus octet ≡ true → octetOf (statusOf octet) ≡ octet
+pub octet-of-status : (octet : ℕ) → isDriveStatus octet ≡ true → octetOf (statusOf octet) ≡ octet
 unfolding isDriveStatus statusOf pick
 octet-of-status octet h = each-one-of (λ n. octetOf (statusOf n) ≡ n) knownOctets octet h (refl, (refl, (refl, (refl, (refl, tt)))))
 
@@ -53,7 +53,7 @@ decoded-octet octets status d =
     let same : status ≡ statusOf octet = cc in
     rw (same, octet-of-status octet (not-false _ known)) (sym (run-read octets 0 1 (ltb-false _ _ long)))
 
-encoded-octet : (status : DriveStatus) (rest : List ℕ) → DecodedDriveStatus (octetOf status ∷ rest) (DriveStatusRead.Status status)
+pub encoded-octet : (status : DriveStatus) (rest : List ℕ) → DecodedDriveStatus (octetOf status ∷ rest) (DriveStatusRead.Status status)
 encoded-octet status rest =
     let (known, same) = status-of-octet status in
     let free = none-given (driveStatusRows (octetOf status ∷ rest)) (le-ltb (suc (length rest)) 1 (omega arith), (rw known, tt)) in
@@ -70,7 +70,7 @@ decoded-octets octets response d =
     let same : response ≡ responseOf one two = cc in
     rw (same, own-octets octets own) (sym (run-read octets 0 8 (ltb-false _ _ long)))
 
-encoded-octets : (response : Response) (rest : List ℕ) → DecodedResponse (responseOctets response ++ rest) (ResponseRead.Decoded response)
+pub encoded-octets : (response : Response) (rest : List ℕ) → DecodedResponse (responseOctets response ++ rest) (ResponseRead.Decoded response)
 encoded-octets response rest =
     let free = none-given (responseRows (responseOctets response ++ rest)) (le-ltb (length (responseOctets response ++ rest)) 8 (omega arith), (never-foreign response rest, tt)) in
     record { answer = rw (free, response-of-octets response) }
