@@ -3,3 +3,4 @@ pub mod LinesFollow
 pub mod Singles
 pub mod Demand3
 pub mod Only
+pub mod Exactly

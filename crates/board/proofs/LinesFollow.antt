@@ -2,12 +2,12 @@
 -- Assumes nothing.
 use Prim.Native.Nat.{ℕ, zero, suc, _+_, _/_, _%_, _<_, _≤_}
 use mathlib.Core.Path.{_≡_, refl, sym, ap, _∙_}
-use mathlib.Core.Bool.{Bool, true, false}
+use mathlib.Core.Bool.{Bool, true, false, false≢true}
 use mathlib.Core.List.{List}
 use mathlib.Core.Logic.{_⊎_, inl, inr}
 use native.Mathlib.Omega.{arith}
-use borrow.Author.Tests.{le-ltb, lt-ltb, ltb-false, ltb-true}
-use lib.Dec.{eqb, ltb}
+use borrow.Author.Tests.{ltb-false, not-false}
+use lib.Dec.{eqb}
 use lib.ListN.{length, getD, set}
 use lib.Seq.{getD-set-same}
 use Rattle.laws.specs.Pick.{pick}
@@ -15,12 +15,13 @@ use Rattle.laws.specs.Rows.{first, unlessRefused}
 use Rattle.laws.specs.Octets.{bit}
 use Rattle.laws.proofs.Pick.{either}
 use Rattle.laws.proofs.Rows.{all-passed}
-use Rattle.lines.specs.Follower.{told, lacksHistory, remembers, undefinedAt, whileLost, movedBy, moved, isReached, stepRows, stepOf}
+use Rattle.lines.specs.Follower.{told, lacksHistory, remembers, undefinedAt, whileLost, movedBy, isReached, stepRows, stepOf}
 use Rattle.lines.specs.Moves.{entryOf}
 use Rattle.lines.specs.declared.follower.Followed.{Followed}
 use Rattle.lines.specs.declared.follower.Follower.{Follower}
 use Rattle.lines.specs.declared.follower.Answer.the-variants.{Refused}
-use Rattle.board.specs.Line.{settingIn, followerIn, followerOctet, lineNumber, LineFollowed, LinesFollow}
+use Rattle.board.specs.Line.{settingIn, followerIn, followerOctet, LineFollowed, LinesFollow}
+use Rattle.board.proofs.Lines.{taken, with-octet}
 
 -- ---- an octet, read back
 
@@ -39,38 +40,26 @@ read-back : (f : Follower) → f .setting < 32 → followerIn (followerOctet f) 
 unfolding followerOctet
 read-back f h = octet-back (f .setting) (f .history) (f .lost) h
 
--- ---- a step: refused, or with an answer and a setting again
+-- ---- a step that is not refused has a setting again
 
-abbrev Answered : Followed → Type 0
-Answered r = (r .follower .setting < 32) × (16 ≤ lineNumber (r .answer))
+abbrev IsSet : Followed → Type 0
+IsSet r = r .follower .setting < 32
 
-undefined-answered : (new : ℕ) → Answered (undefinedAt new)
-unfolding undefinedAt lineNumber
-undefined-answered new = (either (λ (f : Follower). f .setting < 32) (eqb new 0) (omega arith) (omega arith), omega arith)
+undefined-set : (new : ℕ) → IsSet (undefinedAt new)
+unfolding undefinedAt
+undefined-set new = either (λ (f : Follower). f .setting < 32) (eqb new 0) (omega arith) (omega arith)
 
-moved-answered : (entry : ℕ) (f : Follower) (new : ℕ) → f .setting < 32 → new ≤ 31 → Answered (movedBy entry f new)
-unfolding movedBy remembers lineNumber
-moved-answered entry f new h n =
-    either Answered (eqb entry 0) (h, omega arith)
-    (either Answered (eqb entry 1) (either Answered (lacksHistory f new) (undefined-answered new) (omega arith, omega arith))
-    (either Answered (eqb entry 2) (omega arith, omega arith) (undefined-answered new)))
+moved-set : (entry : ℕ) (f : Follower) (new : ℕ) → f .setting < 32 → new ≤ 31 → IsSet (movedBy entry f new)
+unfolding movedBy remembers
+moved-set entry f new h n =
+    either IsSet (eqb entry 0) h
+    (either IsSet (eqb entry 1) (either IsSet (lacksHistory f new) (undefined-set new) (omega arith)) (either IsSet (eqb entry 2) (omega arith) (undefined-set new)))
 
-lost-answered : (new : ℕ) → Answered (whileLost new)
-unfolding whileLost lineNumber
-lost-answered new = either Answered (eqb new 0) (omega arith, omega arith) (omega arith, omega arith)
+lost-set : (new : ℕ) → IsSet (whileLost new)
+unfolding whileLost
+lost-set new = either IsSet (eqb new 0) (omega arith) (omega arith)
 
-stepped : (f : Follower) (new : ℕ) → f .setting < 32 → (stepOf f new .follower ≡ f) ⊎ Answered (stepOf f new)
-unfolding stepOf
-stepped f new h = by-refusal (first (stepRows f new)) refl
-  where
-    by-refusal : (n : ℕ) → first (stepRows f new) ≡ n
-        → let r = unlessRefused n (told (Refused n) f) (pick (f .lost) (whileLost new) (moved f new)) in (r .follower ≡ f) ⊎ Answered r
-    by-refusal zero z =
-        let p = all-passed (stepRows f new) refl z in
-        inr (either Answered (f .lost) (lost-answered new) (moved-answered (entryOf (f .setting) new) f new h (ltb-false 31 new (p .1 .0))))
-    by-refusal (suc n) z = inl refl
-
--- a follower that an octet over 127 stands for is refused, and stays
+-- no trace reaches a follower that an octet over 127 stands for
 never-reached : (history lost : Bool) → isReached (record { setting = 32; history = history; lost = lost }) ≡ false
 unfolding isReached pick
 never-reached true true = refl
@@ -78,47 +67,40 @@ never-reached true false = refl
 never-reached false true = refl
 never-reached false false = refl
 
-over-127 : (f : Follower) (new : ℕ) → f .setting ≡ 32 → stepOf f new ≡ told (Refused 11) f
-unfolding stepOf pick
-over-127 f new e = rw (ap (λ (s : ℕ). isReached (record { setting = s; history = f .history; lost = f .lost })) e ∙ never-reached (f .history) (f .lost))
-
--- ---- a call
-
 octet-setting : (octet : ℕ) → (followerIn octet .setting ≡ 32) ⊎ (followerIn octet .setting < 32)
 unfolding followerIn settingIn
 octet-setting octet = either (λ (s : ℕ). (s ≡ 32) ⊎ (s < 32)) (bit 7 octet) (inl refl) (inr (omega arith))
+
+reached-set : (f : Follower) → (f .setting ≡ 32) ⊎ (f .setting < 32) → isReached f ≡ true → f .setting < 32
+reached-set f (inl e) t =
+    absurd (false≢true (sym (ap (λ (s : ℕ). isReached (record { setting = s; history = f .history; lost = f .lost })) e ∙ never-reached (f .history) (f .lost)) ∙ t))
+reached-set f (inr h) t = h
+
+taken-set : (octet new : ℕ) → first (stepRows (followerIn octet) new) ≡ 0 → IsSet (taken (followerIn octet) new)
+taken-set octet new z =
+    let f = followerIn octet in
+    let p = all-passed (stepRows f new) refl z in
+    let h = reached-set f (octet-setting octet) (not-false (isReached f) (p .0)) in
+    either IsSet (f .lost) (lost-set new) (moved-set (entryOf (f .setting) new) f new h (ltb-false 31 new (p .1 .0)))
+
+-- ---- a call
 
 module _ {octets : List ℕ} {setting r : ℕ} {octets′ : List ℕ} (there : 1 ≤ length octets) (w : LineFollowed octets setting r octets′) where
   abbrev before : Follower
   before = followerIn (getD octets 0 0)
 
-  number : r ≡ lineNumber (stepOf before setting .answer)
-  unfolding pick
-  number = rw (le-ltb (length octets) 1 there) at (w .answer)
+  followed-by : (n : ℕ) → first (stepRows before setting) ≡ n
+      → let next = unlessRefused n (told (Refused n) before) (taken before setting) .follower in
+      octets′ ≡ unlessRefused n octets (set octets 0 (followerOctet next)) → followerIn (getD octets′ 0 0) ≡ next
+  followed-by zero z e =
+      let next = taken before setting .follower in
+      rw (e, getD-set-same octets 0 (followerOctet next) 0 there) (read-back next (taken-set (getD octets 0 0) setting z))
+  followed-by (suc n) z e = rw e
 
-  refused-stays : r < 16 → stepOf before setting .follower ≡ before → followerIn (getD octets′ 0 0) ≡ stepOf before setting .follower
-  unfolding pick
-  refused-stays h e = rw (w .follower, lt-ltb r 16 h) (sym e)
-
-  answered-read : 16 ≤ r → stepOf before setting .follower .setting < 32 → followerIn (getD octets′ 0 0) ≡ stepOf before setting .follower
-  unfolding pick
-  answered-read h s = rw (w .follower, le-ltb r 16 h, getD-set-same octets 0 (followerOctet (stepOf before setting .follower)) 0 there) (read-back (stepOf before setting .follower) s)
-
-  by-number : (short : Bool) → ltb r 16 ≡ short → (stepOf before setting .follower ≡ before) ⊎ Answered (stepOf before setting) → before .setting < 32
-      → followerIn (getD octets′ 0 0) ≡ stepOf before setting .follower
-  by-number true e (inl same) h = refused-stays (ltb-true r 16 e) same
-  by-number true e (inr a) h = absurd (let l = ltb-true r 16 e in omega (arith, number, a .1))
-  by-number false e (inl same) h = answered-read (ltb-false r 16 e) (rw same h)
-  by-number false e (inr a) h = answered-read (ltb-false r 16 e) (a .0)
-
-  followed : (before .setting ≡ 32) ⊎ (before .setting < 32) → followerIn (getD octets′ 0 0) ≡ stepOf before setting .follower
-  unfolding lineNumber
-  followed (inl e) =
-      let o = over-127 before setting e in
-      let n : r ≡ 11 = number ∙ ap (λ (x : Followed). lineNumber (x .answer)) o in
-      refused-stays (omega (arith, n)) (ap (λ (x : Followed). x .follower) o)
-  followed (inr h) = by-number (ltb r 16) refl (stepped before setting h) h
+  followed : followerIn (getD octets′ 0 0) ≡ stepOf before setting .follower
+  unfolding stepOf
+  followed = followed-by (first (stepRows before setting)) refl (rw (with-octet octets setting there) at (w .follower))
 
 pub lines-follow : LinesFollow
 unfolding followerIn settingIn pick
-lines-follow = record { start = refl; next = λ {follower₀} there w. followed there w (octet-setting (getD follower₀ 0 0)) }
+lines-follow = record { start = refl; next = λ there w. followed there w }

@@ -9,4 +9,4 @@ use Rattle.board.specs.Line.{LineFollowed}
 
 pub pg-line-only : {follower : List ℕ} {setting r r′ : ℕ} {follower′ follower″ : List ℕ} → LineFollowed follower setting r follower′
     → LineFollowed follower setting r′ follower″ → (r ≡ r′) × (follower′ ≡ follower″)
-pg-line-only h k = let e = answer-only (h .answer) (k .answer) in (e, answer-only (rw e at (h .follower)) (k .follower))
+pg-line-only h k = (answer-only (h .answer) (k .answer), answer-only (h .follower) (k .follower))

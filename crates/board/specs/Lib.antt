@@ -1,3 +1,5 @@
 pub mod Line
 pub mod Singles
+pub mod Exactly
 pub mod Demand3
+pub mod OneStatus

@@ -16,3 +16,4 @@ pub mod Back
 pub mod Stores
 pub mod ToldWords
 pub mod Only
+pub mod Exactly

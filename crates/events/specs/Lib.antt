@@ -5,3 +5,4 @@ pub mod Power
 pub mod Unsound
 pub mod Fit
 pub mod Turn
+pub mod Exactly

@@ -30,7 +30,7 @@ same-length : tie.Need-same-length
 same-length c = search needs
 
 returns-2 : tie.Need-returns-2
-returns-2 c = line-told _ _ _ _ _ (c .before .before .before .before .before .before .before .if1 .left) (rw (c .before .before .before .before .before .follower-in .ensures) at (c .before .before .before .before .step .ensures)) (c .before .before .line-number .ensures) (c .before .if2 .taken) (c .follower-octet .ensures)
+returns-2 c = line-told _ _ _ _ (c .before .before .before .before .before .before .before .if1 .left) (rw (c .before .before .before .before .before .follower-in .ensures) at (c .before .before .before .before .step .ensures)) (c .before .before .line-number .ensures) _ (c .before .if2 .taken) (c .follower-octet .ensures)
 
 returns-3 : tie.Need-returns-3
 returns-3 c = line-refused _ _ _ _ (c .before .before .before .before .before .before .if1 .left) (rw (c .before .before .before .before .follower-in .ensures) at (c .before .before .before .step .ensures)) (c .before .line-number .ensures) (c .if2 .left)

@@ -1,0 +1,13 @@
+-- "Each number is given when its row holds and no row tested earlier does": of `pg_line`. The other calls promise what those of `events` do, and so
+-- refuse as these.
+use Prim.Native.Nat.{ℕ, suc}
+use mathlib.Core.List.{List}
+use mathlib.Core.Logic.{_↔_}
+use mathlib.Core.Path.{_≡_}
+use Rattle.laws.specs.Rows.{Given}
+use Rattle.board.specs.Line.{lineRows, LineFollowed, refusalIn}
+
+-- Whatever meets the promise refuses with number n if and only if row n holds and no row tested earlier does.
+pub record Exactly : Type 0 where
+  pub pg-line-exactly : {follower : List ℕ} {setting r : ℕ} {follower′ : List ℕ} → LineFollowed follower setting r follower′
+      → (n : ℕ) → refusalIn r ≡ suc n ↔ Given (suc n) (lineRows follower setting)
