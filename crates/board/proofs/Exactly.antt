@@ -1,4 +1,4 @@
--- Each refusal of `pg_line` is given exactly when its row holds and no row tested earlier does.
+-- Each refusal of `pg_line`, `pg_capture` and `pg_make_capture` is given exactly when its row holds and no row tested earlier does.
 -- Assumes nothing.
 use Prim.Native.Nat.{ℕ, zero, suc, _≤_}
 use mathlib.Core.Path.{_≡_, refl}
@@ -12,6 +12,8 @@ use Rattle.laws.specs.Rows.{unlessRefused}
 use Rattle.laws.proofs.Rows.{first-is-exact, first-up-to, rows-rest}
 use Rattle.lines.specs.Follower.{stepOf}
 use Rattle.board.specs.Line.{followerIn, lineNumber, lineRows, lineRefusal, LineFollowed, refusalIn}
+use Rattle.capture.specs.Capture.{captureRows}
+use Rattle.capture.specs.Encoding.{encodeRows}
 use Rattle.board.specs.Exactly.{Exactly}
 use Rattle.board.proofs.Lines.{Ends, answered, refused, step-ends}
 
@@ -33,4 +35,9 @@ line-refusal {follower} {setting} w =
     (λ z. from-sixteen (step-ends f setting) (rows-rest (ltb (length follower) 1) 9 _ z)))
 
 pub exactly-when : Exactly
-exactly-when = record { pg-line-exactly = λ {follower} {setting} w n. rw (line-refusal w) (first-is-exact n (lineRows follower setting)) }
+exactly-when =
+    record {
+      pg-line-exactly = λ {follower} {setting} w n. rw (line-refusal w) (first-is-exact n (lineRows follower setting));
+      pg-capture-exactly = λ {octets} w n. rw (w .refusal) (first-is-exact n (captureRows octets));
+      pg-make-capture-exactly = λ {notes} {records} {out₀} w n. rw (w .refusal) (first-is-exact n (encodeRows notes records out₀));
+    }

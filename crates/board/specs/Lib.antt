@@ -3,3 +3,4 @@ pub mod Singles
 pub mod Exactly
 pub mod Demand3
 pub mod OneStatus
+pub mod Capture

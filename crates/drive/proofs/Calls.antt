@@ -1,4 +1,4 @@
--- Demand 3 of the compiled calls: what keeps its promise runs as the definitions do.
+-- Demand 3 of calls of `handle`: what keeps its promise runs as the definitions do.
 -- Assumes nothing.
 use Prim.Native.Nat.{ℕ}
 use mathlib.Core.Path.{_≡_, refl, ap, _∙_}

@@ -1,4 +1,4 @@
--- Demand 3 of the compiled calls: power-up, and then calls one after another, each of which keeps its promise.
+-- Demand 3 of calls of `handle`: power-up, and then calls one after another, each of which keeps its promise.
 use Prim.Native.Nat.{ℕ}
 use mathlib.Core.Path.{_≡_}
 use mathlib.Core.Bool.{true, false}
