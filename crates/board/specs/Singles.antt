@@ -1,4 +1,4 @@
--- "What [`pg_run`] does equals so many single events": calls of `pg_event` one after another, each on what the last one left.
+-- What `pg_run` does, so many calls of `pg_event` do, each on what the last one left.
 use Prim.Native.Nat.{ℕ, _≤_}
 use mathlib.Core.Path.{_≡_}
 use mathlib.Core.List.{List, [], _∷_, _++_}
@@ -20,7 +20,7 @@ pub record Words : Type 0 where
 abbrev pub words : List ℕ → List ℕ → List ℕ → Words
 words state sectors staging = record { state = state; sectors = sectors; staging = staging }
 
--- The 13 words that a single event told, "a refused event: its number, FFFF and 0 as above".
+-- The 13 words that a single event told; of a refused one those that a run would tell.
 abbrev pub toldBy : ℕ → List ℕ → List ℕ
 toldBy r answer = unlessRefused r (answerWords (Refused r)) (take 13 answer)
 

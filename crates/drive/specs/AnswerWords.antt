@@ -12,22 +12,21 @@ use Rattle.drive.specs.Answer.{Paper, paper}
 use Rattle.drive.specs.declared.answer.Answer.{Answer}
 use Rattle.drive.specs.declared.answer.Answer.the-variants.{Refused, Done, Status, Opened, Word, LastWord, Response}
 
--- "0 refusal": 0 where there is none.
+-- Word 0: 0 where there is none.
 abbrev pub refusalWord : Option ℕ → ℕ
 refusalWord none = 0
 refusalWord (some n) = n
 
--- "1 status or FFFF, 2 words to come or FFFF"
+-- Words 1 and 2, and each of 3 to 5: FFFF where there is none.
 abbrev pub orFFFF : Option ℕ → ℕ
 orFFFF none = 0xFFFF
 orFFFF (some n) = n
 
--- "3 to 5 place or FFFF three times"
 abbrev pub placeWords : Option Place → List ℕ
 placeWords none = 0xFFFF ∷ 0xFFFF ∷ 0xFFFF ∷ []
 placeWords (some p) = p .cylinder ∷ p .head ∷ p .sector ∷ []
 
--- "6 is there a word (0, 1), 7 the word or 0"
+-- Words 6 and 7.
 abbrev pub wordWords : Option ℕ → List ℕ
 wordWords none = 0 ∷ 0 ∷ []
 wordWords (some w) = 1 ∷ w ∷ []
@@ -38,7 +37,7 @@ pairs [] = []
 pairs (high ∷ []) = high * 256 ∷ []
 pairs (high ∷ low ∷ octets) = (high * 256 + low) ∷ pairs octets
 
--- "8 is there a response (0, 1), 9 to 12 its octets, high first, or 0"
+-- Words 8 to 12.
 abbrev pub responseWords : Option (List ℕ) → List ℕ
 responseWords none = 0 ∷ 0 ∷ 0 ∷ 0 ∷ 0 ∷ []
 responseWords (some octets) = 1 ∷ pairs octets

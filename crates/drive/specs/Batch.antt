@@ -36,7 +36,7 @@ recordCount octets = length octets / 8
 abbrev pub eventsOf : List ℕ → List Event
 eventsOf octets = eventsIn (recordCount octets) octets
 
--- "10 where the .. answers are too short, 8 where the records are not whole, and nothing changed."
+-- The call's own rows: 10 where there is no room for the answers, then 8 where the records are not whole.
 abbrev pub batchRows : List ℕ → List ℕ → List Row
 batchRows records out = 10 when ltb (length out) (13 * recordCount records) ∷ 8 when not (eqb (length records % 8) 0) ∷ []
 

@@ -8,14 +8,14 @@ use Rattle.drive.specs.State.{atPlace, withHolding, withPlace, withTrans
 use Rattle.parts.specs.Tests.{noTransfer}
 use Rattle.drive.specs.declared.drive.Drive.{Drive}
 
--- "A grant over another owner is a takeover: its selection, hold and open transfer are gone, and Alternate Port Priority Select goes pending on it."
+-- "Alternate Port Priority Select goes pending on it": on another owner, if there is one.
 unfoldable pub ownerNoticed : Drive → ℕ → Drive
 ownerNoticed d port =
     let owner = d .holding .owner in
     pick (isOwnedByOther (d .holding) port) (postedOn d owner (noticed (pendingOn d owner))) d
 
--- "Free, or owned by the asker: granted." The selection and the hold are the asker's, and a transfer that a takeover cuts is gone: where there is
--- none to take over, none is open.
+-- "A grant over another owner is a takeover: its selection, hold and open transfer are gone". The selection and the hold are the asker's; where there
+-- is nothing to take over, no transfer is open.
 unfoldable pub selected : Drive → ℕ → ℕ → Drive
 selected d port octet = withTransfer (withHolding (ownerNoticed d port) (grantedTo port octet)) noTransfer
 

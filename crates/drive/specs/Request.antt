@@ -36,6 +36,7 @@ opened d c =
 unfoldable pub opening : Drive → ℕ → ℕ → Outcome
 opening d port c = pick (isAtTarget c) (pick (eqb (d .target) noTarget) (badRequest d port busControlContext) (opened (atItsTarget d) c)) (opened d c)
 
+-- "D0 and controls outside 80–9F and C0–DF: bit 7." "80–83 and 91–93: bit 5." "a finished transfer, End and Step Head give 0".
 abbrev pub controlled : Control → Drive → ℕ → ℕ → Outcome
 controlled Write d port c = opening d port c
 controlled Read d port c = opening d port c

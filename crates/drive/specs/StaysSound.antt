@@ -29,11 +29,11 @@ Never11Or10 [] = Unit
 Never11Or10 (answer ∷ told) = (refusalIn answer ≤ 8) × Never11Or10 told
 
 pub record StaysSound : Type 0 where
-  -- "From a sound drive with slices long enough no event leads out".
+  -- From a sound drive with slices long enough no event leads out.
   pub sound : (m : Machine) (e : Event) → IsSound m → IsSound (after m e)
   -- No event changes the set-up or the lengths of the slices, from any state.
   pub sameSize : (m : Machine) (e : Event) → SameSize m (after m e)
   -- Power-up within the limits, with slices long enough, is such a state,
   pub atRest : (s : Setup) (sectors staging : List ℕ) → withinLimits s ≡ true → row10 s sectors staging ≡ false → IsSound (machine (atRest s) sectors staging)
-  -- "so a run from power-up never meets 11 or 10."
+  -- so that a run from it never meets 11 or 10.
   pub never-11-or-10 : (m : Machine) (events : List Event) → IsSound m → Never11Or10 (answers m events)
