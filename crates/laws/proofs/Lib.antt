@@ -6,3 +6,4 @@ pub mod Lists
 pub mod Windows
 pub mod Runs
 pub mod Only
+pub mod Differ

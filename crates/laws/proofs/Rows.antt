@@ -1,7 +1,7 @@
 -- The first row that holds is the one that is given: both directions, for every table and every number.
 -- Assumes nothing.
 use Prim.Native.Nat.{ℕ, zero, suc, _≤_}
-use mathlib.Core.Path.{_≡_, refl, subst}
+use mathlib.Core.Path.{_≡_, refl, ap, subst, _∙_}
 use mathlib.Core.Bool.{Bool, true, false, _&&_}
 use mathlib.Core.List.{List, [], _∷_}
 use mathlib.Core.Logic.{_↔_}
@@ -10,7 +10,7 @@ use borrow.Author.Tests.{ltb-true, leb-true}
 use lib.Dec.{ltb, leb}
 use Rattle.laws.specs.Pick.{pick}
 use Rattle.laws.proofs.Tests.{and-l, and-r}
-use Rattle.laws.specs.Rows.{Row, first, Given, here, later, unlessRefused}
+use Rattle.laws.specs.Rows.{Row, first, Given, here, later, unlessRefused, Paper, refusedWith, tells, refusedOr}
 
 at-head : (n : ℕ) (row : Row) (rows : List Row) (test : Bool) → row .holds ≡ test → pick test (row .number) (first rows) ≡ n
     → (first rows ≡ n → Given n rows) → Given n (row ∷ rows)
@@ -105,6 +105,16 @@ declined {A} {B} rows refused answer new old′ new′ other e = by-refusal (fir
 pub exactly : {A : Type 0} (report : A → ℕ) (refused : ℕ → A) (new answer : A) (rows : List Row) → ((n : ℕ) → report (refused n) ≡ n) → report new ≡ 0
     → answer ≡ unlessRefused (first rows) (refused (first rows)) new → (n : ℕ) → report answer ≡ suc n ↔ Given (suc n) rows
 exactly report refused new answer rows told z e n = rw (e, reported report refused told (first rows) new z) (first-is-exact n rows)
+
+-- an answer on paper: a refusal tells its number, and the accepted answer the value, once every test was passed
+pub seen-on-paper : {A B : Type 0} (paper : A → Paper B) (refused : ℕ → A) (new answer : A) (value : B) (rows : List Row) → numbered rows ≡ true
+    → ((n : ℕ) → paper (refused n) ≡ refusedWith n) → (Passed rows → paper new ≡ tells value)
+    → answer ≡ unlessRefused (first rows) (refused (first rows)) new → paper answer ≡ refusedOr rows value
+seen-on-paper {A} {B} paper refused new answer value rows n told accepted e = ap paper e ∙ by-refusal (first rows) refl
+  where
+    by-refusal : (refusal : ℕ) → first rows ≡ refusal → paper (unlessRefused refusal (refused refusal) new) ≡ unlessRefused refusal (refusedWith refusal) (tells value)
+    by-refusal zero f = accepted (all-passed rows n f)
+    by-refusal (suc refusal) f = told (suc refusal)
 
 -- what holds of every row's number holds of the number that is given
 abbrev pub EachNumber : (ℕ → Type 0) → List Row → Type 0

@@ -1,6 +1,7 @@
 -- A table of refusals: rows with their numbers, in the order in which they are tested.
 use mathlib.Core.Bool.{Bool, true, false}
 use mathlib.Core.List.{List, [], _∷_}
+use mathlib.Core.Option.{Option, some, none}
 use mathlib.Core.Path.{_≡_}
 use Prim.Native.Nat.{ℕ, zero, suc}
 use Rattle.laws.specs.Pick.{pick}
@@ -28,3 +29,18 @@ pub data Given (n : ℕ) : List Row → Type 0 where
 abbrev pub unlessRefused : {A : Type 0} → ℕ → A → A → A
 unlessRefused zero old new = new
 unlessRefused (suc n) old new = old
+
+-- "A refusal reports its number and nothing else": an answer on paper has the number of a refusal, or a value.
+pub record Paper (A : Type 0) : Type 0 where
+  pub refusal : Option ℕ
+  pub value : Option A
+
+abbrev pub refusedWith : {A : Type 0} → ℕ → Paper A
+refusedWith n = record { refusal = some n; value = none }
+
+abbrev pub tells : {A : Type 0} → A → Paper A
+tells value = record { refusal = none; value = some value }
+
+-- What a call with these rows answers on paper: the number of the first row that holds, or the value.
+abbrev pub refusedOr : {A : Type 0} → List Row → A → Paper A
+refusedOr rows value = unlessRefused (first rows) (refusedWith (first rows)) (tells value)
