@@ -7,4 +7,4 @@ use Rattle.status.specs.Cases.{ResponseCases}
 
 pub response-cases : ResponseCases
 unfolding pick unsolicitedOctet busControlOctet exceptionOctet responseOf isForeign
-response-cases = record { p8 = refl; p9 = refl; p9-decoded = record { answer = refl } }
+response-cases = record { p8 = refl; p9 = refl; p9-decoded = record { answer = refl; on-paper = refl } }

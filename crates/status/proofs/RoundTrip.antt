@@ -9,9 +9,8 @@ use borrow.Author.Tests.{le-ltb, ltb-false, not-false}
 use lib.ListN.{length, getD, take, drop}
 use Rattle.laws.specs.Pick.{pick}
 use Rattle.laws.specs.Lists.{writtenOver}
-use Rattle.laws.proofs.Lists.{each-one-of}
 use Rattle.status.specs.Encoded.{EncodedAs, encodeRows}
-use Rattle.status.specs.DriveStatus.{octetOf, knownOctets, statusOf, isDriveStatus, driveStatusOctets, driveStatusRows, DecodedDriveStatus}
+use Rattle.status.specs.DriveStatus.{octetOf, statusOf, isDriveStatus, driveStatusOctets, driveStatusRows, DecodedDriveStatus}
 use Rattle.status.specs.Response.{responseOf, responseOctets, responseRows, DecodedResponse}
 use Rattle.status.specs.RoundTrip.{DriveStatusRoundTrip, ResponseRoundTrip}
 use Rattle.status.specs.declared.encoded.Encoded.{Encoded}
@@ -23,6 +22,7 @@ use Rattle.status.specs.declared.response.ResponseRead.{ResponseRead}
 use Rattle.laws.proofs.Rows.{none-given, accepted}
 use Rattle.laws.proofs.Runs.{run-read}
 use Rattle.status.proofs.Foreign.{own-octets, never-foreign, response-of-octets}
+use Rattle.status.proofs.Decoding.{octet-of-status, drive-status-decoded, response-decoded}
 
 -- an encoder with room enough writes
 has-written : {octets before after : List ℕ} {answer : Encoded} → length octets ≤ length before → EncodedAs octets before after answer
@@ -32,10 +32,6 @@ has-written {octets} {before} h e =
     (e .answer ∙ rw free, e .slice ∙ rw free)
 
 -- ---- the drive status octet
-
-pub octet-of-status : (octet : ℕ) → isDriveStatus octet ≡ true → octetOf (statusOf octet) ≡ octet
-unfolding isDriveStatus statusOf pick
-octet-of-status octet h = each-one-of (λ n. octetOf (statusOf n) ≡ n) knownOctets octet h (refl, (refl, (refl, (refl, (refl, tt)))))
 
 status-of-octet : (status : DriveStatus) → (isDriveStatus (octetOf status) ≡ true) × (statusOf (octetOf status) ≡ status)
 unfolding isDriveStatus statusOf pick
@@ -57,7 +53,7 @@ pub encoded-octet : (status : DriveStatus) (rest : List ℕ) → DecodedDriveSta
 encoded-octet status rest =
     let (known, same) = status-of-octet status in
     let free = none-given (driveStatusRows (octetOf status ∷ rest)) (le-ltb (suc (length rest)) 1 (omega arith), (rw known, tt)) in
-    record { answer = rw (free, same) }
+    drive-status-decoded (rw (free, same))
 
 -- ---- the status response
 
@@ -73,7 +69,7 @@ decoded-octets octets response d =
 pub encoded-octets : (response : Response) (rest : List ℕ) → DecodedResponse (responseOctets response ++ rest) (ResponseRead.Decoded response)
 encoded-octets response rest =
     let free = none-given (responseRows (responseOctets response ++ rest)) (le-ltb (length (responseOctets response ++ rest)) 8 (omega arith), (never-foreign response rest, tt)) in
-    record { answer = rw (free, response-of-octets response) }
+    response-decoded (rw (free, response-of-octets response))
 
 pub drive-status-round-trip : DriveStatusRoundTrip
 drive-status-round-trip =

@@ -6,7 +6,7 @@ use mathlib.Core.List.{List, [], _∷_}
 use lib.Dec.{eqb, ltb}
 use lib.ListN.{length, getD}
 use Rattle.laws.specs.Pick.{pick}
-use Rattle.laws.specs.Rows.{Row, first, _when_, unlessRefused}
+use Rattle.laws.specs.Rows.{Row, first, _when_, unlessRefused, Paper, refusedWith, tells, refusedOr}
 use Rattle.laws.specs.Lists.{oneOf}
 use Rattle.status.specs.declared.drive_status.DriveStatus.{DriveStatus}
 use Rattle.status.specs.declared.drive_status.DriveStatus.the-variants.{Normal, Busy, HeaderMiscompare, OperationException, UnsolicitedException}
@@ -53,6 +53,15 @@ abbrev pub refusalIn : DriveStatusRead → ℕ
 refusalIn (Status status) = 0
 refusalIn (Refused n) = n
 
+-- The answer on paper: the number of the refusal, or that of the status.
+abbrev pub paper : DriveStatusRead → Paper ℕ
+paper (Status status) = tells (octetOf status)
+paper (Refused n) = refusedWith n
+
+abbrev pub driveStatusIn : List ℕ → DriveStatusRead
+driveStatusIn octets = unlessRefused (driveStatusRefusal octets) (Refused (driveStatusRefusal octets)) (Status (statusOf (getD octets 0 0)))
+
 -- The promise of `decode_drive_status`.
 pub record DecodedDriveStatus (octets : List ℕ) (r : DriveStatusRead) : Type 0 where
-  pub answer : r ≡ unlessRefused (driveStatusRefusal octets) (Refused (driveStatusRefusal octets)) (Status (statusOf (getD octets 0 0)))
+  pub answer : r ≡ driveStatusIn octets
+  pub on-paper : paper r ≡ refusedOr (driveStatusRows octets) (getD octets 0 0)

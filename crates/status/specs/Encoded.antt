@@ -16,7 +16,7 @@ encodeRows octets slice = 10 when ltb (length slice) (length octets) ∷ []
 abbrev pub encodeRefusal : List ℕ → List ℕ → ℕ
 encodeRefusal octets slice = first (encodeRows octets slice)
 
--- The number that an answer refuses with, 0 where it refuses nothing.
+-- The answer on paper: the number that it refuses with, 0 where it refuses nothing.
 abbrev pub refusalIn : Encoded → ℕ
 refusalIn Written = 0
 refusalIn (Refused n) = n
@@ -24,4 +24,5 @@ refusalIn (Refused n) = n
 -- The promise of `encode_drive_status` and `encode_response`: the octets go to the front of the slice, and the rest stays as it was.
 pub record EncodedAs (octets before after : List ℕ) (r : Encoded) : Type 0 where
   pub answer : r ≡ unlessRefused (encodeRefusal octets before) (Refused (encodeRefusal octets before)) Written
+  pub on-paper : refusalIn r ≡ encodeRefusal octets before
   pub slice : after ≡ unlessRefused (encodeRefusal octets before) before (writtenOver before octets)

@@ -4,9 +4,9 @@ use mathlib.Core.Path.{_≡_}
 use mathlib.Core.Bool.{Bool, not, _||_}
 use mathlib.Core.List.{List, [], _∷_}
 use lib.Dec.{eqb, ltb}
-use lib.ListN.{length, getD}
+use lib.ListN.{length, getD, take}
 use Rattle.laws.specs.Pick.{pick}
-use Rattle.laws.specs.Rows.{Row, first, _when_, unlessRefused}
+use Rattle.laws.specs.Rows.{Row, first, _when_, unlessRefused, Paper, refusedWith, tells, refusedOr}
 use Rattle.laws.specs.Octets.{bit}
 use Rattle.status.specs.declared.response.Response.{Response}
 use Rattle.status.specs.declared.response.ResponseRead.{ResponseRead}
@@ -78,6 +78,15 @@ abbrev pub refusalIn : ResponseRead → ℕ
 refusalIn (Decoded response) = 0
 refusalIn (Refused n) = n
 
+-- The answer on paper: the number of the refusal, or the 8 octets of the response.
+abbrev pub paper : ResponseRead → Paper (List ℕ)
+paper (Decoded response) = tells (responseOctets response)
+paper (Refused n) = refusedWith n
+
+abbrev pub responseIn : List ℕ → ResponseRead
+responseIn octets = unlessRefused (responseRefusal octets) (Refused (responseRefusal octets)) (Decoded (responseOf (getD octets 1 0) (getD octets 2 0)))
+
 -- The promise of `decode_response`.
 pub record DecodedResponse (octets : List ℕ) (r : ResponseRead) : Type 0 where
-  pub answer : r ≡ unlessRefused (responseRefusal octets) (Refused (responseRefusal octets)) (Decoded (responseOf (getD octets 1 0) (getD octets 2 0)))
+  pub answer : r ≡ responseIn octets
+  pub on-paper : paper r ≡ refusedOr (responseRows octets) (take 8 octets)
