@@ -7,4 +7,4 @@ use Rattle.capture.specs.Cases.{CaptureCases}
 
 pub capture-cases : CaptureCases
 unfolding pick recordOf
-capture-cases = record { encoded = refl; decoded = record { answer = refl }; second = record { answer = refl } }
+capture-cases = record { encoded = refl; decoded = record { answer = refl; on-paper = refl }; second = record { answer = refl; on-paper = refl } }

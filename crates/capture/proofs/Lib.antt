@@ -1,4 +1,5 @@
 pub mod Pieces
+pub mod Promised
 pub mod Decoding
 pub mod RecordOctets
 pub mod Trailer

@@ -23,6 +23,7 @@ use Rattle.capture.specs.declared.encoding.CaptureEncoded.{CaptureEncode
 use Rattle.laws.proofs.Tests.{or-l, or-r}
 use Rattle.laws.proofs.Rows.{none-given, accepted}
 use Rattle.capture.proofs.Decoding.{Whole, whole, whole-parts}
+use Rattle.capture.proofs.Promised.{record-decoded, capture-decoded}
 use Rattle.capture.proofs.RecordOctets.{octets-of-record, record-of-octets}
 use Rattle.capture.proofs.Trailer.{distance-held, same-trailer, length-capture, distance-of-capture, capture-has-mark}
 
@@ -44,7 +45,7 @@ encoded-record : (event : Record) (rest : List ℕ) → event .tick < 2 ^ 16 →
 encoded-record event rest h =
     let octets = recordOctets event ++ rest in
     let free = none-given (recordRows octets) (le-ltb (length octets) 8 (omega arith), tt) in
-    record { answer = rw (free, record-of-octets event rest h) }
+    record-decoded (rw (free, record-of-octets event rest h))
 
 pub record-round-trip : RecordRoundTrip
 record-round-trip =
@@ -98,7 +99,7 @@ module _ (notes records : List ℕ) (even : length records % 8 ≡ 0) (held : le
       let fit : (not (eqb (distanceOf octets % 8) 0) || ltb (length octets - 8) (distanceOf octets)) ≡ false =
       rw (distance, eq-eqb _ _ even) (le-ltb (length octets - 8) (length records) (omega arith)) in
       let free = none-given (captureRows octets) (le-ltb (length octets) 8 (omega arith), (rw (capture-has-mark notes records), (fit, tt))) in
-      record { answer = rw (free, starts, distance) }
+      capture-decoded (rw (free, starts, distance))
 
   parts-again : NotesGiven (captureOctets notes records) notes × RecordsGiven (captureOctets notes records) records
   parts-again =

@@ -5,7 +5,7 @@ use mathlib.Core.Bool.{Bool, true, false, not, _&&_, _||_}
 use mathlib.Core.List.{List, [], _∷_}
 use lib.Dec.{eqb, ltb}
 use lib.ListN.{length, take, drop}
-use Rattle.laws.specs.Rows.{Row, first, _when_, unlessRefused}
+use Rattle.laws.specs.Rows.{Row, first, _when_, unlessRefused, Paper, refusedWith, tells, refusedOr}
 use Rattle.laws.specs.Octets.{numberOf}
 use Rattle.capture.specs.declared.capture.CaptureRead.{CaptureRead}
 use Rattle.capture.specs.declared.capture.CaptureRead.the-variants.{Capture, Refused}
@@ -54,9 +54,22 @@ abbrev pub refusalIn : CaptureRead → ℕ
 refusalIn (Capture first count) = 0
 refusalIn (Refused n) = n
 
+-- The answer on paper: the number of the refusal, or where the first record starts and how many records there are.
+pub record Found : Type 0 where
+  pub first : ℕ
+  pub count : ℕ
+
+abbrev pub paper : CaptureRead → Paper Found
+paper (Capture first count) = tells (record { first = first; count = count })
+paper (Refused n) = refusedWith n
+
+abbrev pub captureIn : List ℕ → CaptureRead
+captureIn octets = unlessRefused (captureRefusal octets) (Refused (captureRefusal octets)) (Capture (firstRecord octets) (distanceOf octets / 8))
+
 -- The promise of `decode_capture`.
 pub record DecodedCapture (octets : List ℕ) (r : CaptureRead) : Type 0 where
-  pub answer : r ≡ unlessRefused (captureRefusal octets) (Refused (captureRefusal octets)) (Capture (firstRecord octets) (distanceOf octets / 8))
+  pub answer : r ≡ captureIn octets
+  pub on-paper : paper r ≡ refusedOr (captureRows octets) (record { first = firstRecord octets; count = distanceOf octets / 8 })
 
 -- "Octets before that record are bench notes, kept and ignored." None where the capture is refused.
 unfoldable pub notesOf : List ℕ → List ℕ

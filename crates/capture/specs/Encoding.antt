@@ -5,7 +5,7 @@ use mathlib.Core.Bool.{not, _||_}
 use mathlib.Core.List.{List, [], _∷_, _++_}
 use lib.Dec.{eqb, ltb, leb}
 use lib.ListN.{length}
-use Rattle.laws.specs.Rows.{Row, first, _when_, unlessRefused}
+use Rattle.laws.specs.Rows.{Row, first, _when_, unlessRefused, Paper, refusedWith, tells, refusedOr}
 use Rattle.laws.specs.Octets.{octetsOf}
 use Rattle.laws.specs.Lists.{writtenOver}
 use Rattle.capture.specs.Capture.{mark}
@@ -40,7 +40,17 @@ abbrev pub refusalIn : CaptureEncoded → ℕ
 refusalIn (Written size) = 0
 refusalIn (Refused n) = n
 
+-- The answer on paper: the number of the refusal, or how many octets the capture has.
+abbrev pub paper : CaptureEncoded → Paper ℕ
+paper (Written size) = tells size
+paper (Refused n) = refusedWith n
+
+abbrev pub encodedIn : List ℕ → List ℕ → List ℕ → CaptureEncoded
+encodedIn notes records out =
+    unlessRefused (encodeRefusal notes records out) (Refused (encodeRefusal notes records out)) (Written (captureLength notes records))
+
 -- The promise of `encode_capture`.
 pub record EncodedCapture (notes records before after : List ℕ) (r : CaptureEncoded) : Type 0 where
-  pub answer : r ≡ unlessRefused (encodeRefusal notes records before) (Refused (encodeRefusal notes records before)) (Written (captureLength notes records))
+  pub answer : r ≡ encodedIn notes records before
+  pub on-paper : paper r ≡ refusedOr (encodeRows notes records before) (captureLength notes records)
   pub slice : after ≡ unlessRefused (encodeRefusal notes records before) before (writtenOver before (captureOctets notes records))

@@ -4,7 +4,7 @@ use mathlib.Core.Path.{_≡_}
 use mathlib.Core.List.{List, [], _∷_, _++_}
 use lib.Dec.{ltb}
 use lib.ListN.{length, getD, take}
-use Rattle.laws.specs.Rows.{Row, first, _when_, unlessRefused}
+use Rattle.laws.specs.Rows.{Row, first, _when_, unlessRefused, Paper, refusedWith, tells, refusedOr}
 use Rattle.laws.specs.Octets.{numberOf, octetsOf}
 use Rattle.laws.specs.Lists.{writtenOver}
 use Rattle.capture.specs.declared.«record».Record.{Record}
@@ -41,15 +41,26 @@ abbrev pub refusalIn : RecordRead → ℕ
 refusalIn (RecordRead.Decoded event) = 0
 refusalIn (RecordRead.Refused n) = n
 
+-- What `encode_record` answers, on paper: the number that it refuses with, 0 where it refuses nothing.
 abbrev pub refusalInEncoded : Encoded → ℕ
 refusalInEncoded Encoded.Written = 0
 refusalInEncoded (Encoded.Refused n) = n
 
+-- What `decode_record` answers, on paper: the number of the refusal, or the values of the record.
+abbrev pub paper : RecordRead → Paper Record
+paper (RecordRead.Decoded event) = tells event
+paper (RecordRead.Refused n) = refusedWith n
+
+abbrev pub recordIn : List ℕ → RecordRead
+recordIn octets = unlessRefused (recordRefusal octets) (RecordRead.Refused (recordRefusal octets)) (RecordRead.Decoded (recordOf octets))
+
 -- The promise of `decode_record`.
 pub record DecodedRecord (octets : List ℕ) (r : RecordRead) : Type 0 where
-  pub answer : r ≡ unlessRefused (recordRefusal octets) (RecordRead.Refused (recordRefusal octets)) (RecordRead.Decoded (recordOf octets))
+  pub answer : r ≡ recordIn octets
+  pub on-paper : paper r ≡ refusedOr (recordRows octets) (recordOf octets)
 
 -- The promise of `encode_record`.
 pub record EncodedRecord (event : Record) (before after : List ℕ) (r : Encoded) : Type 0 where
   pub answer : r ≡ unlessRefused (recordRefusal before) (Encoded.Refused (recordRefusal before)) Encoded.Written
+  pub on-paper : refusalInEncoded r ≡ recordRefusal before
   pub slice : after ≡ unlessRefused (recordRefusal before) before (writtenOver before (recordOctets event))

@@ -13,12 +13,13 @@ use Rattle.laws.specs.Octets.{numberOf}
 use Rattle.capture.specs.Capture.{mark, sameOctets, hasMark, distanceOf, captureRefusal}
 use Rattle.laws.proofs.Runs.{rest-whole}
 use borrow.Author.Needs.{needs}
+use Rattle.capture.proofs.Promised.{capture-decoded}
 use Rattle.capture.proofs.capture.decode_capture.Statement.{statement}
 use Rattle.capture.proofs.capture.decode_capture.Tie as tie
 
 returns : tie.Need-returns
 unfolding pick
-returns c = record { answer = rw (lt-ltb _ _ (c .if1 .taken)) }
+returns c = capture-decoded (rw (lt-ltb _ _ (c .if1 .taken)))
 
 sub-body : tie.Need-sub-body
 sub-body c = search needs
@@ -44,7 +45,7 @@ returns-2 : tie.Need-returns-2
 unfolding pick
 returns-2 c =
     let m = c .before in
-    record { answer = rw (le-ltb _ _ (m .before .before .if1 .left), ← (mark-read m), c .if2 .taken) }
+    capture-decoded (rw (le-ltb _ _ (m .before .before .if1 .left), ← (mark-read m), c .if2 .taken))
 
 distance-of-requires : tie.Need-distance-of-requires
 distance-of-requires c κs = search needs
@@ -66,17 +67,17 @@ then-distance c =
 
 returns-3 : tie.Need-returns-3
 unfolding pick
-returns-3 c = record { answer = rw (then-distance (c .before), ne-eqb _ _ (c .if3 .taken)) }
+returns-3 c = capture-decoded (rw (then-distance (c .before), ne-eqb _ _ (c .if3 .taken)))
 
 returns-4 : tie.Need-returns-4
 unfolding pick
-returns-4 c = record { answer = rw (then-distance (c .before .before), eq-eqb _ _ (c .before .if3 .left), lt-ltb _ _ (c .if4 .taken)) }
+returns-4 c = capture-decoded (rw (then-distance (c .before .before), eq-eqb _ _ (c .before .if3 .left), lt-ltb _ _ (c .if4 .taken)))
 
 returns-5 : tie.Need-returns-5
 unfolding pick
 returns-5 c =
     let d = c .before .before in
-    record { answer = rw (then-distance d, ← (distance-read d), eq-eqb _ _ (c .before .if3 .left), le-ltb _ _ (c .if4 .left)) }
+    capture-decoded (rw (then-distance d, ← (distance-read d), eq-eqb _ _ (c .before .if3 .left), le-ltb _ _ (c .if4 .left)))
 
 pub decode-capture-spec : {M : Type 1} → statement M
 decode-capture-spec =

@@ -12,6 +12,7 @@ use Rattle.laws.proofs.Pick.{told}
 use borrow.Author.Needs.{needs}
 use Rattle.capture.specs.Encoding.{captureLength}
 use Rattle.laws.proofs.Tests.{or-r}
+use Rattle.capture.proofs.Promised.{capture-encoded}
 use Rattle.capture.proofs.encoding.encode_capture.Statement.{statement}
 use Rattle.capture.proofs.encoding.encode_capture.Tie as tie
 
@@ -22,7 +23,7 @@ returns : tie.Need-returns
 unfolding pick
 returns c =
     let short = told _ _ _ (c .before .lacks-room .ensures) (c .if1 .taken) in
-    record { answer = rw short; slice = rw short }
+    capture-encoded (rw short) (rw short)
 
 has-room : (c : tie.Else1)
     → let a = c .before .before .before .before .before .args in
@@ -38,7 +39,7 @@ returns-2 : tie.Need-returns-2
 unfolding pick
 returns-2 c =
     let room = has-room (c .before) in
-    record { answer = rw (room, c .if2 .taken); slice = rw (room, c .if2 .taken) }
+    capture-encoded (rw (room, c .if2 .taken)) (rw (room, c .if2 .taken))
 
 write-capture-requires : tie.Need-write-capture-requires
 write-capture-requires c κs =
@@ -61,7 +62,7 @@ returns-3 c =
     let written = c .before .before in
     let fit = written .before .before in
     let room = has-room (fit .before) in
-    record { answer = rw (room, fit .if2 .left); slice = rw (room, fit .if2 .left) (written .write-capture .ensures) }
+    capture-encoded (rw (room, fit .if2 .left)) (rw (room, fit .if2 .left) (written .write-capture .ensures))
 
 pub encode-capture-spec : {M : Type 1} → statement M
 encode-capture-spec =

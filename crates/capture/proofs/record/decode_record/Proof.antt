@@ -6,12 +6,13 @@ use Rattle.capture.specs.Record.{recordOf}
 use Rattle.laws.proofs.Runs.{run-read}
 use native.Mathlib.Omega.{arith}
 use borrow.Author.Needs.{needs}
+use Rattle.capture.proofs.Promised.{record-decoded}
 use Rattle.capture.proofs.record.decode_record.Statement.{statement}
 use Rattle.capture.proofs.record.decode_record.Tie as tie
 
 returns : tie.Need-returns
 unfolding pick
-returns c = record { answer = rw (lt-ltb _ _ (c .if1 .taken)) }
+returns c = record-decoded (rw (lt-ltb _ _ (c .if1 .taken)))
 
 shared-slice-read-word : tie.Need-shared-slice-read-word
 shared-slice-read-word c = search needs
@@ -45,7 +46,7 @@ unfolding pick recordOf
 returns-2 c =
     let b = c .before .before .before .before .before .before in
     let octets = b .before .before .before .before .before .args .octets .now in
-    record { answer = rw (le-ltb _ _ (b .before .before .before .if1 .left), b .word .ensures, run-read octets 0 2 (omega arith)) }
+    record-decoded (rw (le-ltb _ _ (b .before .before .before .if1 .left), b .word .ensures, run-read octets 0 2 (omega arith)))
 
 pub decode-record-spec : {M : Type 1} → statement M
 decode-record-spec =

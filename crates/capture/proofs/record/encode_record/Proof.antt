@@ -9,12 +9,13 @@ use Rattle.laws.specs.Pick.{pick}
 use Rattle.laws.proofs.Lists.{stored}
 use Rattle.capture.specs.Record.{recordOctets}
 use borrow.Author.Needs.{needs}
+use Rattle.capture.proofs.Promised.{record-encoded}
 use Rattle.capture.proofs.record.encode_record.Statement.{statement}
 use Rattle.capture.proofs.record.encode_record.Tie as tie
 
 returns : tie.Need-returns
 unfolding pick
-returns c = record { answer = rw (lt-ltb _ _ (c .if1 .taken)); slice = rw (lt-ltb _ _ (c .if1 .taken)) }
+returns c = record-encoded (rw (lt-ltb _ _ (c .if1 .taken))) (rw (lt-ltb _ _ (c .if1 .taken)))
 
 cast-octets : tie.Need-cast-octets
 cast-octets c = search needs
@@ -55,10 +56,8 @@ returns-2 c =
     let b = c .before .before in
     let a = b .before .args in
     let high : a .event .tick / 256 % 256 ≡ a .event .tick / 256 = omega (arith, c .struct-known2 .given) in
-    record {
-      answer = rw (le-ltb _ _ (b .if1 .left));
-      slice = rw (le-ltb _ _ (b .if1 .left), high) (rw high at (stored (a .octets .now) (recordOctets (a .event)) (b .if1 .left)));
-    }
+    record-encoded (rw (le-ltb _ _ (b .if1 .left)))
+    (rw (le-ltb _ _ (b .if1 .left), high) (rw high at (stored (a .octets .now) (recordOctets (a .event)) (b .if1 .left))))
 
 pub encode-record-spec : {M : Type 1} → statement M
 encode-record-spec =
