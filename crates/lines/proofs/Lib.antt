@@ -1,4 +1,5 @@
 pub mod Listed
+pub mod Said
 pub mod Step
 pub mod Reached
 pub mod History

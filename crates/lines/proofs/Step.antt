@@ -6,7 +6,9 @@ use mathlib.Core.Bool.{Bool, true, false}
 use lib.Dec.{ltb}
 use Rattle.laws.specs.Pick.{pick}
 use Rattle.laws.specs.Rows.{unlessRefused}
-use Rattle.lines.specs.Follower.{isReached, told, whileLost, moved, stepOf, Stepped}
+use Rattle.lines.specs.Follower.{isReached, told, whileLost, moved, stepRows, stepOf, paper, Stepped}
+use Rattle.laws.proofs.Rows.{seen-on-paper}
+use Rattle.lines.proofs.Said.{step-on-paper}
 use Rattle.lines.specs.declared.follower.Follower.{Follower}
 use Rattle.lines.specs.declared.follower.Followed.{Followed}
 use Rattle.lines.specs.declared.follower.Answer.the-variants.{Refused}
@@ -26,4 +28,10 @@ step-reached f new e = rw e (by-setting (ltb 31 new))
     by-setting false = refl
 
 pub stepped : {f : Follower} {new : ℕ} {r : Followed} → r ≡ stepOf f new → Stepped f new r
-stepped e = record { answer = ap (λ (d : Followed). d .answer) e; follower = ap (λ (d : Followed). d .follower) e }
+unfolding stepOf
+stepped {f} {new} {r} e =
+    record {
+      answer = ap (λ (d : Followed). d .answer) e;
+      on-paper = seen-on-paper (λ (d : Followed). paper (d .answer)) (λ n. told (Refused n) f) _ r _ (stepRows f new) refl (λ n. refl) (λ passed. step-on-paper f new) e;
+      follower = ap (λ (d : Followed). d .follower) e;
+    }

@@ -5,7 +5,7 @@ use mathlib.Core.Bool.{Bool, true, false, not, _&&_, _||_}
 use mathlib.Core.List.{List, [], _∷_}
 use lib.Dec.{eqb, ltb}
 use Rattle.laws.specs.Pick.{pick}
-use Rattle.laws.specs.Rows.{Row, first, _when_, unlessRefused}
+use Rattle.laws.specs.Rows.{Row, first, _when_, unlessRefused, Paper, refusedWith, tells, refusedOr}
 use Rattle.laws.specs.Lists.{oneOf}
 use Rattle.lines.specs.Moves.{entryOf}
 use Rattle.lines.specs.declared.follower.Follower.{Follower}
@@ -105,6 +105,23 @@ refusalIn Lost = 0
 refusalIn Idle = 0
 refusalIn (Refused n) = n
 
+-- The answer on paper: the number of the refusal, or what is said. Document 01 has words for it; the numbers are the table's entries,
+-- and behind them 4 for "lost" and 5 for "idle".
+abbrev pub paper : Answer → Paper ℕ
+paper Same = tells 0
+paper Controllers = tells 1
+paper Drives = tells 2
+paper Undefined = tells 3
+paper Lost = tells 4
+paper Idle = tells 5
+paper (Refused n) = refusedWith n
+
+-- What is said, in those numbers: while lost as above; else the table's entry, and 3 for a controller's move that lacks its history.
+unfoldable pub numberSaid : Follower → ℕ → ℕ
+numberSaid f new =
+    pick (f .lost) (pick (eqb new 0) 5 4)
+    (pick (eqb (entryOf (f .setting) new) 1 && lacksHistory f new) 3 (entryOf (f .setting) new))
+
 -- The promise of `Follower::start`.
 pub record Started (r : Follower) : Type 0 where
   pub follower : r ≡ idle
@@ -112,4 +129,5 @@ pub record Started (r : Follower) : Type 0 where
 -- The promise of `Follower::step`.
 pub record Stepped (f : Follower) (new : ℕ) (r : Followed) : Type 0 where
   pub answer : r .answer ≡ (stepOf f new) .answer
+  pub on-paper : paper (r .answer) ≡ refusedOr (stepRows f new) (numberSaid f new)
   pub follower : r .follower ≡ (stepOf f new) .follower

@@ -38,9 +38,15 @@ movedOwners [] old new = []
 movedOwners (line ∷ lines) old new =
     pick (Bool·beq (isUp line old) (isUp line new)) (movedOwners lines old new) (ownerOf line ∷ movedOwners lines old new)
 
+-- The side on paper, by its number in the table of moves: 1 the controller's, 2 the drive's.
+abbrev pub paper : Side → ℕ
+paper Controller = 1
+paper Drive = 2
+
 -- The promises of `weight` and `owner`.
 pub record WeightSaid (line : Line) (r : ℕ) : Type 0 where
   pub answer : r ≡ weightOf line
 
 pub record OwnerSaid (line : Line) (r : Side) : Type 0 where
   pub answer : r ≡ ownerOf line
+  pub on-paper : paper r ≡ paper (ownerOf line)

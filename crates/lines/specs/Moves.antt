@@ -6,7 +6,7 @@ use mathlib.Core.List.{List, [], _∷_, map}
 use lib.Dec.{eqb, ltb}
 use lib.ListN.{getD}
 use Rattle.laws.specs.Pick.{pick}
-use Rattle.laws.specs.Rows.{Row, first, _when_, unlessRefused}
+use Rattle.laws.specs.Rows.{Row, first, _when_, unlessRefused, Paper, refusedWith, tells, refusedOr}
 use Rattle.laws.specs.Lists.{tableFrom, countOf}
 use Rattle.lines.specs.Line.{allLines, movedOwners}
 use Rattle.lines.specs.declared.line.Side.the-variants.{Controller, Drive}
@@ -61,9 +61,18 @@ refusalIn Drives = 0
 refusalIn Undefined = 0
 refusalIn (Refused n) = n
 
+-- The answer on paper: the number of the refusal, or the table's entry.
+abbrev pub paper : Move → Paper ℕ
+paper Same = tells 0
+paper Controllers = tells 1
+paper Drives = tells 2
+paper Undefined = tells 3
+paper (Refused n) = refusedWith n
+
 -- The promise of `move_of`.
 pub record MoveSaid (old new : ℕ) (r : Move) : Type 0 where
   pub answer : r ≡ moveOf old new
+  pub on-paper : paper r ≡ refusedOr (moveRows old new) (entryOf old new)
 
 -- The table: "It is proved equal to the list, once over all pairs" and "same (32 pairs), controller's (14), drive's (7), undefined (971)".
 pub record TableIsTheList : Type 0 where

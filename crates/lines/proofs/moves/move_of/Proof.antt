@@ -5,16 +5,17 @@ use borrow.Author.Needs.{needs}
 use borrow.Author.Tests.{lt-ltb, le-ltb}
 use Rattle.laws.specs.Pick.{pick}
 use Rattle.lines.specs.Moves.{saidBy, moveOf}
+use Rattle.lines.proofs.Said.{move-said}
 use Rattle.lines.proofs.moves.move_of.Statement.{statement}
 use Rattle.lines.proofs.moves.move_of.Tie as tie
 
 returns : tie.Need-returns
 unfolding moveOf pick
-returns c = record { answer = rw (lt-ltb _ _ (c .if1 .taken)) }
+returns c = move-said (rw (lt-ltb _ _ (c .if1 .taken)))
 
 returns-2 : tie.Need-returns-2
 unfolding moveOf pick
-returns-2 c = record { answer = rw (le-ltb _ _ (c .before .if1 .left), lt-ltb _ _ (c .if2 .taken)) }
+returns-2 c = move-said (rw (le-ltb _ _ (c .before .if1 .left), lt-ltb _ _ (c .if2 .taken)))
 
 entry-requires : tie.Need-entry-requires
 entry-requires c κs = search needs
@@ -25,11 +26,9 @@ said-by-requires c κs = search needs
 returns-3 : tie.Need-returns-3
 unfolding moveOf pick
 returns-3 c =
-    record {
-      answer =
-          rw (le-ltb _ _ (c .before .before .before .if1 .left), le-ltb _ _ (c .before .before .if2 .left))
-          (c .said-by .ensures ∙ ap saidBy (c .before .entry .ensures));
-    }
+    move-said
+    (rw (le-ltb _ _ (c .before .before .before .if1 .left), le-ltb _ _ (c .before .before .if2 .left))
+    (c .said-by .ensures ∙ ap saidBy (c .before .entry .ensures)))
 
 pub move-of-spec : {M : Type 1} → statement M
 move-of-spec = tie.close (tie.spec returns returns-2 entry-requires said-by-requires returns-3)
