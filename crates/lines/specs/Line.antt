@@ -18,6 +18,11 @@ weightOf MasterOut = 4
 weightOf SyncIn = 2
 weightOf SyncOut = 1
 
+-- "IDLE 0, MAINT 1, REQUEST 4, DESEL 8, SELECT 16, SLAVEND 20, SLAVACK 24, BUSCTL 25, MASTEND 26, BUSACK 27, XFRRDY 28, XFRST 30. Settings 31
+-- and 29 finish one word's handshake."
+abbrev pub namedSettings : List ℕ
+namedSettings = 0 ∷ 1 ∷ 4 ∷ 8 ∷ 16 ∷ 20 ∷ 24 ∷ 25 ∷ 26 ∷ 27 ∷ 28 ∷ 30 ∷ 31 ∷ 29 ∷ []
+
 -- "SLAVE IN and SYNC IN are the drive's, the others the controller's."
 abbrev pub ownerOf : Line → Side
 ownerOf SelectOut = Controller

@@ -1,5 +1,6 @@
 // The five control lines: the part of each in a setting, and its owner.
-ghost use Rattle.lines.specs.Line.{WeightSaid, OwnerSaid};
+ghost use mathlib.Core.Path.{_≡_};
+ghost use Rattle.lines.specs.Line.{namedSettings, WeightSaid, OwnerSaid};
 
 // The settings that have a name.
 pub const IDLE: u8 = 0;
@@ -29,6 +30,28 @@ pub const XFREND: u8 = 29;
 pub const XFRST: u8 = 30;
 
 pub const XFRRES: u8 = 31;
+
+// Nothing calls it: its promise holds the names above to document 01's numbers.
+fn named_settings() -> [u8; 14]
+    ensures { λ r. ⌜ r ≡ namedSettings ⌝ }
+{
+    [
+        IDLE,
+        MAINT,
+        REQUEST,
+        DESEL,
+        SELECT,
+        SLAVEND,
+        SLAVACK,
+        BUSCTL,
+        MASTEND,
+        BUSACK,
+        XFRRDY,
+        XFRST,
+        XFRRES,
+        XFREND,
+    ]
+}
 
 // The largest setting: all five lines up.
 pub(crate) const LAST_SETTING: u8 = 31;
