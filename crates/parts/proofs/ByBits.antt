@@ -23,7 +23,7 @@ agreed true false e = absurd (true≢false (sym e))
 agreed false true e = absurd (true≢false (sym e))
 agreed false false e = refl
 
-invalid-beyond : (c : ℕ) → 256 ≤ c → controlOf c ≡ Invalid
+pub invalid-beyond : (c : ℕ) → 256 ≤ c → controlOf c ≡ Invalid
 unfolding controlOf pick
 invalid-beyond c h =
     rw (le-ltb c 0x80 (omega arith), le-ltb c 0x84 (omega arith), le-ltb c 0x90 (omega arith), ne-eqb c 0x90 (λ e. omega arith), le-ltb c 0x94 (omega arith), le-ltb c 0xA0 (omega arith), le-ltb c 0xC0 (omega arith), ne-eqb c 0xD0 (λ e. omega arith), le-ltb c 0xE0 (omega arith))

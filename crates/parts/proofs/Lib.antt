@@ -1,3 +1,4 @@
 pub mod ByBits
+pub mod OnPaper
 pub mod Bits
 pub mod Partners

@@ -1,11 +1,13 @@
 -- "Data controls": what an octet asks for, and the words that pass under it.
 use Prim.Native.Nat.{ℕ, _+_, _/_, _%_}
-use mathlib.Core.Bool.{Bool, true, false, _||_}
+use mathlib.Core.Path.{_≡_}
+use mathlib.Core.Bool.{Bool, true, false, not, _||_}
 use mathlib.Core.List.{List, [], _++_}
 use lib.Dec.{ltb, leb, eqb}
 use lib.ListN.{take, drop}
 use Rattle.laws.specs.Pick.{pick}
 use Rattle.laws.specs.Octets.{bit}
+use Rattle.parts.specs.Setup.{between}
 use Rattle.parts.specs.declared.setup.Setup.{Setup}
 use Rattle.parts.specs.declared.control.Control.{Control}
 use Rattle.parts.specs.declared.control.Control.the-variants.{Write, Read, StepHead, Reserved, Unsupported, Invalid}
@@ -23,6 +25,20 @@ controlOf c =
     (pick (ltb c 0xC0) Invalid
     (pick (eqb c 0xD0) Reserved
     (pick (ltb c 0xE0) Read Invalid))))))))
+
+-- Each case on paper: the octets that those sentences give it.
+abbrev pub isGiven : Control → ℕ → Bool
+isGiven Write c = between 0x84 c 0x8F || between 0x94 c 0x9F
+isGiven Read c = between 0xC0 c 0xCF || between 0xD1 c 0xDF
+isGiven StepHead c = eqb c 0x90
+isGiven Reserved c = eqb c 0xD0
+isGiven Unsupported c = between 0x80 c 0x83 || between 0x91 c 0x93
+isGiven Invalid c = not (between 0x80 c 0x9F || between 0xC0 c 0xDF)
+
+-- The promise of `control_of`.
+pub record ControlSaid (octet : ℕ) (r : Control) : Type 0 where
+  pub answer : r ≡ controlOf octet
+  pub on-paper : isGiven r octet ≡ true
 
 abbrev pub isWrite : Control → Bool
 isWrite Write = true

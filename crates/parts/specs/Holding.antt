@@ -1,5 +1,6 @@
 -- "Who holds the drive".
-use Prim.Native.Nat.{ℕ}
+use Prim.Native.Nat.{ℕ, _%_}
+use mathlib.Core.Path.{_≡_}
 use mathlib.Core.Bool.{Bool, true, false, not, _&&_}
 use lib.Dec.{eqb}
 use Rattle.laws.specs.Pick.{pick}
@@ -27,6 +28,12 @@ prioritySelect octet = bit 0 octet
 -- "A granted selection sets the hold: none without bit 1; plain with bit 1 only; strong with both"
 unfoldable pub holdSet : ℕ → Hold
 holdSet octet = pick (priorityHold octet) (pick (prioritySelect octet) Strong Plain) None
+
+-- The hold on paper: bits 1 and 0 of the octet that sets it, 0 for none.
+abbrev pub paper : Hold → ℕ
+paper None = 0
+paper Plain = 2
+paper Strong = 3
 
 -- "Owned by the other port: strong, busy; plain, granted only with both bits; none, granted only with bit 0."
 abbrev pub holdsAgainst : Hold → ℕ → Bool
@@ -61,3 +68,17 @@ released h = releasedFrom (h .hold) (h .owner)
 -- "nobody selected, no hold"
 abbrev pub free : Holding
 free = held nobody nobody None
+
+-- The promises of `granted_to`, `no_holding` and `released`: the holding, and its hold on paper.
+pub record HoldingSaid (holding : Holding) (bits : ℕ) (r : Holding) : Type 0 where
+  pub answer : r ≡ holding
+  pub on-paper : paper (r .hold) ≡ bits
+
+abbrev pub Granted : ℕ → ℕ → Holding → Type 0
+Granted port octet r = HoldingSaid (grantedTo port octet) (pick (priorityHold octet) (octet % 4) 0) r
+
+abbrev pub NotHeld : Holding → Type 0
+NotHeld r = HoldingSaid free 0 r
+
+abbrev pub Released : Holding → Holding → Type 0
+Released h r = HoldingSaid (released h) (paper (h .hold)) r

@@ -1,7 +1,9 @@
 -- "Events and refusals": the tests on the parts of the state and on a selection octet that the rows are made of.
 use Prim.Native.Nat.{ℕ, _%_, _/_}
 use mathlib.Core.Bool.{Bool, not, _&&_, _||_}
+use mathlib.Core.List.{List, [], _∷_}
 use lib.Dec.{ltb, leb, eqb}
+use Rattle.laws.specs.Rows.{Row, _when_}
 use Rattle.laws.specs.Octets.{bit}
 use Rattle.parts.specs.Setup.{withinLimits}
 use Rattle.parts.specs.Control.{controlOf, isWrite, isRead, wordsToCome}
@@ -60,3 +62,12 @@ isMisaddressed octet address = bit 7 octet || not (eqb (octet / 16 % 8) address)
 -- "Select, bit 3 or 2 set (IPI-2 modes can't change)"
 abbrev pub changesMode : ℕ → Bool
 changesMode octet = bit 3 octet || bit 2 octet
+
+-- ---- "Events test 11, 10, 1, 8; then Select 3, 4, 5, 6; others 2, then 7": from 8 on
+
+abbrev pub insideRows : Bool → Bool → Bool → List Row
+insideRows formed selected untimely = 8 when not formed ∷ 2 when not selected ∷ 7 when untimely ∷ []
+
+abbrev pub selectRows : Bool → Bool → Bool → Bool → Bool → List Row
+selectRows formed selected misaddressed changes busy =
+    8 when not formed ∷ 3 when selected ∷ 4 when misaddressed ∷ 5 when changes ∷ 6 when busy ∷ []

@@ -2,7 +2,7 @@
 use crate::setup::Setup;
 ghost use Prim.Native.Nat.{_≤_};
 ghost use mathlib.Core.Path.{_≡_};
-ghost use Rattle.parts.specs.Control.{controlOf, isWrite, isRead, namesField1, namesField2, verifiesHeader, movesHeader, isAtTarget, part, headerPasses, wordsToCome};
+ghost use Rattle.parts.specs.Control.{controlOf, ControlSaid, isWrite, isRead, namesField1, namesField2, verifiesHeader, movesHeader, isAtTarget, part, headerPasses, wordsToCome};
 
 pub enum Control {
     Write,
@@ -14,7 +14,7 @@ pub enum Control {
 }
 
 pub fn control_of(octet: u16) -> Control
-    ensures { λ r. ⌜ r ≡ controlOf octet ⌝ }
+    ensures { λ r. ⌜ ControlSaid octet r ⌝ }
 {
     match octet {
         0x84..=0x8f | 0x94..=0x9f => Control::Write,

@@ -1,6 +1,6 @@
 // Who holds the drive.
 ghost use mathlib.Core.Path.{_≡_};
-ghost use Rattle.parts.specs.Holding.{priorityHold, prioritySelect, holdSet, holdsAgainst, isOwnedByOther, isBusy, grantedTo, released, free};
+ghost use Rattle.parts.specs.Holding.{priorityHold, prioritySelect, holdSet, holdsAgainst, isOwnedByOther, isBusy, Granted, NotHeld, Released};
 
 pub enum Hold {
     None,
@@ -54,7 +54,7 @@ fn holds_against(hold: Hold, octet: u8) -> bool
 }
 
 pub fn granted_to(port: u16, octet: u8) -> Holding
-    ensures { λ r. ⌜ r ≡ grantedTo port octet ⌝ }
+    ensures { λ r. ⌜ Granted port octet r ⌝ }
 {
     let hold = hold_set(octet);
     Holding {
@@ -65,7 +65,7 @@ pub fn granted_to(port: u16, octet: u8) -> Holding
 }
 
 pub fn no_holding() -> Holding
-    ensures { λ r. ⌜ r ≡ free ⌝ }
+    ensures { λ r. ⌜ NotHeld r ⌝ }
 {
     Holding {
         selected: NOBODY,
@@ -89,7 +89,7 @@ impl Holding {
     }
 
     pub fn released(self) -> Holding
-        ensures { λ r. ⌜ r ≡ released self ⌝ }
+        ensures { λ r. ⌜ Released self r ⌝ }
     {
         let hold = self.hold;
         match hold {

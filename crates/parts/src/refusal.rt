@@ -1,8 +1,7 @@
 // The refusals: their numbers, and the rows of a kind in the order of their tests.
 ghost use mathlib.Core.Path.{_≡_};
-ghost use mathlib.Core.Bool.{not};
-ghost use mathlib.Core.List.{[], _∷_};
-ghost use Rattle.laws.specs.Rows.{first, _when_};
+ghost use Rattle.laws.specs.Rows.{first};
+ghost use Rattle.parts.specs.Tests.{insideRows, selectRows};
 
 pub const NO_SUCH_PORT: u8 = 1;
 
@@ -28,7 +27,7 @@ pub const UNSOUND_STATE: u8 = 11;
 
 // Kinds 2 to 9: 8, then 2, then 7.
 pub fn inside_refusal(formed: bool, selected: bool, untimely: bool) -> u8
-    ensures { λ r. ⌜ r ≡ first (8 when not formed ∷ 2 when not selected ∷ 7 when untimely ∷ []) ⌝ }
+    ensures { λ r. ⌜ r ≡ first (insideRows formed selected untimely) ⌝ }
 {
     if !formed {
         return MALFORMED;
@@ -50,7 +49,7 @@ pub fn select_refusal(
     changes_mode: bool,
     busy: bool,
 ) -> u8
-    ensures { λ r. ⌜ r ≡ first (8 when not formed ∷ 3 when selected ∷ 4 when misaddressed ∷ 5 when «changes_mode» ∷ 6 when busy ∷ []) ⌝ }
+    ensures { λ r. ⌜ r ≡ first (selectRows formed selected misaddressed «changes_mode» busy) ⌝ }
 {
     if !formed {
         return MALFORMED;

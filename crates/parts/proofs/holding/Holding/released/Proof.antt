@@ -2,6 +2,8 @@
 -- Assumes nothing.
 use Rattle.parts.specs.Holding.{released}
 use borrow.Author.Needs.{needs}
+use mathlib.Core.Path.{refl}
+use Rattle.parts.proofs.OnPaper.{holding-said}
 use Rattle.parts.proofs.holding.Holding.released.Statement.{statement}
 use Rattle.parts.proofs.holding.Holding.released.Tie as tie
 
@@ -23,11 +25,11 @@ returns c = rw (c .before .enum-told .given .1) (c .no-holding .ensures)
 
 returns-2 : tie.Need-returns-2
 unfolding released
-returns-2 c = rw (c .enum-told2 .given .1)
+returns-2 c = rw (c .enum-told2 .given .1) (holding-said refl refl)
 
 returns-3 : tie.Need-returns-3
 unfolding released
-returns-3 c = rw (c .enum-told3 .given .1)
+returns-3 c = rw (c .enum-told3 .given .1) (holding-said refl refl)
 
 pub released-spec : {M : Type 1} → statement M
 released-spec =
