@@ -4,3 +4,4 @@ pub mod Step
 pub mod Reached
 pub mod History
 pub mod Only
+pub mod WrongAnswers

@@ -2,3 +2,4 @@ pub mod Line
 pub mod Moves
 pub mod Follower
 pub mod Traces
+pub mod WrongAnswers
