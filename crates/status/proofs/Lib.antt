@@ -6,3 +6,4 @@ pub mod Foreign
 pub mod Decoding
 pub mod RoundTrip
 pub mod Cases
+pub mod WrongAnswers

@@ -3,3 +3,4 @@ pub mod DriveStatus
 pub mod Response
 pub mod RoundTrip
 pub mod Cases
+pub mod WrongAnswers
