@@ -7,3 +7,4 @@ pub mod Only
 pub mod Exactly
 pub mod RoundTrip
 pub mod Cases
+pub mod WrongAnswers

@@ -3,3 +3,4 @@ pub mod Capture
 pub mod Encoding
 pub mod RoundTrip
 pub mod Cases
+pub mod WrongAnswers
