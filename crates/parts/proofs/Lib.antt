@@ -2,3 +2,4 @@ pub mod ByBits
 pub mod OnPaper
 pub mod Bits
 pub mod Partners
+pub mod WrongAnswers

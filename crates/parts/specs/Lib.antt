@@ -5,3 +5,4 @@ pub mod Holding
 pub mod Pending
 pub mod Kind
 pub mod Tests
+pub mod WrongAnswers
