@@ -22,7 +22,8 @@ use Rattle.status.specs.Response.{bitWhen, unsolicitedOctet, busControlOctet, e
 use Rattle.status.specs.declared.drive_status.DriveStatusRead.the-variants as DriveStatusRead
 use Rattle.status.specs.declared.response.ResponseRead.the-variants as ResponseRead
 use Rattle.status.proofs.Only.{decode-drive-status-only, decode-response-only}
-use Rattle.status.proofs.RoundTrip.{octet-of-status, encoded-octet, encoded-octets}
+use Rattle.status.proofs.Decoding.{octet-of-status}
+use Rattle.status.proofs.RoundTrip.{encoded-octet, encoded-octets}
 use Rattle.drive.specs.Answer.{paper}
 use Rattle.drive.specs.State.{pendingOn}
 use Rattle.drive.specs.Bounded.{statuses, responseTo, Bounded}
