@@ -33,7 +33,7 @@ use Rattle.drive.specs.declared.drive.Drive.{Drive}
 use Rattle.drive.specs.declared.answer.Answer.{Answer}
 use Rattle.drive.specs.declared.answer.Answer.the-variants.{Refused, Done, Status, Opened, Word, LastWord, Response}
 use Rattle.drive.specs.declared.answer.Outcome.{Outcome}
-use Rattle.drive.proofs.Bounds.{limits, words-within, sector-words-few}
+use Rattle.parts.proofs.Bounds.{limits, words-within, sector-words-few}
 use Rattle.drive.proofs.Sound.{sound}
 use Rattle.drive.proofs.Laws.{by-cases, doneBy, AllPassed}
 use Rattle.drive.proofs.EveryAnswer.{OfTheTable, numbers}

@@ -23,7 +23,7 @@ use Rattle.drive.specs.Frame.{isIn, wordWritten}
 use Rattle.drive.specs.Run.{Machine, machine, after, final}
 use Rattle.drive.specs.Excess.{SameExcess, ExcessStays}
 use Rattle.drive.specs.declared.drive.Drive.{Drive}
-use Rattle.drive.proofs.Bounds.{inside, sector-in-room, words-within}
+use Rattle.parts.proofs.Bounds.{inside, sector-in-room, words-within}
 use Rattle.drive.proofs.Sound.{sound, room}
 use Rattle.drive.proofs.Own.{able-to-write}
 use Rattle.drive.proofs.Frame.{commit-frame, staged-room}

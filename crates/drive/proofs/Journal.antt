@@ -35,7 +35,7 @@ use Rattle.drive.specs.declared.drive.Drive.{Drive}
 use Rattle.parts.specs.declared.event.Event.{Event}
 use Rattle.drive.specs.declared.answer.Answer.{Answer}
 use Rattle.drive.specs.declared.answer.Outcome.{Outcome}
-use Rattle.drive.proofs.Bounds.{words-within, write-words}
+use Rattle.parts.proofs.Bounds.{words-within, write-words}
 use Rattle.drive.proofs.Sound.{sound, room}
 use Rattle.drive.proofs.Own.{able-to-write}
 use Rattle.drive.proofs.Frame.{commit-frame, staged-room}

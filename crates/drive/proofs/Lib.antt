@@ -1,4 +1,3 @@
-pub mod Bounds
 pub mod Reading
 pub mod Own
 pub mod Step

@@ -43,7 +43,7 @@ use Rattle.drive.specs.declared.drive.Drive.{Drive}
 use Rattle.drive.specs.declared.answer.Answer.{Answer}
 use Rattle.drive.specs.declared.answer.Outcome.{Outcome}
 use Rattle.drive.specs.declared.answer.Answer.the-variants.{Done, Status, Opened, Response}
-use Rattle.drive.proofs.Bounds.{limits}
+use Rattle.parts.proofs.Bounds.{limits}
 use Rattle.drive.proofs.Sound.{sound, unsound, room}
 use Rattle.drive.proofs.SoundPlace.{place-kept}
 use Rattle.drive.proofs.Step.{handled-by-kind}

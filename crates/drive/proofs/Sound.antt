@@ -15,7 +15,7 @@ use Rattle.drive.specs.Refusal.{row11, row10}
 use Rattle.parts.specs.Tests.{isOutsideLimits, isDisowned, isBrokenTransfer, hasStrayBit}
 use Rattle.drive.specs.Able.{Room}
 use Rattle.drive.specs.declared.drive.Drive.{Drive}
-use Rattle.drive.proofs.Bounds.{inside, sector-in-room}
+use Rattle.parts.proofs.Bounds.{inside, sector-in-room}
 
 pub record Sound (d : Drive) : Type 0 where
   pub limits : withinLimits (d .setup) ≡ true

@@ -22,7 +22,7 @@ use Rattle.parts.specs.declared.holding.Holding.{Holding}
 use Rattle.parts.specs.declared.transfer.Transfer.{Transfer}
 use Rattle.parts.specs.declared.setup.Setup.{Setup}
 use Rattle.drive.specs.declared.drive.Drive.{Drive}
-use Rattle.drive.proofs.Bounds.{limits, inside}
+use Rattle.parts.proofs.Bounds.{limits, inside}
 use Rattle.drive.proofs.Sound.{Sound}
 use Rattle.drive.proofs.SoundPlace.{is-place, following-below, place-kept, posted-kept, pending-stray, notice-stray}
 

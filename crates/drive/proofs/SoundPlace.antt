@@ -17,7 +17,7 @@ use Rattle.parts.specs.declared.pending.Pending.{Pending}
 use Rattle.parts.specs.declared.setup.Setup.{Setup}
 use Rattle.parts.specs.declared.setup.Place.{Place}
 use Rattle.drive.specs.declared.drive.Drive.{Drive}
-use Rattle.drive.proofs.Bounds.{limits, Inside, inside}
+use Rattle.parts.proofs.Bounds.{limits, Inside, inside}
 use Rattle.drive.proofs.Sound.{Sound}
 
 -- ---- the position and the target

@@ -1,5 +1,4 @@
 // The drive's state, by value, and what changes it: selection, deselection and reset hand the new state back.
-use crate::posting;
 use parts::Holding;
 use parts::Pending;
 use parts::Place;
@@ -91,7 +90,7 @@ impl Drive {
         let p1 = self.pending1;
         if h.is_owned_by_other(port) {
             let p = chosen(owner == 0, p0, p1);
-            return self.posted_on(owner, posting::noticed_on(p));
+            return self.posted_on(owner, p.noticed());
         }
         self
     }

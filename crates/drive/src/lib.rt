@@ -2,10 +2,7 @@
 // customer asked to know of them; the code of the other kinds is in `events`.
 mod answer;
 mod drive;
-mod posting;
 mod power;
-mod refusal;
-mod sizes;
 
 pub use answer::Answer;
 pub use answer::Outcome;

@@ -1,6 +1,5 @@
 // Power-up: the limits, then the slices.
 use crate::drive::Drive;
-use crate::refusal;
 use parts::Pending;
 use parts::Place;
 use parts::Setup;
@@ -38,7 +37,7 @@ pub fn power_up(
     if !setup.within_limits() {
         return Powered::Refused(parts::OUTSIDE_ITS_LIMITS);
     }
-    if refusal::lacks_room(setup, sector_words, staging_words) {
+    if setup.lacks_room(sector_words.len(), staging_words.len()) {
         return Powered::Refused(parts::SLICE_TOO_SHORT);
     }
     Powered::Up(at_rest(setup))

@@ -25,7 +25,7 @@ use Rattle.drive.specs.Batch.{eventOf, eventsIn, judgement, TurnTaken}
 use Rattle.drive.specs.declared.drive.Drive.{Drive}
 use Rattle.drive.specs.declared.answer.Answer.{Answer}
 use Rattle.drive.specs.declared.answer.Answer.the-variants.{Refused}
-use Rattle.drive.proofs.Bounds.{limits}
+use Rattle.parts.proofs.Bounds.{limits}
 use Rattle.drive.proofs.Sound.{sound}
 use Rattle.drive.proofs.Turns.{Turned, judged-on, lent-rest, next-turn, refused-as-judged, run-behind, thirteen, turned-at-start, turned-through, whole-run}
 use Rattle.events.specs.State.{driveIn, stateAfter}

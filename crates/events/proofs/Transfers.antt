@@ -23,7 +23,7 @@ use Rattle.drive.specs.State.{told, withTransfer, result}
 use Rattle.drive.specs.Transfer.{miscompares, committed, staged, wordTaken}
 use Rattle.drive.specs.declared.drive.Drive.{Drive}
 use Rattle.drive.specs.declared.answer.Answer.the-variants.{Done, Status, Word, LastWord}
-use Rattle.drive.proofs.Bounds.{limits, words-few, words-within}
+use Rattle.parts.proofs.Bounds.{limits, words-few, words-within}
 use Rattle.drive.proofs.Own.{timely}
 use Rattle.drive.proofs.Reading.{read-in-place}
 use Rattle.drive.proofs.Sound.{sound, room}

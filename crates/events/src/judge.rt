@@ -2,15 +2,11 @@
 // ends the others: this is what a single event spends most of its time on.
 use crate::coming;
 use crate::layout;
-use crate::sizes;
 use crate::state;
-use parts::Setup;
 ghost use Prim.Native.Nat.{_≤_};
 ghost use mathlib.Core.Path.{_≡_};
-ghost use mathlib.Core.Bool.{true};
 ghost use lib.ListN.{length};
-ghost use Rattle.parts.specs.Setup.{withinLimits};
-ghost use Rattle.drive.specs.Refusal.{row11, row10};
+ghost use Rattle.drive.specs.Refusal.{row11};
 ghost use Rattle.drive.specs.Batch.{judgement};
 ghost use Rattle.events.specs.State.{driveIn};
 ghost use Rattle.events.specs.Unsound.{isMisheld, isMisopened, hasStray};
@@ -26,7 +22,7 @@ pub(crate) fn judge(state: &[u16], sectors: &[u16], staging: &[u16]) -> u8
         return parts::UNSOUND_STATE;
     }
     let setup = state::setup_in(state);
-    if lacks_room(setup, sectors, staging) {
+    if setup.lacks_room(sectors.len(), staging.len()) {
         return parts::SLICE_TOO_SHORT;
     }
     0
@@ -91,11 +87,4 @@ fn has_stray(pending: u16) -> bool
     ensures { λ r. ⌜ r ≡ hasStray pending ⌝ }
 {
     (pending / 256 % 64 != 0) | (pending % 16 != 0)
-}
-
-fn lacks_room(setup: Setup, sectors: &[u16], staging: &[u16]) -> bool
-    requires { ⌜ withinLimits setup ≡ true ⌝ }
-    ensures { λ r. ⌜ r ≡ row10 setup (now (sectors .entry)) (now (staging .entry)) ⌝ }
-{
-    (sectors.len() < sizes::all_words(setup)) | (staging.len() < setup.sector_words())
 }

@@ -10,7 +10,6 @@ mod kinds;
 mod layout;
 mod pending;
 mod place;
-mod posting;
 mod power;
 mod request;
 mod sizes;

@@ -1,14 +1,14 @@
 // What is pending on a port, in its word of the state.
 use crate::answer;
 use crate::layout;
-use crate::posting;
 use crate::state;
 use drive::Answer;
+use parts::Fault;
 ghost use Prim.Native.Nat.{_≤_};
 ghost use mathlib.Core.Path.{_≡_};
 ghost use mathlib.Core.Bool.{not};
 ghost use lib.Dec.{eqb};
-ghost use Rattle.parts.specs.Pending.{OneBit};
+ghost use Rattle.parts.specs.Pending.{bitOf};
 ghost use Rattle.drive.specs.State.{pendingOn};
 ghost use Rattle.drive.specs.Request.{badRequest, statusRead};
 ghost use Rattle.events.specs.State.{driveIn};
@@ -24,14 +24,13 @@ pub(crate) fn is_unsolicited(state: &[u16], port: u8) -> bool
 }
 
 // A bad request, and its bit of octet 2.
-pub(crate) fn fault(state: &mut [u16], port: u8, bit: u8) -> Answer
-    requires { ⌜ Fit (now state) × (port ≤ 1) × OneBit bit ⌝ }
-    ensures { λ r. ⌜ Did (now (state .entry)) (badRequest (driveIn (now (state .entry))) port bit) r (now (state .exit)) ⌝ }
+pub(crate) fn fault(state: &mut [u16], port: u8, fault: Fault) -> Answer
+    requires { ⌜ Fit (now state) × (port ≤ 1) ⌝ }
+    ensures { λ r. ⌜ Did (now (state .entry)) (badRequest (driveIn (now (state .entry))) port (bitOf fault)) r (now (state .exit)) ⌝ }
 {
     let at = layout::PENDING_0 + port as usize;
     let pending = state::pending_in(state[at]);
-    let faulted = posting::faulted_on(pending, bit);
-    let word = state::pending_word(faulted);
+    let word = state::pending_word(pending.faulted(fault));
     state[at] = word;
     Answer::Status(answer::OPERATION_EXCEPTION)
 }

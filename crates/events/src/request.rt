@@ -6,6 +6,7 @@ use crate::place;
 use crate::state;
 use drive::Answer;
 use parts::Control;
+use parts::Fault;
 use parts::Place;
 ghost use Prim.Native.Nat.{_≤_};
 ghost use Rattle.drive.specs.Request.{opened, opening, dataControl, positioned, targeted};
@@ -26,9 +27,9 @@ pub(crate) fn ask(state: &mut [u16], port: u8, control: u16) -> Answer
             place::step_head(state);
             Answer::Status(answer::NORMAL)
         }
-        Control::Reserved => pending::fault(state, port, parts::INVALID_BUS_CONTROL),
-        Control::Unsupported => pending::fault(state, port, parts::UNSUPPORTED_BUS_CONTROL),
-        Control::Invalid => pending::fault(state, port, parts::INVALID_BUS_CONTROL),
+        Control::Reserved => pending::fault(state, port, Fault::InvalidBusControl),
+        Control::Unsupported => pending::fault(state, port, Fault::UnsupportedBusControl),
+        Control::Invalid => pending::fault(state, port, Fault::InvalidBusControl),
     }
 }
 
@@ -41,7 +42,7 @@ fn open_there(state: &mut [u16], port: u8, control: u16) -> Answer
         return open(state, control);
     }
     if state[layout::TARGET] == parts::NO_TARGET {
-        return pending::fault(state, port, parts::BUS_CONTROL_CONTEXT);
+        return pending::fault(state, port, Fault::BusControlContext);
     }
     place::go_to_target(state);
     open(state, control)
@@ -75,7 +76,7 @@ pub(crate) fn move_to(state: &mut [u16], port: u8, place: Place) -> Answer
         place::put_place(state, place);
         return Answer::Status(answer::NORMAL);
     }
-    pending::fault(state, port, parts::INVALID_PARAMETER)
+    pending::fault(state, port, Fault::InvalidParameter)
 }
 
 pub(crate) fn aim_at(state: &mut [u16], port: u8, target: u16) -> Answer
@@ -90,5 +91,5 @@ pub(crate) fn aim_at(state: &mut [u16], port: u8, target: u16) -> Answer
         state[layout::TARGET] = target;
         return Answer::Status(answer::NORMAL);
     }
-    pending::fault(state, port, parts::INVALID_PARAMETER)
+    pending::fault(state, port, Fault::InvalidParameter)
 }

@@ -11,7 +11,15 @@ use Rattle.laws.specs.Pick.{pick}
 use Rattle.laws.specs.Lists.{oneOf}
 use Rattle.laws.proofs.Pick.{cases}
 use Rattle.laws.proofs.Lists.{everyBelow, every-below, every, every-one-of}
-use Rattle.parts.specs.Pending.{OneBit, bit7, bit6, bit5, bit4, StaysSet, withBit}
+use Rattle.parts.specs.Pending.{OneBit, bit7, bit6, bit5, bit4, StaysSet, withBit, bitOf}
+use Rattle.parts.specs.declared.pending.Fault.{Fault}
+use Rattle.parts.specs.declared.pending.Fault.the-variants.{InvalidBusControl, InvalidParameter, UnsupportedBusControl, BusControlContext}
+
+pub one-bit : (fault : Fault) → OneBit (bitOf fault)
+one-bit InvalidBusControl = bit7
+one-bit InvalidParameter = bit6
+one-bit UnsupportedBusControl = bit5
+one-bit BusControlContext = bit4
 
 pub positive : {bit : ℕ} → OneBit bit → 0 < bit
 positive bit7 = omega arith

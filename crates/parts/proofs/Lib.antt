@@ -3,3 +3,4 @@ pub mod OnPaper
 pub mod Bits
 pub mod Partners
 pub mod WrongAnswers
+pub mod Bounds

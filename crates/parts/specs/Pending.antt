@@ -4,6 +4,8 @@ use mathlib.Core.Path.{_≡_}
 use lib.Dec.{eqb}
 use Rattle.laws.specs.Pick.{pick}
 use Rattle.parts.specs.declared.pending.Pending.{Pending}
+use Rattle.parts.specs.declared.pending.Fault.{Fault}
+use Rattle.parts.specs.declared.pending.Fault.the-variants.{InvalidBusControl, InvalidParameter, UnsupportedBusControl, BusControlContext}
 
 -- "Octet 1: bit 7 Reset Complete, bit 6 Alternate Port Priority Select."
 abbrev pub resetComplete : ℕ
@@ -25,6 +27,12 @@ unsupportedBusControl = 0x20
 
 abbrev pub busControlContext : ℕ
 busControlContext = 0x10
+
+abbrev pub bitOf : Fault → ℕ
+bitOf InvalidBusControl = invalidBusControl
+bitOf InvalidParameter = invalidParameter
+bitOf UnsupportedBusControl = unsupportedBusControl
+bitOf BusControlContext = busControlContext
 
 abbrev pub pendingOf : ℕ → ℕ → Pending
 pendingOf octet1 octet2 = record { octet1 = octet1; octet2 = octet2 }

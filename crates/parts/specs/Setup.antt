@@ -1,6 +1,6 @@
 -- "Drive set-up": the limits, the sizes, and where a sector's words are.
 use Prim.Native.Nat.{ℕ, _+_, _*_}
-use mathlib.Core.Bool.{Bool, _&&_, _||_}
+use mathlib.Core.Bool.{Bool, not, _&&_, _||_}
 use mathlib.Core.List.{List}
 use lib.Dec.{ltb, leb, eqb}
 use lib.ListN.{take, drop}
@@ -29,6 +29,10 @@ sectorWords s = s .header + s .field1 + s .field2
 
 unfoldable pub allWords : Setup → ℕ
 allWords s = s .cylinders * s .heads * s .sectors * sectorWords s
+
+-- "The sector slice must hold every sector; staging must hold one sector": so many words do not, or the set-up is outside its limits.
+unfoldable pub lacksRoom : Setup → ℕ → ℕ → Bool
+lacksRoom s sectors staging = not (withinLimits s) || ltb sectors (allWords s) || ltb staging (sectorWords s)
 
 unfoldable pub sectorNumber : Setup → Place → ℕ
 sectorNumber s p = (p .cylinder * s .heads + p .head) * s .sectors + p .sector

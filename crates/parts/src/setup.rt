@@ -1,6 +1,7 @@
 // The set-up: its limits, its sizes, and where a sector's words are.
 ghost use mathlib.Core.Path.{_≡_};
-ghost use Rattle.parts.specs.Setup.{between, withinLimits, sectorWords, isPlace, isTarget, following};
+ghost use mathlib.Core.Bool.{true};
+ghost use Rattle.parts.specs.Setup.{between, withinLimits, sectorWords, allWords, lacksRoom, isPlace, isTarget, following};
 
 pub struct Setup {
     pub cylinders: u16,
@@ -50,6 +51,24 @@ impl Setup {
         ensures { λ r. ⌜ r ≡ sectorWords self ⌝ }
     {
         self.header as usize + self.field1 as usize + self.field2 as usize
+    }
+
+    // The words of all sectors.
+    fn all_words(self) -> usize
+        requires { ⌜ withinLimits self ≡ true ⌝ }
+        ensures { λ r. ⌜ r ≡ allWords self ⌝ }
+    {
+        self.cylinders as usize * self.heads as usize * self.sectors as usize * self.sector_words()
+    }
+
+    // So many words lent do not hold the drive. The limits are tested here too, since the product of numbers outside them can wrap.
+    pub fn lacks_room(self, sectors: usize, staging: usize) -> bool
+        ensures { λ r. ⌜ r ≡ lacksRoom self sectors staging ⌝ }
+    {
+        if !self.within_limits() {
+            return true;
+        }
+        (sectors < self.all_words()) | (staging < self.sector_words())
     }
 
     pub fn is_place(self, place: Place) -> bool

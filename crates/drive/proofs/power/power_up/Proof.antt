@@ -1,6 +1,8 @@
 -- `power_up` meets its contract.
 -- Assumes nothing.
+use Rattle.parts.specs.Setup.{lacksRoom}
 use Rattle.drive.specs.Power.{poweredUp}
+use Rattle.drive.specs.Refusal.{row10}
 use Rattle.laws.specs.Pick.{pick}
 use borrow.Author.Needs.{needs}
 use borrow.Author.Tests.{not-false, not-true}
@@ -17,23 +19,23 @@ unfolding poweredUp pick
 returns c = let e = sym (c .before .within-limits .ensures) ∙ not-true _ (c .if1 .taken) in record { answer = rw e }
 
 lacks-room-requires : tie.Need-lacks-room-requires
-lacks-room-requires c κs = sym (c .before .within-limits .ensures) ∙ not-false _ (c .if1 .left)
+lacks-room-requires c κs = search needs
 
 returns-2 : tie.Need-returns-2
-unfolding poweredUp pick
+unfolding poweredUp pick row10 lacksRoom
 returns-2 c =
     let e = sym (c .before .before .before .within-limits .ensures) ∙ not-false _ (c .before .before .if1 .left) in
-    let f = sym (c .before .lacks-room .ensures) ∙ c .if2 .taken in
+    let f = sym (rw e at (c .before .lacks-room .ensures)) ∙ c .if2 .taken in
     record { answer = rw (e, f) }
 
 at-rest-requires : tie.Need-at-rest-requires
 at-rest-requires c κs = search needs
 
 returns-3 : tie.Need-returns-3
-unfolding poweredUp pick
+unfolding poweredUp pick row10 lacksRoom
 returns-3 c =
     let e = sym (c .before .before .before .before .within-limits .ensures) ∙ not-false _ (c .before .before .before .if1 .left) in
-    let f = sym (c .before .before .lacks-room .ensures) ∙ c .before .if2 .left in
+    let f = sym (rw e at (c .before .before .lacks-room .ensures)) ∙ c .before .if2 .left in
     record { answer = rw (e, f) (ap Up (c .at-rest .ensures)) }
 
 pub power-up-spec : {M : Type 1} → statement M

@@ -9,7 +9,7 @@ use lib.Dec.{eqb}
 use Rattle.laws.specs.Pick.{pick}
 use Rattle.parts.specs.Control.{controlOf, isWrite, namesField1, namesField2, part, wordsToCome}
 use Rattle.parts.specs.declared.setup.Setup.{Setup}
-use Rattle.drive.proofs.Bounds.{write-words}
+use Rattle.parts.proofs.Bounds.{write-words}
 use Rattle.events.specs.State.{driveIn}
 use borrow.Author.Needs.{needs}
 use Rattle.events.proofs.coming.is_last.Statement.{statement}

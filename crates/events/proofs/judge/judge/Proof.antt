@@ -2,6 +2,8 @@
 -- Assumes nothing.
 use mathlib.Core.Path.{sym, _∙_}
 use Rattle.laws.specs.Pick.{pick}
+use Rattle.parts.specs.Setup.{lacksRoom}
+use Rattle.drive.specs.Refusal.{row10}
 use Rattle.drive.specs.Batch.{judgement}
 use Rattle.drive.proofs.Sound.{sound}
 use borrow.Author.Needs.{needs}
@@ -19,17 +21,21 @@ setup-in-requires : tie.Need-setup-in-requires
 setup-in-requires c κs = search needs
 
 lacks-room-requires : tie.Need-lacks-room-requires
-lacks-room-requires c κs = rw (c .setup-in .ensures) (sound _ (sym (c .before .before .is-unsound .ensures) ∙ c .before .if1 .left) .limits)
+lacks-room-requires c κs = search needs
 
 returns-2 : tie.Need-returns-2
-unfolding judgement pick
+unfolding judgement pick row10 lacksRoom
 returns-2 c =
-    rw (← (c .before .before .before .before .is-unsound .ensures), c .before .before .before .if1 .left, ← (c .before .before .setup-in .ensures), ← (c .before .lacks-room .ensures), c .if2 .taken)
+    let passes = sym (c .before .before .before .before .is-unsound .ensures) ∙ c .before .before .before .if1 .left in
+    let room = rw (c .before .before .setup-in .ensures, sound _ passes .limits) at (c .before .lacks-room .ensures) in
+    rw (passes, ← room, c .if2 .taken)
 
 returns-3 : tie.Need-returns-3
-unfolding judgement pick
+unfolding judgement pick row10 lacksRoom
 returns-3 c =
-    rw (← (c .before .before .before .before .is-unsound .ensures), c .before .before .before .if1 .left, ← (c .before .before .setup-in .ensures), ← (c .before .lacks-room .ensures), c .if2 .left)
+    let passes = sym (c .before .before .before .before .is-unsound .ensures) ∙ c .before .before .before .if1 .left in
+    let room = rw (c .before .before .setup-in .ensures, sound _ passes .limits) at (c .before .lacks-room .ensures) in
+    rw (passes, ← room, c .if2 .left)
 
 pub judge-spec : {M : Type 1} → statement M
 judge-spec =

@@ -20,8 +20,8 @@ slice-read-pending-in c = search needs
 pending-in-requires : tie.Need-pending-in-requires
 pending-in-requires c κs = search needs
 
-faulted-on-requires : tie.Need-faulted-on-requires
-faulted-on-requires c κs = search needs
+faulted-requires : tie.Need-faulted-requires
+faulted-requires c κs = search needs
 
 pending-word-requires : tie.Need-pending-word-requires
 pending-word-requires c κs = search needs
@@ -37,7 +37,7 @@ same-length c = search needs
 
 returns : tie.Need-returns
 unfolding badRequest
-returns c = record { answer = refl; state = rw ((c .pending-word .ensures), (c .before .faulted-on .ensures), (c .before .before .pending-in .ensures), ← (pending-at _ _ ((c .before .before .before .before .before .pre .1)))) (posted _ _ _ ((c .before .before .before .before .before .pre .1)) ((c .before .before .before .before .before .pre .0 .long)) (known ((c .before .before .before .before .before .pre .0)))) }
+returns c = record { answer = refl; state = rw ((c .pending-word .ensures), (c .before .faulted .ensures), (c .before .before .pending-in .ensures), ← (pending-at _ _ ((c .before .before .before .before .before .pre .1)))) (posted _ _ _ ((c .before .before .before .before .before .pre .1)) ((c .before .before .before .before .before .pre .0 .long)) (known ((c .before .before .before .before .before .pre .0)))) }
 
 pub fault-spec : {M : Type 1} → statement M
 fault-spec =
@@ -47,7 +47,7 @@ fault-spec =
     mul-pending-in
     slice-read-pending-in
     pending-in-requires
-    faulted-on-requires
+    faulted-requires
     pending-word-requires
     mul-state
     slice-write-state

@@ -2,7 +2,6 @@
 -- Assumes nothing.
 use Rattle.events.proofs.Done.{did-first, did-second, known}
 use Rattle.events.proofs.Changes.{target-put}
-use Rattle.parts.specs.Pending.{bit6}
 use Rattle.drive.specs.Request.{targeted}
 use mathlib.Core.Path.{refl}
 use Rattle.events.proofs.Asking.{did-request, did-unsolicited}
@@ -37,7 +36,7 @@ unfolding targeted
 returns-2 c = did-request _ _ _ _ ((c .before .before .before .before .before .is-unsolicited .ensures)) ((c .before .before .before .before .if1 .left)) (did-first _ _ _ _ (rw ((c .before .before .setup-in .ensures)) at ((c .before .is-target .ensures))) ((c .if2 .taken)) (record { answer = refl; state = target-put _ _ ((c .before .before .before .before .before .before .before .before .pre .0 .long)) (known ((c .before .before .before .before .before .before .before .before .pre .0))) }))
 
 fault-requires : tie.Need-fault-requires
-fault-requires c κs = ((c .before .before .before .before .before .before .before .before .before .pre .0), (c .before .before .before .before .before .before .before .before .before .pre .1), bit6)
+fault-requires c κs = ((c .before .before .before .before .before .before .before .before .before .pre .0), (c .before .before .before .before .before .before .before .before .before .pre .1))
 
 same-length-3 : tie.Need-same-length-3
 same-length-3 c = search needs

@@ -10,7 +10,6 @@ use Rattle.parts.proofs.control.Control.{the-type}
 use Rattle.parts.specs.Control.{controlOf}
 use Rattle.parts.specs.declared.control.Control.{Control}
 use Rattle.parts.specs.declared.control.Control.the-variants.{Write, Read, StepHead, Reserved, Unsupported, Invalid}
-use Rattle.parts.specs.Pending.{bit5, bit7}
 use Rattle.drive.specs.Request.{controlled, dataControl, opening}
 use Rattle.drive.specs.declared.answer.Answer.{Answer}
 use Rattle.events.specs.State.{driveIn}
@@ -60,19 +59,19 @@ enum-told-2 : tie.Need-enum-told-2
 enum-told-2 c = search needs
 
 fault-requires : tie.Need-fault-requires
-fault-requires c κs = (c .before .before .before .before .before .before .before .before .pre .0, c .before .before .before .before .before .before .before .before .pre .1, bit7)
+fault-requires c κs = (c .before .before .before .before .before .before .before .before .pre .0, c .before .before .before .before .before .before .before .before .pre .1)
 
 enum-told-3 : tie.Need-enum-told-3
 enum-told-3 c = search needs
 
 fault-requires-2 : tie.Need-fault-requires-2
-fault-requires-2 c κs = (c .before .before .before .before .before .before .before .before .pre .0, c .before .before .before .before .before .before .before .before .pre .1, bit5)
+fault-requires-2 c κs = (c .before .before .before .before .before .before .before .before .pre .0, c .before .before .before .before .before .before .before .before .pre .1)
 
 enum-told-4 : tie.Need-enum-told-4
 enum-told-4 c = search needs
 
 fault-requires-3 : tie.Need-fault-requires-3
-fault-requires-3 c κs = (c .before .before .before .before .before .before .before .before .pre .0, c .before .before .before .before .before .before .before .before .pre .1, bit7)
+fault-requires-3 c κs = (c .before .before .before .before .before .before .before .before .pre .0, c .before .before .before .before .before .before .before .before .pre .1)
 
 same-length-2 : tie.Need-same-length-2
 same-length-2 c = search needs

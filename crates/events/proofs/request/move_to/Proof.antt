@@ -1,7 +1,6 @@
 -- `move_to` meets its contract.
 -- Assumes nothing.
 use Rattle.events.proofs.Done.{did-first, did-second}
-use Rattle.parts.specs.Pending.{bit6}
 use Rattle.drive.specs.Request.{positioned}
 use mathlib.Core.Path.{refl}
 use Rattle.events.proofs.Asking.{did-request, did-unsolicited}
@@ -36,7 +35,7 @@ unfolding positioned
 returns-2 c = did-request _ _ _ _ ((c .before .before .before .before .before .before .before .before .before .is-unsolicited .ensures)) ((c .before .before .before .before .before .before .before .before .if1 .left)) (did-first _ _ _ _ (rw ((c .before .before .before .before .before .before .setup-in .ensures)) at ((c .before .before .before .before .before .is-place .ensures))) ((c .before .before .before .before .if2 .taken)) (record { answer = refl; state = (c .before .before .put-place .ensures) }))
 
 fault-requires : tie.Need-fault-requires
-fault-requires c κs = ((c .before .before .before .before .before .before .before .before .before .pre .0), (c .before .before .before .before .before .before .before .before .before .pre .1), bit6)
+fault-requires c κs = ((c .before .before .before .before .before .before .before .before .before .pre .0), (c .before .before .before .before .before .before .before .before .before .pre .1))
 
 same-length-3 : tie.Need-same-length-3
 same-length-3 c = search needs

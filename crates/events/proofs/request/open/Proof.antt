@@ -2,7 +2,7 @@
 -- Assumes nothing.
 use Rattle.events.proofs.Done.{did-first, did-second}
 use Rattle.drive.proofs.Sound.{sound}
-use Rattle.drive.proofs.Bounds.{limits, words-few}
+use Rattle.parts.proofs.Bounds.{limits, words-few}
 use Rattle.drive.specs.Request.{opened}
 use borrow.Author.Tests.{eq-eqb, ne-eqb}
 use native.Mathlib.Omega.{arith}

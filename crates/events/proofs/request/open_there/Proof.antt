@@ -5,7 +5,6 @@ use Rattle.events.proofs.Done.{did-first, did-second}
 use Rattle.events.proofs.Asking.{at-target-fit, did-at-target}
 use Rattle.events.specs.State.{driveIn}
 use Rattle.drive.specs.Request.{opening}
-use Rattle.parts.specs.Pending.{bit4}
 use borrow.Author.Tests.{eq-eqb, ne-eqb, not-false, not-true}
 use borrow.Author.Needs.{needs}
 use Rattle.events.proofs.request.open_there.Statement.{statement}
@@ -28,7 +27,7 @@ slice-read-if2 : tie.Need-slice-read-if2
 slice-read-if2 c = search needs
 
 fault-requires : tie.Need-fault-requires
-fault-requires c κs = ((c .before .before .before .before .before .before .pre .0), (c .before .before .before .before .before .before .pre .1), bit4)
+fault-requires c κs = ((c .before .before .before .before .before .before .pre .0), (c .before .before .before .before .before .before .pre .1))
 
 same-length-2 : tie.Need-same-length-2
 same-length-2 c = search needs

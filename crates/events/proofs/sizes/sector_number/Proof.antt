@@ -1,6 +1,6 @@
 -- `sector_number` meets its contract: the products fit.
 -- Assumes nothing.
-use Rattle.drive.proofs.Bounds.{few-words, in-range, inside, limits}
+use Rattle.parts.proofs.Bounds.{few-words, in-range, inside, limits}
 use Rattle.parts.specs.Setup.{sectorNumber}
 use borrow.Author.Needs.{needs}
 use mathlib.Core.Path.{refl}

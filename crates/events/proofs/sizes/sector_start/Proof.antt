@@ -1,6 +1,6 @@
 -- `sector_start` meets its contract: the product fits.
 -- Assumes nothing.
-use Rattle.drive.proofs.Bounds.{inside, limits, start-small}
+use Rattle.parts.proofs.Bounds.{inside, limits, start-small}
 use Rattle.parts.specs.Setup.{sectorStart}
 use borrow.Author.Needs.{needs}
 use native.Mathlib.Omega.{arith}

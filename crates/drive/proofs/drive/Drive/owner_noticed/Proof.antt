@@ -7,18 +7,14 @@ use borrow.Author.Needs.{needs}
 use Rattle.drive.proofs.drive.Drive.owner_noticed.Statement.{statement}
 use Rattle.drive.proofs.drive.Drive.owner_noticed.Tie as tie
 
--- Assumes nothing.
-
--- Assumes nothing.
-
 is-owned-by-other-requires : tie.Need-is-owned-by-other-requires
 is-owned-by-other-requires c κs = search needs
 
 chosen-requires : tie.Need-chosen-requires
 chosen-requires c κs = search needs
 
-noticed-on-requires : tie.Need-noticed-on-requires
-noticed-on-requires c κs = search needs
+noticed-requires : tie.Need-noticed-requires
+noticed-requires c κs = search needs
 
 posted-on-requires : tie.Need-posted-on-requires
 posted-on-requires c κs = search needs
@@ -37,7 +33,7 @@ owner-noticed-spec =
     (tie.spec
     is-owned-by-other-requires
     chosen-requires
-    noticed-on-requires
+    noticed-requires
     posted-on-requires
     returns
     returns-2)

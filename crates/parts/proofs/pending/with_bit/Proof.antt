@@ -2,10 +2,10 @@
 -- Assumes nothing.
 use native.Mathlib.Omega.{arith}
 use Rattle.laws.proofs.Pick.{steps}
 use Rattle.parts.specs.Pending.{withBit}
 use Rattle.parts.proofs.Bits.{has-room, positive}
-use Rattle.drive.proofs.posting.with_bit.Statement.{statement}
-use Rattle.drive.proofs.posting.with_bit.Tie as tie
+use Rattle.parts.proofs.pending.with_bit.Statement.{statement}
+use Rattle.parts.proofs.pending.with_bit.Tie as tie
 
 div-if1 : tie.Need-div-if1
 div-if1 c = positive (c .pre)

@@ -1,13 +1,11 @@
 -- `all_words` meets its contract: the products fit.
 -- Assumes nothing.
-use Rattle.drive.proofs.Bounds.{few-words, limits}
 use Rattle.parts.specs.Setup.{allWords}
+use Rattle.parts.proofs.Bounds.{few-words, limits}
 use borrow.Author.Needs.{needs}
 use native.Mathlib.Omega.{arith}
-use Rattle.events.proofs.sizes.all_words.Statement.{statement}
-use Rattle.events.proofs.sizes.all_words.Tie as tie
-
--- Assumes nothing.
+use Rattle.parts.proofs.setup.Setup.all_words.Statement.{statement}
+use Rattle.parts.proofs.setup.Setup.all_words.Tie as tie
 
 cast-result : tie.Need-cast-result
 cast-result c = search needs
