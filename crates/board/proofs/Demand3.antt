@@ -38,10 +38,10 @@ use Rattle.events.specs.State.{driveIn, movingWords, stateWords, stateAfter}
 use Rattle.events.specs.Event.{eventRefusal}
 use Rattle.events.proofs.Goes.{unmoved, goes-along}
 use Rattle.events.proofs.Back.{read-again}
-use Rattle.events.proofs.Promises.{as-the-drive}
+use Rattle.events.proofs.Promises.{as-the-drive, refused-answer}
 use Rattle.board.specs.Singles.{Words, words, toldBy}
 use Rattle.board.specs.Demand3.{machineOf, frontOf, putBack, EventCall, RunCall, Calls, none, event, run, eventTurnedAway, runTurnedAway, PowerUp, Ran, Sent, Demand3OfTheBoard}
-use Rattle.board.proofs.Singles.{going, refused-answer}
+use Rattle.board.proofs.Singles.{going}
 
 -- the words of a drive that is up: rows 11 and 10 let it pass, and what is pending is octets
 record Up (w : Words) : Type 0 where

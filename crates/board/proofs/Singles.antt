@@ -16,8 +16,6 @@ use Rattle.drive.specs.Run.{Machine, machine, answerTo, after, answers, final}
 use Rattle.drive.specs.Batch.{eventsOf}
 use Rattle.drive.specs.AnswerWords.{answerWords, allWords}
 use Rattle.drive.specs.declared.drive.Drive.{Drive}
-use Rattle.drive.specs.declared.answer.Answer.{Answer}
-use Rattle.drive.specs.declared.answer.Answer.the-variants.{Refused, Done, Status, Opened, Word, LastWord, Response}
 use Rattle.drive.proofs.Laws.{refused-changes-nothing}
 use Rattle.drive.proofs.Turns.{thirteen}
 use Rattle.events.specs.State.{stateAfter}
@@ -25,18 +23,7 @@ use Rattle.events.specs.Event.{machineIn, EventOnWords}
 use Rattle.events.specs.Run.{runRefusal, RunOnWords}
 use Rattle.board.specs.Singles.{Words, words, toldBy, Singles, none, one, RunIsSingles}
 use Rattle.events.proofs.Goes.{goes, unmoved}
-use Rattle.events.proofs.Promises.{numbered-refused, as-the-drive}
-
--- ---- an answer by its refusal
-
-pub refused-answer : (answer : Answer) (n : ℕ) → refusalIn answer ≡ suc n → answer ≡ Refused (suc n)
-refused-answer (Refused m) n e = ap Refused e
-refused-answer Done n e = absurd (omega arith)
-refused-answer (Status s) n e = absurd (omega arith)
-refused-answer (Opened m p) n e = absurd (omega arith)
-refused-answer (Word w) n e = absurd (omega arith)
-refused-answer (LastWord w) n e = absurd (omega arith)
-refused-answer (Response octet0 octet1 octet2) n e = absurd (omega arith)
+use Rattle.events.proofs.Promises.{numbered-refused, refused-answer, as-the-drive}
 
 -- a run that is not refused has a state
 state-by : (state records out : List ℕ) (short : Bool) → ltb (length state) 18 ≡ short → 0 ≡ runRefusal state records out → 18 ≤ length state

@@ -11,11 +11,10 @@ use Rattle.parts.specs.Kind.{kindOf}
 use Rattle.parts.specs.declared.event.Event.{Event}
 use Rattle.drive.specs.Accepted.{isRefused}
 use Rattle.drive.specs.Refusal.{refusalOf}
-use Rattle.drive.specs.State.{Result, told}
-use Rattle.drive.specs.Event.{handled, refusedWith, Handled}
+use Rattle.drive.specs.State.{Result}
+use Rattle.drive.specs.Event.{handled, refusedWith}
 use Rattle.drive.specs.Run.{Machine, answerTo, after}
 use Rattle.drive.specs.Batch.{judgement}
-use Rattle.drive.specs.declared.drive.Drive.{Drive}
 use Rattle.drive.specs.declared.answer.Answer.{Answer}
 use Rattle.drive.specs.declared.answer.Answer.the-variants.{Refused}
 use Rattle.drive.proofs.Laws.{accepts, doneBy}
@@ -24,7 +23,7 @@ use Rattle.events.specs.State.{driveIn, stateAfter}
 use Rattle.events.specs.Turn.{Telling, Answered, Turn}
 use Rattle.events.specs.Fit.{Fits, DidIn}
 use Rattle.events.proofs.Done.{fit, known}
-use Rattle.events.proofs.Goes.{goes, moved-known, unmoved}
+use Rattle.events.proofs.Goes.{moved-known, unmoved}
 use Rattle.events.proofs.ToldWords.{Numbered}
 
 pub answered-refused : (e : Event) (state sectors staging : List ℕ) (n : ℕ) → 18 ≤ length state → n ≡ judgement (driveIn state) sectors staging → (n ≡ 0 → ⊥)
@@ -55,19 +54,6 @@ pub step-told : {telling : Bool} {e : Event} {state sectors staging out : List �
     → DidIn state (handled (driveIn state) e sectors staging) r state′ sectors′ staging′ → Telling telling r out n out′
     → Turn telling e state sectors staging out n state′ sectors′ staging′ out′
 step-told f d t = turn-told (answered-stepped f d) t
-
--- the words were made from a drive: what was answered on them is what the rule says of it
-pub handled-on : (d : Drive) (e : Event) (sectors staging words : List ℕ) {r : Answer} {words′ sectors′ staging′ : List ℕ} {d′ : Drive} → 18 ≤ length words → driveIn words ≡ d
-    → Answered e words sectors staging r words′ sectors′ staging′ → d′ ≡ driveIn words′ → Handled d e sectors staging (told r d′) sectors′ staging′
-unfolding answerTo after
-handled-on d e sectors staging words {d′ = d′} h same a back =
-    rw (← same)
-    (record {
-      answer = a .answer;
-      drive = back ∙ ap driveIn (a .state) ∙ goes words sectors staging e h .drive;
-      sectors = a .sectors;
-      staging = a .staging;
-    })
 
 -- a refusal has a number
 pub numbered : (m : Machine) (e : Event) → Numbered (answerTo m e)

@@ -17,3 +17,4 @@ pub mod Stores
 pub mod ToldWords
 pub mod Only
 pub mod Exactly
+pub mod ByValue

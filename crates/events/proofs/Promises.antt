@@ -65,6 +65,15 @@ numbered-refused (Word w) h = absurd (h refl)
 numbered-refused (LastWord w) h = absurd (h refl)
 numbered-refused (Response octet0 octet1 octet2) h = absurd (h refl)
 
+pub refused-answer : (answer : Answer) (n : ℕ) → refusalIn answer ≡ suc n → answer ≡ Refused (suc n)
+refused-answer (Refused m) n e = ap Refused e
+refused-answer Done n e = absurd (omega arith)
+refused-answer (Status s) n e = absurd (omega arith)
+refused-answer (Opened m p) n e = absurd (omega arith)
+refused-answer (Word w) n e = absurd (omega arith)
+refused-answer (LastWord w) n e = absurd (omega arith)
+refused-answer (Response octet0 octet1 octet2) n e = absurd (omega arith)
+
 -- an answer that is no refusal has no number
 unnumbered : (answer : Answer) (n : ℕ) → refusalIn answer ≡ n → isRefused answer ≡ false → n ≡ 0
 unnumbered answer zero e f = refl
@@ -106,6 +115,20 @@ event-worked state e sectors staging answer records r state′ sectors′ stagin
       answer = w .out ∙ ap (λ (l : List ℕ). unlessRefused r answer (writtenOver answer l)) (append-nil (answerWords (answerTo m (eventOf records))))
           ∙ ap (λ (x : Event). unlessRefused r answer (writtenOver answer (answerWords (answerTo m x)))) z;
     }
+
+-- what a call leaves, refused or not, is what the event does
+pub as-after : {state : List ℕ} {e : Event} {sectors staging answer : List ℕ} {r : ℕ} {state′ sectors′ staging′ answer′ : List ℕ} → 18 ≤ length state → 13 ≤ length answer
+    → EventOnWords state e sectors staging answer r state′ sectors′ staging′ answer′
+    → (state′ ≡ stateAfter state (after (machineIn state sectors staging) e .drive)) × (sectors′ ≡ after (machineIn state sectors staging) e .sectors)
+    × (staging′ ≡ after (machineIn state sectors staging) e .staging)
+as-after {state} {e} {sectors} {staging} {answer} {r} long room call =
+    let m = machineIn state sectors staging in
+    let k = call .refusal ∙ as-the-drive state e sectors staging answer long room in (
+      call .state ∙ ap (λ (l : List ℕ). unlessRefused r l (stateAfter state (after m e .drive))) (sym (unmoved state long))
+          ∙ sym (left-by (λ (x : Machine). stateAfter state (x .drive)) m e r k),
+      call .sectors ∙ sym (left-by (λ (x : Machine). x .sectors) m e r k),
+      call .staging ∙ sym (left-by (λ (x : Machine). x .staging) m e r k),
+    )
 
 -- ---- many
 

@@ -13,7 +13,7 @@ use Rattle.parts.specs.declared.setup.Place.{Place}
 use Rattle.events.specs.Turn.{Telling}
 use Rattle.drive.specs.Accepted.{isRefused}
 use Rattle.drive.specs.Answer.{paper, refusalIn}
-use Rattle.drive.specs.AnswerWords.{answerWords}
+use Rattle.drive.specs.AnswerWords.{answerWords, answerIn}
 use Rattle.drive.specs.declared.answer.Answer.{Answer}
 use Rattle.drive.specs.declared.answer.Answer.the-variants.{Refused, Done, Status, Opened, Word, LastWord, Response}
 
@@ -81,3 +81,10 @@ told-out false (Opened n p) h t = rw (t .number) (t .out)
 told-out false (Word w) h t = rw (t .number) (t .out)
 told-out false (LastWord w) h t = rw (t .number) (t .out)
 told-out false (Response octet0 octet1 octet2) h t = rw (t .number) (t .out)
+
+-- ---- read back
+
+pub refused-in : (n : ℕ) (words : List ℕ) → (n ≡ 0 → ⊥) → Refused n ≡ answerIn n words
+unfolding answerIn
+refused-in zero words z = absurd (z refl)
+refused-in (suc n) words z = refl

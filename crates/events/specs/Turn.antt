@@ -1,8 +1,9 @@
 -- What the private functions under `event` and `run` do: an event on the words of a state, and so many of them.
-use Prim.Native.Nat.{ℕ, zero, suc}
+use Prim.Native.Nat.{ℕ, zero, suc, _≤_, _<_}
 use mathlib.Core.Path.{_≡_}
 use mathlib.Core.Bool.{Bool, false}
 use mathlib.Core.List.{List, [], _++_}
+use lib.ListN.{length, getD}
 use Rattle.laws.specs.Pick.{pick}
 use Rattle.laws.specs.Rows.{unlessRefused}
 use Rattle.laws.specs.Lists.{writtenOver}
@@ -30,6 +31,11 @@ isQuiet telling answer = pick telling false (isRefused answer)
 pub record Telling (telling : Bool) (answer : Answer) (out₀ : List ℕ) (r : ℕ) (out₁ : List ℕ) : Type 0 where
   pub number : r ≡ quietly telling answer
   pub out : out₁ ≡ pick (isQuiet telling answer) out₀ (writtenOver out₀ (answerWords answer))
+
+-- Words that an answer is read from: the status is absent or an octet.
+pub record Told (words : List ℕ) : Type 0 where
+  pub long : 13 ≤ length words
+  pub status : (getD words 1 0 ≡ 0xFFFF → ⊥) → getD words 1 0 < 256
 
 -- The words of so many refusals.
 unfoldable pub refusals : ℕ → ℕ → List ℕ

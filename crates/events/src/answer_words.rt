@@ -2,13 +2,13 @@
 use crate::answer;
 use drive::Answer;
 use parts::Place;
-ghost use Prim.Native.Nat.{_≤_};
+ghost use Prim.Native.Nat.{_/_, _%_, _≤_};
 ghost use mathlib.Core.Path.{_≡_};
 ghost use lib.ListN.{length};
 ghost use Rattle.laws.specs.Lists.{writtenOver};
-ghost use Rattle.drive.specs.AnswerWords.{answerWords};
+ghost use Rattle.drive.specs.AnswerWords.{answerWords, acceptedIn, answerIn};
 ghost use Rattle.drive.specs.declared.answer.Answer.the-variants as answer;
-ghost use Rattle.events.specs.Turn.{Telling};
+ghost use Rattle.events.specs.Turn.{Telling, Told};
 
 pub(crate) const ANSWER_WORDS: usize = 13;
 
@@ -128,4 +128,53 @@ fn put_done(out: &mut [u16])
     out[10] = 0;
     out[11] = 0;
     out[12] = 0;
+}
+
+// The answer that a call's refusal and its words tell.
+pub(crate) fn answer_in(refusal: u8, words: &[u16]) -> Answer
+    requires { ⌜ Told (now words) ⌝ }
+    ensures { λ r. ⌜ r ≡ answerIn refusal (now (words .entry)) ⌝ }
+{
+    if refusal != 0 {
+        return Answer::Refused(refusal);
+    }
+    accepted_in(words)
+}
+
+fn accepted_in(words: &[u16]) -> Answer
+    requires { ⌜ Told (now words) ⌝ }
+    ensures { λ r. ⌜ r ≡ acceptedIn (now (words .entry)) ⌝ }
+{
+    let status = words[1];
+    if words[8] == 1 {
+        return response_in(words[9], words[10]);
+    }
+    if words[6] == 1 {
+        if status == ABSENT {
+            return Answer::Word(words[7]);
+        }
+        return Answer::LastWord(words[7]);
+    }
+    if status != ABSENT {
+        return Answer::Status(status as u8);
+    }
+    if words[2] == ABSENT {
+        return Answer::Done;
+    }
+    let place = Place {
+        cylinder: words[3],
+        head: words[4],
+        sector: words[5],
+    };
+    Answer::Opened(words[2], place)
+}
+
+fn response_in(first: u16, second: u16) -> Answer
+    ensures { λ r. ⌜ r ≡ answer.Response (first / 256) (first % 256) (second / 256) ⌝ }
+{
+    Answer::Response(
+        (first / 256) as u8,
+        (first % 256) as u8,
+        (second / 256) as u8,
+    )
 }

@@ -68,7 +68,7 @@ fn each(
     let mut at = 0;
     loop {
         let event = event_at(&records[from..]);
-        let n = step::told_step(state, event, telling, sectors, staging, &mut out[at..]);
+        let n = step::step(state, event, telling, sectors, staging, &mut out[at..]);
         if n != 0 {
             return n;
         }

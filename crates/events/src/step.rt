@@ -1,5 +1,5 @@
-// The event on a state that rows 11 and 10 let pass: a dispatch on the kind. There are two, since an answer that is handed up before its words are
-// written is packed and taken apart again, some 20 instructions an event.
+// The event on a state that rows 11 and 10 let pass: a dispatch on the kind. Each arm tells its own answer, since one that is handed up before its
+// words are written is packed and taken apart again, some 20 instructions an event.
 use crate::answer_words;
 use crate::kinds;
 use crate::transfer;
@@ -7,44 +7,12 @@ use drive::Answer;
 use parts::Event;
 ghost use Prim.Native.Nat.{_≤_};
 ghost use lib.ListN.{length};
-ghost use Rattle.drive.specs.Event.{handled};
-ghost use Rattle.events.specs.State.{driveIn};
-ghost use Rattle.events.specs.Fit.{Fits, DidIn};
+ghost use Rattle.events.specs.Fit.{Fits};
 ghost use Rattle.events.specs.Turn.{Turn};
 
 const LAST_PORT: u8 = 1;
 
-// For a caller that asks for the answer itself.
 pub(crate) fn step(
-    state: &mut [u16],
-    event: Event,
-    sectors: &mut [u16],
-    staging: &mut [u16],
-) -> Answer
-    requires { ⌜ Fits (now state) (now sectors) (now staging) ⌝ }
-    ensures { λ r. ⌜ DidIn (now (state .entry)) (handled (driveIn (now (state .entry))) event (now (sectors .entry)) (now (staging .entry))) r (now (state .exit)) (now (sectors .exit)) (now (staging .exit)) ⌝ }
-{
-    if LAST_PORT < event.port {
-        return Answer::Refused(parts::NO_SUCH_PORT);
-    }
-    let kind = event.kind;
-    match kind {
-        1 => kinds::on_select(state, event),
-        2 => kinds::on_deselect(state, event),
-        3 => kinds::on_data_control(state, event),
-        4 => transfer::on_word_from_host(state, event, sectors, staging),
-        5 => transfer::on_take_word(state, event, &sectors[..], &staging[..]),
-        6 => kinds::on_end(state, event),
-        7 => kinds::on_position(state, event),
-        8 => kinds::on_target(state, event),
-        9 => kinds::on_read_status(state, event),
-        10 => kinds::on_reset(state, event),
-        _ => Answer::Refused(parts::MALFORMED),
-    }
-}
-
-// For a caller that asks for the words of the answer.
-pub(crate) fn told_step(
     state: &mut [u16],
     event: Event,
     telling: bool,

@@ -42,20 +42,20 @@ part-event-at-end c = search needs
 event-at-requires : tie.Need-event-at-requires Inv-loop μ-loop
 event-at-requires c κs = search needs
 
-mul-told-step : tie.Need-mul-told-step Inv-loop μ-loop
-mul-told-step c = search needs
+mul-step : tie.Need-mul-step Inv-loop μ-loop
+mul-step c = search needs
 
-sub-told-step : tie.Need-sub-told-step Inv-loop μ-loop
-sub-told-step c = search needs
+sub-step : tie.Need-sub-step Inv-loop μ-loop
+sub-step c = search needs
 
-part-told-step-start : tie.Need-part-told-step-start Inv-loop μ-loop
-part-told-step-start c = search needs
+part-step-start : tie.Need-part-step-start Inv-loop μ-loop
+part-step-start c = search needs
 
-part-told-step-end : tie.Need-part-told-step-end Inv-loop μ-loop
-part-told-step-end c = search needs
+part-step-end : tie.Need-part-step-end Inv-loop μ-loop
+part-step-end c = search needs
 
-told-step-requires : tie.Need-told-step-requires Inv-loop μ-loop
-told-step-requires c κs = (record { long = (c .before .before .before .before .before .before .loop) .inv .8 .long; passable = passable _ _ _ (sym ((c .before .before .before .before .before .before .loop) .inv .8 .judged)) }, search needs)
+step-requires : tie.Need-step-requires Inv-loop μ-loop
+step-requires c κs = (record { long = (c .before .before .before .before .before .before .loop) .inv .8 .long; passable = passable _ _ _ (sym ((c .before .before .before .before .before .before .loop) .inv .8 .judged)) }, search needs)
 
 same-length : tie.Need-same-length Inv-loop μ-loop
 same-length c = search needs
@@ -70,7 +70,7 @@ same-length-4 : tie.Need-same-length-4 Inv-loop μ-loop
 same-length-4 c = search needs
 
 returns : tie.Need-returns Inv-loop μ-loop
-returns c = rw ((c .before .before .before .before .before .before .before .before .before .before .before .before .before .before .before .before .loop) .inv .3) (going-stopped _ _ _ _ _ _ _ _ _ _ _ _ _ _ _ _ _ (search needs) ((c .before .before .before .before .before .before .before .before .before .before .before .before .before .before .before .before .before .before .before .before .before .before .pre) .5) ((c .if1) .taken) ((c .before .before .before .before .before .before .before .before .before .before .before .before .before .before .before .before .loop) .inv .8) (rw ((c .before .before .before .before .before .before .before .before .before .before .before .before .before .before .event-at) .ensures, (c .before .before .before .before .before .before .before .before .before .before .before .before .before .before .before .before .loop) .inv .2, (c .before .before .before .before .before .before .before .before .before .before .before .before .before .before .before .before .loop) .inv .3) at ((c .before .before .before .before .before .before .before .before .before .told-step) .ensures)))
+returns c = rw ((c .before .before .before .before .before .before .before .before .before .before .before .before .before .before .before .before .loop) .inv .3) (going-stopped _ _ _ _ _ _ _ _ _ _ _ _ _ _ _ _ _ (search needs) ((c .before .before .before .before .before .before .before .before .before .before .before .before .before .before .before .before .before .before .before .before .before .before .pre) .5) ((c .if1) .taken) ((c .before .before .before .before .before .before .before .before .before .before .before .before .before .before .before .before .loop) .inv .8) (rw ((c .before .before .before .before .before .before .before .before .before .before .before .before .before .before .event-at) .ensures, (c .before .before .before .before .before .before .before .before .before .before .before .before .before .before .before .before .loop) .inv .2, (c .before .before .before .before .before .before .before .before .before .before .before .before .before .before .before .before .loop) .inv .3) at ((c .before .before .before .before .before .before .before .before .before .step) .ensures)))
 
 sub-left : tie.Need-sub-left Inv-loop μ-loop
 sub-left c = search needs
@@ -90,7 +90,7 @@ same-length-8 c = search needs
 returns-2 : tie.Need-returns-2 Inv-loop μ-loop
 returns-2 c =
     let i = (c .before .before .before .before .before .before .before .before .before .before .before .before .before .before .before .before .before .before .before .before .before .before .before .args) .count - (c .before .before .before .before .before .before .before .before .before .before .before .before .before .before .before .before .before .loop) .left in
-    going-ended _ _ _ _ _ _ _ _ _ _ _ (i + 1) (search needs) (search needs) ((c .before .before .before .before .before .before .before .before .before .before .before .before .before .before .before .before .before .before .before .before .before .before .before .pre) .5) (rw ((c .before .before .before .before .before .before .before .before .before .before .before .before .before .before .before .before .before .loop) .inv .3) (going-next _ _ _ _ _ _ _ _ _ _ _ _ _ _ _ _ _ (search needs) (omega (arith, (c .before .before .before .before .before .before .before .before .before .before .before .before .before .before .before .before .before .loop) .inv .7, (c .before .before .before .before .before .before .before .before .before .before .before .before .before .before .before .before .before .before .before .before .before .before .before .pre) .4)) ((c .before .if1) .left) ((c .before .before .before .before .before .before .before .before .before .before .before .before .before .before .before .before .before .loop) .inv .8) (rw ((c .before .before .before .before .before .before .before .before .before .before .before .before .before .before .before .event-at) .ensures, (c .before .before .before .before .before .before .before .before .before .before .before .before .before .before .before .before .before .loop) .inv .2, (c .before .before .before .before .before .before .before .before .before .before .before .before .before .before .before .before .before .loop) .inv .3) at ((c .before .before .before .before .before .before .before .before .before .before .told-step) .ensures))))
+    going-ended _ _ _ _ _ _ _ _ _ _ _ (i + 1) (search needs) (search needs) ((c .before .before .before .before .before .before .before .before .before .before .before .before .before .before .before .before .before .before .before .before .before .before .before .pre) .5) (rw ((c .before .before .before .before .before .before .before .before .before .before .before .before .before .before .before .before .before .loop) .inv .3) (going-next _ _ _ _ _ _ _ _ _ _ _ _ _ _ _ _ _ (search needs) (omega (arith, (c .before .before .before .before .before .before .before .before .before .before .before .before .before .before .before .before .before .loop) .inv .7, (c .before .before .before .before .before .before .before .before .before .before .before .before .before .before .before .before .before .before .before .before .before .before .before .pre) .4)) ((c .before .if1) .left) ((c .before .before .before .before .before .before .before .before .before .before .before .before .before .before .before .before .before .loop) .inv .8) (rw ((c .before .before .before .before .before .before .before .before .before .before .before .before .before .before .before .event-at) .ensures, (c .before .before .before .before .before .before .before .before .before .before .before .before .before .before .before .before .before .loop) .inv .2, (c .before .before .before .before .before .before .before .before .before .before .before .before .before .before .before .before .before .loop) .inv .3) at ((c .before .before .before .before .before .before .before .before .before .before .step) .ensures))))
 
 add-from : tie.Need-add-from Inv-loop μ-loop
 add-from c = search needs
@@ -104,7 +104,7 @@ loop-less c = search needs
 loop-again : tie.Need-loop-again Inv-loop μ-loop
 loop-again c =
     let s : (c .before .before .before .before .before .before .before .before .before .before .before .before .before .before .before .before .before .before .before .before .before .before .before .args) .count - ((c .before .before .before .before .before .before .before .before .before .before .before .before .before .before .before .before .before .loop) .left - 1) ≡ (c .before .before .before .before .before .before .before .before .before .before .before .before .before .before .before .before .before .before .before .before .before .before .before .args) .count - (c .before .before .before .before .before .before .before .before .before .before .before .before .before .before .before .before .before .loop) .left + 1 = omega (arith, (c .before .before .before .before .before .before .before .before .before .before .before .before .before .before .before .before .before .loop) .inv .0, (c .before .before .before .before .before .before .before .before .before .before .before .before .before .before .before .before .before .loop) .inv .1) in
-    (search needs, search needs, search needs, search needs, search needs, search needs, search needs, search needs, rw (s, (c .before .before .before .before .before .before .before .before .before .before .before .before .before .before .before .before .before .loop) .inv .3) (going-next _ _ _ _ _ _ _ _ _ _ _ _ _ _ _ _ _ (search needs) (omega (arith, (c .before .before .before .before .before .before .before .before .before .before .before .before .before .before .before .before .before .loop) .inv .7, (c .before .before .before .before .before .before .before .before .before .before .before .before .before .before .before .before .before .before .before .before .before .before .before .pre) .4)) ((c .before .if1) .left) ((c .before .before .before .before .before .before .before .before .before .before .before .before .before .before .before .before .before .loop) .inv .8) (rw ((c .before .before .before .before .before .before .before .before .before .before .before .before .before .before .before .event-at) .ensures, (c .before .before .before .before .before .before .before .before .before .before .before .before .before .before .before .before .before .loop) .inv .2, (c .before .before .before .before .before .before .before .before .before .before .before .before .before .before .before .before .before .loop) .inv .3) at ((c .before .before .before .before .before .before .before .before .before .before .told-step) .ensures))))
+    (search needs, search needs, search needs, search needs, search needs, search needs, search needs, search needs, rw (s, (c .before .before .before .before .before .before .before .before .before .before .before .before .before .before .before .before .before .loop) .inv .3) (going-next _ _ _ _ _ _ _ _ _ _ _ _ _ _ _ _ _ (search needs) (omega (arith, (c .before .before .before .before .before .before .before .before .before .before .before .before .before .before .before .before .before .loop) .inv .7, (c .before .before .before .before .before .before .before .before .before .before .before .before .before .before .before .before .before .before .before .before .before .before .before .pre) .4)) ((c .before .if1) .left) ((c .before .before .before .before .before .before .before .before .before .before .before .before .before .before .before .before .before .loop) .inv .8) (rw ((c .before .before .before .before .before .before .before .before .before .before .before .before .before .before .before .event-at) .ensures, (c .before .before .before .before .before .before .before .before .before .before .before .before .before .before .before .before .before .loop) .inv .2, (c .before .before .before .before .before .before .before .before .before .before .before .before .before .before .before .before .before .loop) .inv .3) at ((c .before .before .before .before .before .before .before .before .before .before .step) .ensures))))
 
 pub each-spec : {M : Type 1} → statement M
 each-spec =
@@ -117,11 +117,11 @@ each-spec =
     part-event-at-start
     part-event-at-end
     event-at-requires
-    mul-told-step
-    sub-told-step
-    part-told-step-start
-    part-told-step-end
-    told-step-requires
+    mul-step
+    sub-step
+    part-step-start
+    part-step-end
+    step-requires
     same-length
     same-length-2
     same-length-3
