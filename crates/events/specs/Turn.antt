@@ -1,5 +1,5 @@
 -- What the private functions under `event` and `run` do: an event on the words of a state, and so many of them.
-use Prim.Native.Nat.{ℕ, zero, suc, _≤_, _<_}
+use Prim.Native.Nat.{ℕ, zero, suc, _*_, _≤_, _<_}
 use mathlib.Core.Path.{_≡_}
 use mathlib.Core.Bool.{Bool, false}
 use mathlib.Core.List.{List, [], _++_}
@@ -53,6 +53,14 @@ pub record Answered (e : Event) (state₀ sectors₀ staging₀ : List ℕ) (r :
 pub record Turn (telling : Bool) (e : Event) (state₀ sectors₀ staging₀ out₀ : List ℕ) (r : ℕ) (state₁ sectors₁ staging₁ out₁ : List ℕ) : Type 0 where
   pub answered : Answered e state₀ sectors₀ staging₀ (answerTo (machineIn state₀ sectors₀ staging₀) e) state₁ sectors₁ staging₁
   pub told : Telling telling (answerTo (machineIn state₀ sectors₀ staging₀) e) out₀ r out₁
+
+-- What a batch is lent: a state, so many records, and 13 words for each answer. A quiet one has one event.
+pub record Lent (telling : Bool) (count : ℕ) (state records out : List ℕ) : Type 0 where
+  pub long : 18 ≤ length state
+  pub some : 0 < count
+  pub whole : 8 * count ≤ length records
+  pub room : 13 * count ≤ length out
+  pub quiet : telling ≡ false → count ≡ 1
 
 -- So many events. A quiet batch has one, and answers its refusal.
 pub record Worked (telling : Bool) (count : ℕ) (records state₀ sectors₀ staging₀ out₀ : List ℕ) (r : ℕ) (state₁ sectors₁ staging₁ out₁ : List ℕ) : Type 0 where

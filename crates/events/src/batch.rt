@@ -4,14 +4,13 @@ use crate::answer_words;
 use crate::judge;
 use crate::step;
 use parts::Event;
-ghost use Prim.Native.Nat.{_*_, _<_, _≤_};
+ghost use Prim.Native.Nat.{_*_, _≤_};
 ghost use mathlib.Core.Path.{_≡_};
-ghost use mathlib.Core.Bool.{false};
 ghost use lib.ListN.{length};
 ghost use Rattle.laws.specs.Lists.{writtenOver};
 ghost use Rattle.drive.specs.Batch.{eventOf, judgement};
 ghost use Rattle.events.specs.State.{driveIn};
-ghost use Rattle.events.specs.Turn.{refusals, Worked};
+ghost use Rattle.events.specs.Turn.{refusals, Lent, Worked};
 
 // So many events. The refusal where the one event of a quiet batch was refused, else 0.
 pub(crate) fn work(
@@ -23,7 +22,7 @@ pub(crate) fn work(
     staging: &mut [u16],
     out: &mut [u16],
 ) -> u8
-    requires { ⌜ (18 ≤ length (now state)) × (0 < count) × (8 * count ≤ length (now records)) × (13 * count ≤ length (now out)) × (telling ≡ false → count ≡ 1) ⌝ }
+    requires { ⌜ Lent telling count (now state) (now records) (now out) ⌝ }
     ensures { λ r. ⌜ Worked telling count (now (records .entry)) (now (state .entry)) (now (sectors .entry)) (now (staging .entry)) (now (out .entry)) r (now (state .exit)) (now (sectors .exit)) (now (staging .exit)) (now (out .exit)) ⌝ }
 {
     let judged = judge::judge(&state[..], &sectors[..], &staging[..]);
@@ -60,7 +59,7 @@ fn each(
     staging: &mut [u16],
     out: &mut [u16],
 ) -> u8
-    requires { ⌜ (18 ≤ length (now state)) × (0 ≡ judgement (driveIn (now state)) (now sectors) (now staging)) × (0 < count) × (8 * count ≤ length (now records)) × (13 * count ≤ length (now out)) × (telling ≡ false → count ≡ 1) ⌝ }
+    requires { ⌜ Lent telling count (now state) (now records) (now out) × (0 ≡ judgement (driveIn (now state)) (now sectors) (now staging)) ⌝ }
     ensures { λ r. ⌜ Worked telling count (now (records .entry)) (now (state .entry)) (now (sectors .entry)) (now (staging .entry)) (now (out .entry)) r (now (state .exit)) (now (sectors .exit)) (now (staging .exit)) (now (out .exit)) ⌝ }
 {
     let mut left = count;

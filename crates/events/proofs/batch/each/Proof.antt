@@ -1,7 +1,9 @@
 -- `each` meets its contract.
 -- Assumes nothing.
-use Prim.Native.Nat.{_+_, _-_, _*_, _<_, _≤_}
+use Prim.Native.Nat.{ℕ, _+_, _-_, _*_, _<_, _≤_}
 use mathlib.Core.Path.{_≡_, refl, sym}
+use mathlib.Core.Bool.{Bool}
+use mathlib.Core.List.{List}
 use native.Mathlib.Omega.{arith}
 use lib.ListN.{length}
 use Rattle.drive.proofs.Turns.{passable}
@@ -10,25 +12,40 @@ use borrow.Author.Needs.{needs}
 use Rattle.events.proofs.batch.each.Statement.{statement}
 use Rattle.events.proofs.batch.each.Tie as tie
 
+-- so many events are left, and the others are answered
+record Left (telling : Bool) (count : ℕ) (records state₀ sectors₀ staging₀ out₀ state sectors staging out : List ℕ) (left from at : ℕ) : Type 0 where
+  some : 0 < left
+  within : left ≤ count
+  read : from ≡ 8 * (count - left)
+  told : at ≡ 13 * (count - left)
+  same-state : length state ≡ length state₀
+  same-sectors : length sectors ≡ length sectors₀
+  same-staging : length staging ≡ length staging₀
+  same-out : length out ≡ length out₀
+  going : Going telling count records state₀ sectors₀ staging₀ out₀ state sectors staging out (count - left)
+
 abbrev Inv-loop : tie.InvT-loop
 Inv-loop state₀ telling count records sectors₀ staging₀ out₀ left₀ from₀ at₀ state sectors staging out left from at =
-    (0 < left)
-    × (left ≤ count)
-    × (from ≡ 8 * (count - left))
-    × (at ≡ 13 * (count - left))
-    × (length state ≡ length state₀)
-    × (length sectors ≡ length sectors₀)
-    × (length staging ≡ length staging₀)
-    × (length out ≡ length out₀)
-    × Going telling count records state₀ sectors₀ staging₀ out₀ state sectors staging out (count - left)
+    Left telling count records state₀ sectors₀ staging₀ out₀ state sectors staging out left from at
 
 abbrev μ-loop : tie.MeasureT-loop
 μ-loop state₀ telling count records sectors₀ staging₀ out₀ left₀ from₀ at₀ state sectors staging out left from at = left
 
 loop-holds : tie.Need-loop-holds Inv-loop μ-loop
 loop-holds c =
-    let z : (c .before .before .before .before .before .args) .count - (c .before .before .before .before .before .args) .count ≡ 0 = omega arith in
-    (search needs, search needs, search needs, search needs, refl, refl, refl, refl, rw z (going-start _ _ _ _ _ _ _ ((c .before .before .before .before .before .pre) .0) ((c .before .before .before .before .before .pre) .1)))
+    let start : tie.Start Inv-loop μ-loop = search in
+    let none : start .args .count - start .args .count ≡ 0 = omega arith in
+    record {
+      some = search needs;
+      within = search needs;
+      read = search needs;
+      told = search needs;
+      same-state = refl;
+      same-sectors = refl;
+      same-staging = refl;
+      same-out = refl;
+      going = rw none (going-start _ _ _ _ _ _ _ (start .pre .0 .long) (start .pre .1));
+    }
 
 sub-event-at : tie.Need-sub-event-at Inv-loop μ-loop
 sub-event-at c = search needs
@@ -55,7 +72,10 @@ part-step-end : tie.Need-part-step-end Inv-loop μ-loop
 part-step-end c = search needs
 
 step-requires : tie.Need-step-requires Inv-loop μ-loop
-step-requires c κs = (record { long = (c .before .before .before .before .before .before .loop) .inv .8 .long; passable = passable _ _ _ (sym ((c .before .before .before .before .before .before .loop) .inv .8 .judged)) }, search needs)
+step-requires c κs =
+    let here : tie.At-loop Inv-loop μ-loop = search in
+    let going = here .loop .inv .going in
+    (record { long = going .long; passable = passable _ _ _ (sym (going .judged)) }, search needs)
 
 same-length : tie.Need-same-length Inv-loop μ-loop
 same-length c = search needs
@@ -70,7 +90,14 @@ same-length-4 : tie.Need-same-length-4 Inv-loop μ-loop
 same-length-4 c = search needs
 
 returns : tie.Need-returns Inv-loop μ-loop
-returns c = rw ((c .before .before .before .before .before .before .before .before .before .before .before .before .before .before .before .before .loop) .inv .3) (going-stopped _ _ _ _ _ _ _ _ _ _ _ _ _ _ _ _ _ (search needs) ((c .before .before .before .before .before .before .before .before .before .before .before .before .before .before .before .before .before .before .before .before .before .before .pre) .5) ((c .if1) .taken) ((c .before .before .before .before .before .before .before .before .before .before .before .before .before .before .before .before .loop) .inv .8) (rw ((c .before .before .before .before .before .before .before .before .before .before .before .before .before .before .event-at) .ensures, (c .before .before .before .before .before .before .before .before .before .before .before .before .before .before .before .before .loop) .inv .2, (c .before .before .before .before .before .before .before .before .before .before .before .before .before .before .before .before .loop) .inv .3) at ((c .before .before .before .before .before .before .before .before .before .step) .ensures)))
+returns c =
+    let stepped : tie.After-step Inv-loop μ-loop = search in
+    let read : tie.After-event-at Inv-loop μ-loop = search in
+    let here : tie.At-loop Inv-loop μ-loop = search in
+    let start : tie.Start Inv-loop μ-loop = search in
+    let inv = here .loop .inv in
+    let turn = rw (read .event-at .ensures, inv .read, inv .told) at (stepped .step .ensures) in
+    rw (inv .told) (going-stopped _ _ _ _ _ _ _ _ _ _ _ _ _ _ _ _ _ (search needs) (start .pre .0 .quiet) (c .if1 .taken) (inv .going) turn)
 
 sub-left : tie.Need-sub-left Inv-loop μ-loop
 sub-left c = search needs
@@ -89,8 +116,15 @@ same-length-8 c = search needs
 
 returns-2 : tie.Need-returns-2 Inv-loop μ-loop
 returns-2 c =
-    let i = (c .before .before .before .before .before .before .before .before .before .before .before .before .before .before .before .before .before .before .before .before .before .before .before .args) .count - (c .before .before .before .before .before .before .before .before .before .before .before .before .before .before .before .before .before .loop) .left in
-    going-ended _ _ _ _ _ _ _ _ _ _ _ (i + 1) (search needs) (search needs) ((c .before .before .before .before .before .before .before .before .before .before .before .before .before .before .before .before .before .before .before .before .before .before .before .pre) .5) (rw ((c .before .before .before .before .before .before .before .before .before .before .before .before .before .before .before .before .before .loop) .inv .3) (going-next _ _ _ _ _ _ _ _ _ _ _ _ _ _ _ _ _ (search needs) (omega (arith, (c .before .before .before .before .before .before .before .before .before .before .before .before .before .before .before .before .before .loop) .inv .7, (c .before .before .before .before .before .before .before .before .before .before .before .before .before .before .before .before .before .before .before .before .before .before .before .pre) .4)) ((c .before .if1) .left) ((c .before .before .before .before .before .before .before .before .before .before .before .before .before .before .before .before .before .loop) .inv .8) (rw ((c .before .before .before .before .before .before .before .before .before .before .before .before .before .before .before .event-at) .ensures, (c .before .before .before .before .before .before .before .before .before .before .before .before .before .before .before .before .before .loop) .inv .2, (c .before .before .before .before .before .before .before .before .before .before .before .before .before .before .before .before .before .loop) .inv .3) at ((c .before .before .before .before .before .before .before .before .before .before .step) .ensures))))
+    let told : tie.Else1 Inv-loop μ-loop = search in
+    let stepped : tie.After-step Inv-loop μ-loop = search in
+    let read : tie.After-event-at Inv-loop μ-loop = search in
+    let here : tie.At-loop Inv-loop μ-loop = search in
+    let start : tie.Start Inv-loop μ-loop = search in
+    let inv = here .loop .inv in
+    let turn = rw (read .event-at .ensures, inv .read, inv .told) at (stepped .step .ensures) in
+    let next = going-next _ _ _ _ _ _ _ _ _ _ _ _ _ _ _ _ _ (search needs) (omega (arith, inv .same-out, start .pre .0 .room)) (told .if1 .left) (inv .going) turn in
+    going-ended _ _ _ _ _ _ _ _ _ _ _ (start .args .count - here .loop .left + 1) (search needs) (search needs) (start .pre .0 .quiet) (rw (inv .told) next)
 
 add-from : tie.Need-add-from Inv-loop μ-loop
 add-from c = search needs
@@ -103,8 +137,26 @@ loop-less c = search needs
 
 loop-again : tie.Need-loop-again Inv-loop μ-loop
 loop-again c =
-    let s : (c .before .before .before .before .before .before .before .before .before .before .before .before .before .before .before .before .before .before .before .before .before .before .before .args) .count - ((c .before .before .before .before .before .before .before .before .before .before .before .before .before .before .before .before .before .loop) .left - 1) ≡ (c .before .before .before .before .before .before .before .before .before .before .before .before .before .before .before .before .before .before .before .before .before .before .before .args) .count - (c .before .before .before .before .before .before .before .before .before .before .before .before .before .before .before .before .before .loop) .left + 1 = omega (arith, (c .before .before .before .before .before .before .before .before .before .before .before .before .before .before .before .before .before .loop) .inv .0, (c .before .before .before .before .before .before .before .before .before .before .before .before .before .before .before .before .before .loop) .inv .1) in
-    (search needs, search needs, search needs, search needs, search needs, search needs, search needs, search needs, rw (s, (c .before .before .before .before .before .before .before .before .before .before .before .before .before .before .before .before .before .loop) .inv .3) (going-next _ _ _ _ _ _ _ _ _ _ _ _ _ _ _ _ _ (search needs) (omega (arith, (c .before .before .before .before .before .before .before .before .before .before .before .before .before .before .before .before .before .loop) .inv .7, (c .before .before .before .before .before .before .before .before .before .before .before .before .before .before .before .before .before .before .before .before .before .before .before .pre) .4)) ((c .before .if1) .left) ((c .before .before .before .before .before .before .before .before .before .before .before .before .before .before .before .before .before .loop) .inv .8) (rw ((c .before .before .before .before .before .before .before .before .before .before .before .before .before .before .before .event-at) .ensures, (c .before .before .before .before .before .before .before .before .before .before .before .before .before .before .before .before .before .loop) .inv .2, (c .before .before .before .before .before .before .before .before .before .before .before .before .before .before .before .before .before .loop) .inv .3) at ((c .before .before .before .before .before .before .before .before .before .before .step) .ensures))))
+    let told : tie.Else1 Inv-loop μ-loop = search in
+    let stepped : tie.After-step Inv-loop μ-loop = search in
+    let read : tie.After-event-at Inv-loop μ-loop = search in
+    let here : tie.At-loop Inv-loop μ-loop = search in
+    let start : tie.Start Inv-loop μ-loop = search in
+    let inv = here .loop .inv in
+    let turn = rw (read .event-at .ensures, inv .read, inv .told) at (stepped .step .ensures) in
+    let more : start .args .count - (here .loop .left - 1) ≡ start .args .count - here .loop .left + 1 = omega (arith, inv .some, inv .within) in
+    let next = going-next _ _ _ _ _ _ _ _ _ _ _ _ _ _ _ _ _ (search needs) (omega (arith, inv .same-out, start .pre .0 .room)) (told .if1 .left) (inv .going) turn in
+    record {
+      some = search needs;
+      within = search needs;
+      read = search needs;
+      told = search needs;
+      same-state = search needs;
+      same-sectors = search needs;
+      same-staging = search needs;
+      same-out = search needs;
+      going = rw (more, inv .told) next;
+    }
 
 pub each-spec : {M : Type 1} → statement M
 each-spec =

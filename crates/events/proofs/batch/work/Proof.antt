@@ -11,7 +11,11 @@ judge-requires : tie.Need-judge-requires
 judge-requires c κs = search needs
 
 each-requires : tie.Need-each-requires
-each-requires c κs = (c .before .before .before .before .before .before .before .before .before .before .before .before .before .before .pre .0, sym (c .before .before .before .before .if1 .taken) ∙ c .before .before .before .before .before .judge .ensures, c .before .before .before .before .before .before .before .before .before .before .before .before .before .before .pre .1, c .before .before .before .before .before .before .before .before .before .before .before .before .before .before .pre .2, c .before .before .before .before .before .before .before .before .before .before .before .before .before .before .pre .3, c .before .before .before .before .before .before .before .before .before .before .before .before .before .before .pre .4)
+each-requires c κs =
+    let then1 : tie.Then1 = search in
+    let after-judge : tie.After-judge = search in
+    let start : tie.Start = search in
+    (start .pre, sym (then1 .if1 .taken) ∙ after-judge .judge .ensures)
 
 same-length : tie.Need-same-length
 same-length c = search needs
@@ -38,8 +42,12 @@ same-length-7 : tie.Need-same-length-7
 same-length-7 c = search needs
 
 returns-2 : tie.Need-returns-2
-returns-2 c = let quiet = not-true _ (c .if2 .taken) in
-    rw (quiet, c .before .before .before .before .before .before .before .before .before .before .before .pre .4 quiet) (refused-quietly _ _ _ _ _ _ (c .before .before .before .before .before .before .before .before .before .before .before .pre .0) (c .before .before .judge .ensures) (c .before .if1 .left))
+returns-2 c =
+    let else1 : tie.Else1 = search in
+    let after-judge : tie.After-judge = search in
+    let start : tie.Start = search in
+    let quiet = not-true _ (c .if2 .taken) in
+    rw (quiet, start .pre .quiet quiet) (refused-quietly _ _ _ _ _ _ (start .pre .long) (after-judge .judge .ensures) (else1 .if1 .left))
 
 refuse-all-requires : tie.Need-refuse-all-requires
 refuse-all-requires c κs = search needs
@@ -57,7 +65,13 @@ same-length-11 : tie.Need-same-length-11
 same-length-11 c = search needs
 
 returns-3 : tie.Need-returns-3
-returns-3 c = rw (not-false (c .before .before .before .before .before .before .before .before .before .before .before .before .before .before .before .args .telling) (c .before .before .before .before .if2 .left)) (refused-all _ _ _ _ _ _ _ (c .before .before .before .before .before .before .before .before .before .before .before .before .before .before .before .pre .0) (c .before .before .before .before .before .before .judge .ensures) (c .before .before .before .before .before .if1 .left) (c .before .before .refuse-all .ensures))
+returns-3 c =
+    let after-refuse-all : tie.After-refuse-all = search in
+    let else2 : tie.Else2 = search in
+    let else1 : tie.Else1 = search in
+    let after-judge : tie.After-judge = search in
+    let start : tie.Start = search in
+    rw (not-false (start .args .telling) (else2 .if2 .left)) (refused-all _ _ _ _ _ _ _ (start .pre .long) (after-judge .judge .ensures) (else1 .if1 .left) (after-refuse-all .refuse-all .ensures))
 
 pub work-spec : {M : Type 1} → statement M
 work-spec =

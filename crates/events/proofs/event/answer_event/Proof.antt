@@ -20,7 +20,11 @@ same-length-2 : tie.Need-same-length-2
 same-length-2 c = search needs
 
 returns-2 : tie.Need-returns-2
-returns-2 c = no-room-for-answer (c .before .before .before .before .before .before .before .before .if1 .left) (c .before .before .before .before .before .before .before .if2 .taken) (c .before .before .before .before .refuse-short .ensures)
+returns-2 c =
+    let after-refuse-short : tie.After-refuse-short = search in
+    let then2 : tie.Then2 = search in
+    let else1 : tie.Else1 = search in
+    no-room-for-answer (else1 .if1 .left) (then2 .if2 .taken) (after-refuse-short .refuse-short .ensures)
 
 slice-aggregate-work : tie.Need-slice-aggregate-work
 slice-aggregate-work c = search needs
@@ -43,7 +47,10 @@ same-length-6 c = search needs
 returns-3 : tie.Need-returns-3
 unfolding eventOf
 returns-3 c =
-    event-worked _ _ _ _ _ _ _ _ _ _ _ (c .before .before .before .before .before .before .before .before .before .before .before .before .before .before .before .if1 .left) (c .before .before .before .before .before .before .before .before .before .before .before .before .before .before .if2 .left) refl (c .before .before .before .before .before .before .before .before .work .ensures)
+    let after-work : tie.After-work = search in
+    let else2 : tie.Else2 = search in
+    let else1 : tie.Else1 = search in
+    event-worked _ _ _ _ _ _ _ _ _ _ _ (else1 .if1 .left) (else2 .if2 .left) refl (after-work .work .ensures)
 
 pub answer-event-spec : {M : Type 1} → statement M
 answer-event-spec =

@@ -24,7 +24,10 @@ same-length-2 : tie.Need-same-length-2
 same-length-2 c = search needs
 
 returns : tie.Need-returns
-returns c = refused-short (c .before .before .before .before .before .before .before .before .before .before .before .before .before .before .pre) (c .before .before .before .before .before .before .work .ensures)
+returns c =
+    let after-work : tie.After-work = search in
+    let start : tie.Start = search in
+    refused-short (start .pre) (after-work .work .ensures)
 
 pub refuse-short-spec : {M : Type 1} → statement M
 refuse-short-spec =

@@ -10,6 +10,10 @@ use borrow.Author.Needs.{needs}
 use Rattle.events.proofs.transfer.after_word.Statement.{statement}
 use Rattle.events.proofs.transfer.after_word.Tie as tie
 
+-- what the function was called with
+abbrev entry : tie.After-header-miscompares → tie.Start
+entry c = c .before .before .before .before .before .before
+
 header-miscompares-requires : tie.Need-header-miscompares-requires
 header-miscompares-requires c κs = search needs
 
@@ -24,8 +28,12 @@ same-length-2 c = search needs
 
 returns : tie.Need-returns
 returns c =
-    did-as-in _ _ (differs (driveIn (now ((c .before .before .before .before .before .before .before .before .before .before .before .args) .state))) _ _ _ _ (sym ((c .before .before .before .before .before .header-miscompares) .ensures) ∙ (c .before .before .before .before .if1) .taken))
-    (record { answer = refl; state = (c .before .before .end-transfer) .ensures; sectors = refl; staging = refl })
+    let after-end-transfer : tie.After-end-transfer = search in
+    let then1 : tie.Then1 = search in
+    let after-header-miscompares : tie.After-header-miscompares = search in
+    let start = entry after-header-miscompares in
+    did-as-in _ _ (differs (driveIn (now (start .args .state))) _ _ _ _ (sym (after-header-miscompares .header-miscompares .ensures) ∙ then1 .if1 .taken))
+    (record { answer = refl; state = after-end-transfer .end-transfer .ensures; sectors = refl; staging = refl })
 
 is-last-requires : tie.Need-is-last-requires
 is-last-requires c κs = search needs
@@ -37,13 +45,25 @@ place-in-requires : tie.Need-place-in-requires
 place-in-requires c κs = search needs
 
 sector-start-requires : tie.Need-sector-start-requires
-sector-start-requires c κs = placed ((c .before .before .before .before .before .before .before .before .before .before .before .before .before .before .pre) .0) _ _ ((c .before .before .setup-in) .ensures) ((c .place-in) .ensures)
+sector-start-requires c κs =
+    let after-setup-in : tie.After-setup-in = search in
+    let after-header-miscompares : tie.After-header-miscompares = search in
+    let start = entry after-header-miscompares in
+    placed (start .pre .0) _ _ (after-setup-in .setup-in .ensures) (c .place-in .ensures)
 
 commit-requires : tie.Need-commit-requires
-commit-requires c κs = has-room ((c .before .before .before .before .before .before .before .before .before .before .before .before .before .before .before .before .pre) .0) _ _ _ ((c .before .before .before .before .setup-in) .ensures) ((c .before .before .place-in) .ensures) ((c .before .sector-start) .ensures)
+commit-requires c κs =
+    let after-sector-start : tie.After-sector-start = search in
+    let after-place-in : tie.After-place-in = search in
+    let after-setup-in : tie.After-setup-in = search in
+    let after-header-miscompares : tie.After-header-miscompares = search in
+    let start = entry after-header-miscompares in
+    has-room (start .pre .0) _ _ _ (after-setup-in .setup-in .ensures) (after-place-in .place-in .ensures) (after-sector-start .sector-start .ensures)
 
 end-transfer-requires-2 : tie.Need-end-transfer-requires-2
-end-transfer-requires-2 c κs = fit ((c .before .before .before .before .before .before .before .before .before .before .before .before .before .before .before .before .before .before .before .before .pre) .0)
+end-transfer-requires-2 c κs =
+    let start : tie.Start = search in
+    fit (start .pre .0)
 
 same-length-3 : tie.Need-same-length-3
 same-length-3 c = search needs
@@ -53,11 +73,21 @@ same-length-4 c = search needs
 
 returns-2 : tie.Need-returns-2
 returns-2 c =
-    did-as-in _ _ (last-word (driveIn (now ((c .before .before .before .before .before .before .before .before .before .before .before .before .before .before .before .before .before .before .before .before .before .before .before .args) .state))) _ _ _ _ _ ((c .before .before .before .before .before .before .before .before .before .before .before .before .before .before .before .before .before .before .before .before .before .before .before .pre) .1) (sym ((c .before .before .before .before .before .before .before .before .before .before .before .before .before .before .before .before .before .header-miscompares) .ensures) ∙ (c .before .before .before .before .before .before .before .before .before .before .before .before .before .before .before .before .if1) .left) (sym ((c .before .before .before .before .before .before .before .before .before .before .before .before .before .before .is-last) .ensures) ∙ (c .before .before .before .before .before .before .before .before .before .before .before .before .before .if2) .taken))
+    let after-end-transfer2 : tie.After-end-transfer2 = search in
+    let after-commit : tie.After-commit = search in
+    let after-sector-start : tie.After-sector-start = search in
+    let after-place-in : tie.After-place-in = search in
+    let after-setup-in : tie.After-setup-in = search in
+    let then2 : tie.Then2 = search in
+    let after-is-last : tie.After-is-last = search in
+    let else1 : tie.Else1 = search in
+    let after-header-miscompares : tie.After-header-miscompares = search in
+    let start = entry after-header-miscompares in
+    did-as-in _ _ (last-word (driveIn (now (start .args .state))) _ _ _ _ _ (start .pre .1) (sym (after-header-miscompares .header-miscompares .ensures) ∙ else1 .if1 .left) (sym (after-is-last .is-last .ensures) ∙ then2 .if2 .taken))
     (record {
       answer = refl;
-      state = (c .before .before .end-transfer2) .ensures;
-      sectors = (c .before .before .before .before .before .before .commit) .ensures ∙ rw ((c .before .before .before .before .before .before .before .before .sector-start) .ensures, (c .before .before .before .before .before .before .before .before .before .before .before .setup-in) .ensures, (c .before .before .before .before .before .before .before .before .before .place-in) .ensures);
+      state = after-end-transfer2 .end-transfer2 .ensures;
+      sectors = after-commit .commit .ensures ∙ rw (after-sector-start .sector-start .ensures, after-setup-in .setup-in .ensures, after-place-in .place-in .ensures);
       staging = refl;
     })
 
@@ -75,8 +105,12 @@ same-length-6 c = search needs
 
 returns-3 : tie.Need-returns-3
 returns-3 c =
-    did-as-in _ _ (one-of-more (driveIn (now ((c .before .before .before .before .before .before .before .before .before .before .args) .state))) _ _ _ _ _ ((c .before .before .before .before .before .before .before .before .before .before .pre) .1) (sym ((c .before .before .before .before .header-miscompares) .ensures) ∙ (c .before .before .before .if1) .left) (sym ((c .before .is-last) .ensures) ∙ (c .if2) .left))
-    (record { answer = refl; state = word-moved _ _ ((c .before .before .before .before .before .before .before .before .before .before .pre) .0 .long) (known (fit ((c .before .before .before .before .before .before .before .before .before .before .pre) .0))); sectors = refl; staging = refl })
+    let after-is-last : tie.After-is-last = search in
+    let else1 : tie.Else1 = search in
+    let after-header-miscompares : tie.After-header-miscompares = search in
+    let start = entry after-header-miscompares in
+    did-as-in _ _ (one-of-more (driveIn (now (start .args .state))) _ _ _ _ _ (start .pre .1) (sym (after-header-miscompares .header-miscompares .ensures) ∙ else1 .if1 .left) (sym (after-is-last .is-last .ensures) ∙ c .if2 .left))
+    (record { answer = refl; state = word-moved _ _ (start .pre .0 .long) (known (fit (start .pre .0))); sectors = refl; staging = refl })
 
 pub after-word-spec : {M : Type 1} → statement M
 after-word-spec =

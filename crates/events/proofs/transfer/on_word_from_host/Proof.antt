@@ -24,7 +24,11 @@ same-length : tie.Need-same-length
 same-length c = search needs
 
 returns : tie.Need-returns
-returns c = did-refused-in (Use WordFromHost) _ _ _ _ _ _ (fit (c .before .before .before .before .before .before .before .pre)) (number-as _ (c .before .refusal .ensures) (c .before .before .before .none-after-2 .ensures) (ap not (timely-told (fit (c .before .before .before .before .before .before .before .pre)) .write))) (c .if1 .taken)
+returns c =
+    let after-refusal : tie.After-refusal = search in
+    let after-none-after-2 : tie.After-none-after-2 = search in
+    let start : tie.Start = search in
+    did-refused-in (Use WordFromHost) _ _ _ _ _ _ (fit (start .pre)) (number-as _ (after-refusal .refusal .ensures) (after-none-after-2 .none-after-2 .ensures) (ap not (timely-told (fit (start .pre)) .write))) (c .if1 .taken)
 
 slice-read-control : tie.Need-slice-read-control
 slice-read-control c = search needs
@@ -33,28 +37,48 @@ slice-read-moved : tie.Need-slice-read-moved
 slice-read-moved c = search needs
 
 cast-moved : tie.Need-cast-moved
-cast-moved c = let w = able-to-write (c .before .before .before .before .before .before .before .before .before .pre .passable) (on-time _ _ (c .before .before .before .refusal .ensures) (c .before .before .if1 .left) (timely-told (fit (c .before .before .before .before .before .before .before .before .before .pre)) .write)) in
+cast-moved c =
+    let else1 : tie.Else1 = search in
+    let after-refusal : tie.After-refusal = search in
+    let start : tie.Start = search in
+    let w = able-to-write (start .pre .passable) (on-time _ _ (after-refusal .refusal .ensures) (else1 .if1 .left) (timely-told (fit (start .pre)) .write)) in
     omega (arith, moving w .few)
 
 word-of-requires : tie.Need-word-of-requires
 word-of-requires c κs = search needs
 
 mul-staging : tie.Need-mul-staging
-mul-staging c = let w = able-to-write (c .before .before .before .before .before .before .before .before .before .before .pre .passable) (on-time _ _ (c .before .before .before .before .refusal .ensures) (c .before .before .before .if1 .left) (timely-told (fit (c .before .before .before .before .before .before .before .before .before .before .pre)) .write)) in
+mul-staging c =
+    let else1 : tie.Else1 = search in
+    let after-refusal : tie.After-refusal = search in
+    let start : tie.Start = search in
+    let w = able-to-write (start .pre .passable) (on-time _ _ (after-refusal .refusal .ensures) (else1 .if1 .left) (timely-told (fit (start .pre)) .write)) in
     omega (arith, moving w .few)
 
 slice-write-staging : tie.Need-slice-write-staging
-slice-write-staging c = moving (able-to-write (c .before .before .before .before .before .before .before .before .before .before .pre .passable) (on-time _ _ (c .before .before .before .before .refusal .ensures) (c .before .before .before .if1 .left) (timely-told (fit (c .before .before .before .before .before .before .before .before .before .before .pre)) .write))) .inside
+slice-write-staging c =
+    let else1 : tie.Else1 = search in
+    let after-refusal : tie.After-refusal = search in
+    let start : tie.Start = search in
+    moving (able-to-write (start .pre .passable) (on-time _ _ (after-refusal .refusal .ensures) (else1 .if1 .left) (timely-told (fit (start .pre)) .write))) .inside
 
 add-after-word : tie.Need-add-after-word
-add-after-word c = let w = able-to-write (c .before .before .before .before .before .before .before .before .before .before .before .pre .passable) (on-time _ _ (c .before .before .before .before .before .refusal .ensures) (c .before .before .before .before .if1 .left) (timely-told (fit (c .before .before .before .before .before .before .before .before .before .before .before .pre)) .write)) in
+add-after-word c =
+    let else1 : tie.Else1 = search in
+    let after-refusal : tie.After-refusal = search in
+    let start : tie.Start = search in
+    let w = able-to-write (start .pre .passable) (on-time _ _ (after-refusal .refusal .ensures) (else1 .if1 .left) (timely-told (fit (start .pre)) .write)) in
     omega (arith, moving w .few)
 
 after-word-requires : tie.Need-after-word-requires
 unfolding driveIn
-after-word-requires c κs = let o = on-time _ _ (c .before .before .before .before .before .before .before .refusal .ensures) (c .before .before .before .before .before .before .if1 .left) (timely-told (fit (c .before .before .before .before .before .before .before .before .before .before .before .before .before .pre)) .write) in
-    let w = able-to-write (c .before .before .before .before .before .before .before .before .before .before .before .before .before .pre .passable) o in
-    (staging-set _ _ (c .before .before .before .before .before .before .before .before .before .before .before .before .before .pre), refl, o, omega (arith, moving w .few))
+after-word-requires c κs =
+    let else1 : tie.Else1 = search in
+    let after-refusal : tie.After-refusal = search in
+    let start : tie.Start = search in
+    let o = on-time _ _ (after-refusal .refusal .ensures) (else1 .if1 .left) (timely-told (fit (start .pre)) .write) in
+    let w = able-to-write (start .pre .passable) o in
+    (staging-set _ _ (start .pre), refl, o, omega (arith, moving w .few))
 
 same-length-2 : tie.Need-same-length-2
 same-length-2 c = search needs
@@ -67,8 +91,15 @@ same-length-4 c = search needs
 
 returns-2 : tie.Need-returns-2
 unfolding wordStaged driveIn
-returns-2 c = did-accepted-in (Use WordFromHost) _ _ _ _ _ _ (number-as _ (c .before .before .before .before .before .before .before .before .before .before .before .before .refusal .ensures) (c .before .before .before .before .before .before .before .before .before .before .before .before .before .before .none-after-2 .ensures) (ap not (timely-told (fit (c .before .before .before .before .before .before .before .before .before .before .before .before .before .before .before .before .before .before .pre)) .write))) (c .before .before .before .before .before .before .before .before .before .before .before .if1 .left)
-    (rw (← (c .before .before .before .before .before .before .before .before .word-of .ensures)) (c .before .before .before .before .after-word .ensures))
+returns-2 c =
+    let after-after-word : tie.After-after-word = search in
+    let after-word-of : tie.After-word-of = search in
+    let else1 : tie.Else1 = search in
+    let after-refusal : tie.After-refusal = search in
+    let after-none-after-2 : tie.After-none-after-2 = search in
+    let start : tie.Start = search in
+    did-accepted-in (Use WordFromHost) _ _ _ _ _ _ (number-as _ (after-refusal .refusal .ensures) (after-none-after-2 .none-after-2 .ensures) (ap not (timely-told (fit (start .pre)) .write))) (else1 .if1 .left)
+    (rw (← (after-word-of .word-of .ensures)) (after-after-word .after-word .ensures))
 
 pub on-word-from-host-spec : {M : Type 1} → statement M
 on-word-from-host-spec =

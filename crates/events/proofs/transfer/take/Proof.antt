@@ -11,6 +11,10 @@ use borrow.Author.Needs.{needs}
 use Rattle.events.proofs.transfer.take.Statement.{statement}
 use Rattle.events.proofs.transfer.take.Tie as tie
 
+-- what the function was called with
+abbrev entry : tie.After-setup-in → tie.Start
+entry c = c .before .before .before .before .before .before .before
+
 slice-read-control : tie.Need-slice-read-control
 slice-read-control c = search needs
 
@@ -24,29 +28,55 @@ place-in-requires : tie.Need-place-in-requires
 place-in-requires c κs = search needs
 
 sector-start-requires : tie.Need-sector-start-requires
-sector-start-requires c κs = placed (c .before .before .before .before .before .before .before .before .before .pre .0) _ _ (c .before .before .setup-in .ensures) (c .place-in .ensures)
+sector-start-requires c κs =
+    let after-setup-in : tie.After-setup-in = search in
+    let start = entry after-setup-in in
+    placed (start .pre .0) _ _ (after-setup-in .setup-in .ensures) (c .place-in .ensures)
 
 word-offset-requires : tie.Need-word-offset-requires
 unfolding driveIn
-word-offset-requires c κs = rw (c .before .before .before .setup-in .ensures) (c .before .before .before .before .before .before .before .before .before .before .pre .1 .moved)
+word-offset-requires c κs =
+    let after-setup-in : tie.After-setup-in = search in
+    let start = entry after-setup-in in
+    rw (after-setup-in .setup-in .ensures) (start .pre .1 .moved)
 
 add-at : tie.Need-add-at
-add-at c = let r = has-room (c .before .before .before .before .before .before .before .before .before .before .before .pre .0) _ _ _ (c .before .before .before .before .setup-in .ensures) (c .before .before .place-in .ensures) (c .before .sector-start .ensures) in
+add-at c =
+    let after-sector-start : tie.After-sector-start = search in
+    let after-place-in : tie.After-place-in = search in
+    let after-setup-in : tie.After-setup-in = search in
+    let start = entry after-setup-in in
+    let r = has-room (start .pre .0) _ _ _ (after-setup-in .setup-in .ensures) (after-place-in .place-in .ensures) (after-sector-start .sector-start .ensures) in
     omega (arith, r .sector, c .word-offset .ensures .inside)
 
 mul-word : tie.Need-mul-word
-mul-word c = let r = has-room (c .before .before .before .before .before .before .before .before .before .before .before .pre .0) _ _ _ (c .before .before .before .before .setup-in .ensures) (c .before .before .place-in .ensures) (c .before .sector-start .ensures) in
+mul-word c =
+    let after-sector-start : tie.After-sector-start = search in
+    let after-place-in : tie.After-place-in = search in
+    let after-setup-in : tie.After-setup-in = search in
+    let start = entry after-setup-in in
+    let r = has-room (start .pre .0) _ _ _ (after-setup-in .setup-in .ensures) (after-place-in .place-in .ensures) (after-sector-start .sector-start .ensures) in
     omega (arith, r .sector, c .word-offset .ensures .inside)
 
 shared-slice-read-word : tie.Need-shared-slice-read-word
-shared-slice-read-word c = let r = has-room (c .before .before .before .before .before .before .before .before .before .before .before .before .pre .0) _ _ _ (c .before .before .before .before .before .setup-in .ensures) (c .before .before .before .place-in .ensures) (c .before .before .sector-start .ensures) in
-    omega (arith, r .sector, c .before .word-offset .ensures .inside)
+shared-slice-read-word c =
+    let after-word-offset : tie.After-word-offset = search in
+    let after-sector-start : tie.After-sector-start = search in
+    let after-place-in : tie.After-place-in = search in
+    let after-setup-in : tie.After-setup-in = search in
+    let start = entry after-setup-in in
+    let r = has-room (start .pre .0) _ _ _ (after-setup-in .setup-in .ensures) (after-place-in .place-in .ensures) (after-sector-start .sector-start .ensures) in
+    omega (arith, r .sector, after-word-offset .word-offset .ensures .inside)
 
 cast-if1 : tie.Need-cast-if1
-cast-if1 c = let m = moving (c .before .before .before .before .before .before .before .before .before .before .before .before .pre .1) in omega (arith, m .few)
+cast-if1 c =
+    let start : tie.Start = search in
+    let m = moving (start .pre .1) in omega (arith, m .few)
 
 add-if1 : tie.Need-add-if1
-add-if1 c = let m = moving (c .before .before .before .before .before .before .before .before .before .before .before .before .pre .1) in omega (arith, m .few)
+add-if1 c =
+    let start : tie.Start = search in
+    let m = moving (start .pre .1) in omega (arith, m .few)
 
 words-to-come-requires : tie.Need-words-to-come-requires
 words-to-come-requires c κs = search needs
@@ -60,16 +90,22 @@ same-length c = search needs
 returns : tie.Need-returns
 unfolding driveIn
 returns c =
-    let read = c .before .before .before .before .before in
-    let setup = read .before .before .before .before .before .before .before .setup-in .ensures in
-    let place = read .before .before .before .before .before .place-in .ensures in
-    let begin = read .before .before .before .before .sector-start .ensures in
-    let start = read .before .before .before .before .before .before .before .before .before .before .before .before .before .before in
-    did-as _ _ (last-taken (driveIn (now (start .args .state))) _ _ _ _ _ _ setup place begin (has-room (start .pre .0) _ _ _ setup place begin) (read .before .before .before .word-offset .ensures) (c .before .before .before .before .if1 .taken ∙ read .words-to-come .ensures))
-    (record { answer = refl; state = c .before .before .end-transfer .ensures })
+    let ended : tie.After-end-transfer = search in
+    let last : tie.Then1 = search in
+    let asked : tie.After-words-to-come = search in
+    let offset : tie.After-word-offset = search in
+    let begin : tie.After-sector-start = search in
+    let place : tie.After-place-in = search in
+    let setup : tie.After-setup-in = search in
+    let start = entry setup in
+    let room = has-room (start .pre .0) _ _ _ (setup .setup-in .ensures) (place .place-in .ensures) (begin .sector-start .ensures) in
+    did-as _ _ (last-taken (driveIn (now (start .args .state))) _ _ _ _ _ _ (setup .setup-in .ensures) (place .place-in .ensures) (begin .sector-start .ensures) room (offset .word-offset .ensures) (last .if1 .taken ∙ asked .words-to-come .ensures))
+    (record { answer = refl; state = ended .end-transfer .ensures })
 
 add-state : tie.Need-add-state
-add-state c = let m = moving (c .before .before .before .before .before .before .before .before .before .before .before .before .before .before .before .pre .1) in omega (arith, m .few)
+add-state c =
+    let start : tie.Start = search in
+    let m = moving (start .pre .1) in omega (arith, m .few)
 
 slice-write-state : tie.Need-slice-write-state
 slice-write-state c = search needs
@@ -80,12 +116,14 @@ same-length-2 c = search needs
 returns-2 : tie.Need-returns-2
 unfolding driveIn
 returns-2 c =
-    let read = c .before in
-    let setup = read .before .before .before .before .before .before .before .setup-in .ensures in
-    let place = read .before .before .before .before .before .place-in .ensures in
-    let begin = read .before .before .before .before .sector-start .ensures in
-    let start = read .before .before .before .before .before .before .before .before .before .before .before .before .before .before in
-    did-as _ _ (one-taken (driveIn (now (start .args .state))) _ _ _ _ _ _ setup place begin (has-room (start .pre .0) _ _ _ setup place begin) (read .before .before .before .word-offset .ensures) (λ e. c .if1 .left (e ∙ sym (read .words-to-come .ensures))))
+    let asked : tie.After-words-to-come = search in
+    let offset : tie.After-word-offset = search in
+    let begin : tie.After-sector-start = search in
+    let place : tie.After-place-in = search in
+    let setup : tie.After-setup-in = search in
+    let start = entry setup in
+    let room = has-room (start .pre .0) _ _ _ (setup .setup-in .ensures) (place .place-in .ensures) (begin .sector-start .ensures) in
+    did-as _ _ (one-taken (driveIn (now (start .args .state))) _ _ _ _ _ _ (setup .setup-in .ensures) (place .place-in .ensures) (begin .sector-start .ensures) room (offset .word-offset .ensures) (λ e. c .if1 .left (e ∙ sym (asked .words-to-come .ensures))))
     (record { answer = refl; state = word-moved _ _ (start .pre .0 .long) (known (fit (start .pre .0))) })
 
 pub take-spec : {M : Type 1} → statement M
