@@ -11,6 +11,7 @@ use Rattle.laws.specs.Rows.{unlessRefused}
 use Rattle.laws.specs.Octets.{AllOctets}
 use Rattle.laws.proofs.Pick.{cases}
 use Rattle.laws.proofs.Rows.{accepted, first-up-to}
+use Rattle.capture.proofs.Promised.{capture-decoded}
 use Rattle.capture.specs.Capture.{captureRows, captureRefusal, firstRecord, distanceOf, recordsOf, DecodedCapture}
 use Rattle.capture.specs.declared.capture.CaptureRead.the-variants.{Capture}
 use Rattle.bench.specs.Text.{numberedLine}
@@ -24,7 +25,7 @@ module _ (octets : List ℕ) (all : AllOctets octets) where
   by-refusal : length octets ≤ 65536 → (n : ℕ) → captureRefusal octets ≡ n
       → length (unlessRefused n (numberedLine refusedWord n) (runReport (recordsOf octets))) ≤ 114697
   by-refusal short zero e =
-      let decoded : DecodedCapture octets (Capture (firstRecord octets) (distanceOf octets / 8)) = record { answer = rw e } in
+      let decoded : DecodedCapture octets (Capture (firstRecord octets) (distanceOf octets / 8)) = capture-decoded (rw e) in
       run-size (recordsOf octets) (records-octets octets short decoded all) (records-short octets short decoded)
   by-refusal short (suc n) e = omega (arith, numbered-size refusedWord 1 (suc n) (omega (arith, first-up-to 14 (captureRows octets) refl)))
 

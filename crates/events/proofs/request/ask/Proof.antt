@@ -78,35 +78,35 @@ same-length-2 c = search needs
 
 returns-2 : tie.Need-returns-2
 unfolding dataControl
-returns-2 c = did-request _ _ _ _ (c .before .before .before .before .before .before .before .is-unsolicited .ensures) (c .before .before .before .before .before .before .if1 .left) (did-opening _ _ _ (c .before .before .before .before .before .control-of .result) (low _ (c .before .before .before .before .match .keys1)) (c .before .before .before .before .before .control-of .ensures .answer .answer) (c .before .before .open-there .ensures))
+returns-2 c = did-request _ _ _ _ (c .before .before .before .before .before .before .before .is-unsolicited .ensures) (c .before .before .before .before .before .before .if1 .left) (did-opening _ _ _ (c .before .before .before .before .before .control-of .result) (low _ (c .before .before .before .before .match .keys1)) (c .before .before .before .before .before .control-of .ensures .answer) (c .before .before .open-there .ensures))
 
 same-length-3 : tie.Need-same-length-3
 same-length-3 c = search needs
 
 returns-3 : tie.Need-returns-3
 unfolding dataControl
-returns-3 c = did-request _ _ _ _ (c .before .before .before .before .before .before .before .before .is-unsolicited .ensures) (c .before .before .before .before .before .before .before .if1 .left) (did-controlled _ _ _ StepHead (sym (c .before .before .before .before .enum-told .given .1) ∙ c .before .before .before .before .before .before .control-of .ensures .answer .answer) (record { answer = refl; state = c .before .before .step-head .ensures }))
+returns-3 c = did-request _ _ _ _ (c .before .before .before .before .before .before .before .before .is-unsolicited .ensures) (c .before .before .before .before .before .before .before .if1 .left) (did-controlled _ _ _ StepHead (sym (c .before .before .before .before .enum-told .given .1) ∙ c .before .before .before .before .before .before .control-of .ensures .answer) (record { answer = refl; state = c .before .before .step-head .ensures }))
 
 same-length-4 : tie.Need-same-length-4
 same-length-4 c = search needs
 
 returns-4 : tie.Need-returns-4
 unfolding dataControl
-returns-4 c = did-request _ _ _ _ (c .before .before .before .before .before .before .before .before .is-unsolicited .ensures) (c .before .before .before .before .before .before .before .if1 .left) (did-controlled _ _ _ Reserved (sym (c .before .before .before .before .enum-told2 .given .1) ∙ c .before .before .before .before .before .before .control-of .ensures .answer .answer) (c .before .before .fault .ensures))
+returns-4 c = did-request _ _ _ _ (c .before .before .before .before .before .before .before .before .is-unsolicited .ensures) (c .before .before .before .before .before .before .before .if1 .left) (did-controlled _ _ _ Reserved (sym (c .before .before .before .before .enum-told2 .given .1) ∙ c .before .before .before .before .before .before .control-of .ensures .answer) (c .before .before .fault .ensures))
 
 same-length-5 : tie.Need-same-length-5
 same-length-5 c = search needs
 
 returns-5 : tie.Need-returns-5
 unfolding dataControl
-returns-5 c = did-request _ _ _ _ (c .before .before .before .before .before .before .before .before .is-unsolicited .ensures) (c .before .before .before .before .before .before .before .if1 .left) (did-controlled _ _ _ Unsupported (sym (c .before .before .before .before .enum-told3 .given .1) ∙ c .before .before .before .before .before .before .control-of .ensures .answer .answer) (c .before .before .fault2 .ensures))
+returns-5 c = did-request _ _ _ _ (c .before .before .before .before .before .before .before .before .is-unsolicited .ensures) (c .before .before .before .before .before .before .before .if1 .left) (did-controlled _ _ _ Unsupported (sym (c .before .before .before .before .enum-told3 .given .1) ∙ c .before .before .before .before .before .before .control-of .ensures .answer) (c .before .before .fault2 .ensures))
 
 same-length-6 : tie.Need-same-length-6
 same-length-6 c = search needs
 
 returns-6 : tie.Need-returns-6
 unfolding dataControl
-returns-6 c = did-request _ _ _ _ (c .before .before .before .before .before .before .before .before .is-unsolicited .ensures) (c .before .before .before .before .before .before .before .if1 .left) (did-controlled _ _ _ Invalid (sym (c .before .before .before .before .enum-told4 .given .1) ∙ c .before .before .before .before .before .before .control-of .ensures .answer .answer) (c .before .before .fault3 .ensures))
+returns-6 c = did-request _ _ _ _ (c .before .before .before .before .before .before .before .before .is-unsolicited .ensures) (c .before .before .before .before .before .before .before .if1 .left) (did-controlled _ _ _ Invalid (sym (c .before .before .before .before .enum-told4 .given .1) ∙ c .before .before .before .before .before .before .control-of .ensures .answer) (c .before .before .fault3 .ensures))
 
 pub ask-spec : {M : Type 1} → statement M
 ask-spec =
