@@ -21,6 +21,7 @@ use Rattle.parts.specs.declared.event.Event.{Event}
 use Rattle.drive.specs.declared.answer.Answer.{Answer}
 use Rattle.drive.specs.declared.answer.Outcome.{Outcome}
 use Rattle.drive.specs.declared.power.Powered.the-variants.{Up, Refused}
+use Rattle.drive.proofs.Step.{as-promised, powered-as-promised}
 use Rattle.drive.proofs.StruckOut.{struck-out}
 use Rattle.drive.proofs.Demand3.{demand-3}
 
@@ -43,11 +44,11 @@ ran (call {d} {sectors} {staging} {e} {r} {sectors′} {staging′} {events} {to
 run : (m : Machine) (events : List Event) → Calls m events (answers m events) (final m events)
 unfolding answers final answerTo after
 run m [] = none
-run m (e ∷ events) = call (record { answer = refl; drive = refl; sectors = refl; staging = refl }) (run (after m e) events)
+run m (e ∷ events) = call (as-promised refl) (run (after m e) events)
 
 powered : (s : Setup) (sectors staging : List ℕ) → withinLimits s ≡ true → row10 s sectors staging ≡ false → PoweredUp s sectors staging (Up (atRest s))
 unfolding poweredUp
-powered s sectors staging h r = record { answer = rw (Rows.none-given (powerUpRows s sectors staging) (rw h, (r, tt))) }
+powered s sectors staging h r = powered-as-promised (rw (Rows.none-given (powerUpRows s sectors staging) (rw h, (r, tt))))
 
 -- what a power-up that handed back a drive has passed
 record AtRest (s : Setup) (sectors staging : List ℕ) (d : Drive) : Type 0 where

@@ -8,11 +8,12 @@ use Rattle.laws.proofs.Only.{answer-only}
 use Rattle.parts.specs.declared.setup.Setup.{Setup}
 use Rattle.parts.specs.declared.setup.Place.{Place}
 use Rattle.parts.specs.declared.event.Event.{Event}
-use Rattle.drive.specs.Answer.{Paper, paper}
+use Rattle.drive.specs.Answer.{Paper, paper, Says}
 use Rattle.drive.specs.Event.{Handled}
-use Rattle.drive.specs.Power.{PoweredUp}
+use Rattle.drive.specs.Power.{PowerUpPaper, powerUpPaper, PoweredUp}
 use Rattle.drive.specs.declared.drive.Drive.{Drive}
 use Rattle.drive.specs.declared.power.Powered.{Powered}
+use Rattle.drive.specs.declared.power.Powered.the-variants as powered
 use Rattle.drive.specs.declared.answer.Outcome.{Outcome}
 use Rattle.drive.specs.declared.answer.Answer.{Answer}
 use Rattle.drive.specs.declared.answer.Answer.the-variants.{Refused, Done, Status, Opened, Word, LastWord, Response}
@@ -60,3 +61,29 @@ read-back (Response a b c) = refl
 
 pub paper-tells-apart : (a b : Answer) → paper a ≡ paper b → a ≡ b
 paper-tells-apart a b e = sym (read-back a) ∙ ap (λ (p : Paper). back (p .refusal) p) e ∙ read-back b
+
+-- so that the paper's parts alone leave no second answer
+pub says-only : {a b : Answer} {given : Paper} → Says a given → Says b given → a ≡ b
+says-only {a} {b} h k =
+    paper-tells-apart a b (λ i. record {
+      refusal = answer-only (h .refusal) (k .refusal) i;
+      status = answer-only (h .status) (k .status) i;
+      wordCount = answer-only (h .wordCount) (k .wordCount) i;
+      place = answer-only (h .place) (k .place) i;
+      word = answer-only (h .word) (k .word) i;
+      response = answer-only (h .response) (k .response) i;
+    })
+
+-- and that of power-up leaves none
+powered-back : Option ℕ → Option Drive → Powered → Powered
+powered-back (some n) d other = powered.Refused n
+powered-back none (some d) other = powered.Up d
+powered-back none none other = other
+
+power-read-back : (a other : Powered) → powered-back (powerUpPaper a .refusal) (powerUpPaper a .drive) other ≡ a
+unfolding powerUpPaper powered-back
+power-read-back (powered.Up d) other = refl
+power-read-back (powered.Refused n) other = refl
+
+pub power-up-paper-tells-apart : (a b : Powered) → powerUpPaper a ≡ powerUpPaper b → a ≡ b
+power-up-paper-tells-apart a b e = sym (power-read-back a a) ∙ ap (λ (p : PowerUpPaper). powered-back (p .refusal) (p .drive) a) e ∙ power-read-back b a

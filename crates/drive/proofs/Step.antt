@@ -7,14 +7,19 @@ use mathlib.Core.List.{List}
 use Rattle.laws.specs.Pick.{pick}
 use Rattle.laws.specs.Rows.{first, unlessRefused}
 use Rattle.parts.specs.Kind.{Kind, Unknown, kindOf}
+use Rattle.parts.specs.declared.setup.Setup.{Setup}
+use Rattle.drive.specs.Answer.{paper, Says}
 use Rattle.drive.specs.State.{told, Result, result}
 use Rattle.drive.specs.Refusal.{row1, row10, row11, ownRows, refusalOf}
 use Rattle.drive.specs.Event.{act, refusedWith, handled, Handled}
+use Rattle.drive.specs.Power.{poweredUp, powerUpPaper, PoweredUp}
 use Rattle.drive.specs.Able.{Passable, unlessOwnRow, unlessOwnRowIn}
 use Rattle.drive.specs.declared.drive.Drive.{Drive}
 use Rattle.parts.specs.declared.event.Event.{Event}
+use Rattle.drive.specs.declared.answer.Answer.{Answer}
 use Rattle.drive.specs.declared.answer.Outcome.{Outcome}
 use Rattle.drive.specs.declared.answer.Answer.the-variants.{Refused}
+use Rattle.drive.specs.declared.power.Powered.{Powered}
 
 -- rows 11, 10 and 1 do not hold: the kind's own rows decide
 pub handled-by-kind : (d : Drive) (e : Event) (sectors staging : List ℕ) (k : Kind) → Passable d sectors staging → row1 e ≡ false → kindOf (e .kind) ≡ k
@@ -55,13 +60,30 @@ pub refused-with-8 : (d : Drive) (e : Event) (sectors staging : List ℕ) → Pa
 unfolding unlessOwnRowIn pick
 refused-with-8 d e sectors staging p h z = handled-by-kind d e sectors staging Unknown p h z
 
+-- equal answers say the same in the paper's words
+pub says-as : {a b : Answer} → a ≡ b → Says a (paper b)
+says-as p =
+    record {
+      refusal = ap (λ (x : Answer). paper x .refusal) p;
+      status = ap (λ (x : Answer). paper x .status) p;
+      wordCount = ap (λ (x : Answer). paper x .wordCount) p;
+      place = ap (λ (x : Answer). paper x .place) p;
+      word = ap (λ (x : Answer). paper x .word) p;
+      response = ap (λ (x : Answer). paper x .response) p;
+    }
+
 -- the whole rule, as the promise has it
 pub as-promised : {d : Drive} {e : Event} {sectors staging : List ℕ} {r : Outcome} {sectors′ staging′ : List ℕ}
     → result r sectors′ staging′ ≡ handled d e sectors staging → Handled d e sectors staging r sectors′ staging′
 as-promised p =
     record {
       answer = ap (λ (x : Result). x .outcome .answer) p;
+      says = says-as (ap (λ (x : Result). x .outcome .answer) p);
       drive = ap (λ (x : Result). x .outcome .drive) p;
       sectors = ap (λ (x : Result). x .sectors) p;
       staging = ap (λ (x : Result). x .staging) p;
     }
+
+-- and that of power-up
+pub powered-as-promised : {s : Setup} {sectors staging : List ℕ} {r : Powered} → r ≡ poweredUp s sectors staging → PoweredUp s sectors staging r
+powered-as-promised p = record { answer = p; refusal = ap (λ (x : Powered). powerUpPaper x .refusal) p; drive = ap (λ (x : Powered). powerUpPaper x .drive) p }

@@ -3,7 +3,7 @@ use Prim.Native.Nat.{ℕ}
 use mathlib.Core.Path.{_≡_}
 use mathlib.Core.List.{List}
 use Rattle.laws.specs.Rows.{unlessRefused}
-use Rattle.drive.specs.Answer.{normal}
+use Rattle.drive.specs.Answer.{normal, paper, Says}
 use Rattle.drive.specs.State.{told, Result, result}
 use Rattle.parts.specs.Kind.{Kind, Select, Deselect, Use, Reset, Unknown, DataControl, WordFromHost, TakeWord, End, Position, Target, ReadStatus, kindOf, wordOf, placeOf}
 use Rattle.drive.specs.Refusal.{refusalOf}
@@ -39,9 +39,10 @@ handled d e sectors staging =
     let n = refusalOf k d e sectors staging in
     unlessRefused n (refusedWith n d sectors staging) (act k d e sectors staging)
 
--- The promise of `handle` of `events`: the answer, the drive, all sector words and all staging words.
+-- The promise of `handle` of `events`: the answer, also in the paper's words, the drive, all sector words and all staging words.
 pub record Handled (d : Drive) (e : Event) (sectors₀ staging₀ : List ℕ) (r : Outcome) (sectors₁ staging₁ : List ℕ) : Type 0 where
   pub answer : r .answer ≡ (handled d e sectors₀ staging₀) .outcome .answer
+  pub says : Says (r .answer) (paper ((handled d e sectors₀ staging₀) .outcome .answer))
   pub drive : r .drive ≡ (handled d e sectors₀ staging₀) .outcome .drive
   pub sectors : sectors₁ ≡ (handled d e sectors₀ staging₀) .sectors
   pub staging : staging₁ ≡ (handled d e sectors₀ staging₀) .staging

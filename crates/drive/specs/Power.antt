@@ -3,6 +3,7 @@ use Prim.Native.Nat.{ℕ}
 use mathlib.Core.Path.{_≡_}
 use mathlib.Core.Bool.{not}
 use mathlib.Core.List.{List, [], _∷_}
+use mathlib.Core.Option.{Option, some, none}
 use Rattle.laws.specs.Rows.{Row, first, _when_, unlessRefused}
 use Rattle.parts.specs.Setup.{withinLimits, noTarget}
 use Rattle.parts.specs.Holding.{free}
@@ -40,9 +41,21 @@ abbrev pub setupOf : ℕ → ℕ → ℕ → ℕ → ℕ → ℕ → ℕ → Set
 setupOf cylinders heads sectors header field1 field2 address =
     record { cylinders = cylinders; heads = heads; sectors = sectors; header = header; field1 = field1; field2 = field2; address = address }
 
--- The promise of `power_up`. Both slices are lent for reading only.
+-- Power-up in the paper's words: the number of a refusal, and the drive, each there or not.
+pub record PowerUpPaper : Type 0 where
+  pub refusal : Option ℕ
+  pub drive : Option Drive
+
+-- "A refusal reports its number and nothing else", "a refused power-up hands back no drive."
+unfoldable pub powerUpPaper : Powered → PowerUpPaper
+powerUpPaper (Up d) = record { refusal = none; drive = some d }
+powerUpPaper (Refused n) = record { refusal = some n; drive = none }
+
+-- The promise of `power_up`: the answer, also in the paper's words. Both slices are lent for reading only.
 pub record PoweredUp (s : Setup) (sectors staging : List ℕ) (r : Powered) : Type 0 where
   pub answer : r ≡ poweredUp s sectors staging
+  pub refusal : powerUpPaper r .refusal ≡ powerUpPaper (poweredUp s sectors staging) .refusal
+  pub drive : powerUpPaper r .drive ≡ powerUpPaper (poweredUp s sectors staging) .drive
 
 -- The number of a refused power-up, 0 for the others.
 abbrev pub refusalIn : Powered → ℕ

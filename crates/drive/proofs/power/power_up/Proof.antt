@@ -8,6 +8,7 @@ use borrow.Author.Needs.{needs}
 use borrow.Author.Tests.{not-false, not-true}
 use Rattle.drive.specs.declared.power.Powered.the-variants.{Up}
 use mathlib.Core.Path.{ap, _∙_, sym}
+use Rattle.drive.proofs.Step.{powered-as-promised}
 use Rattle.drive.proofs.power.power_up.Statement.{statement}
 use Rattle.drive.proofs.power.power_up.Tie as tie
 
@@ -16,7 +17,7 @@ within-limits-requires c κs = search needs
 
 returns : tie.Need-returns
 unfolding poweredUp pick
-returns c = let e = sym (c .before .within-limits .ensures) ∙ not-true _ (c .if1 .taken) in record { answer = rw e }
+returns c = let e = sym (c .before .within-limits .ensures) ∙ not-true _ (c .if1 .taken) in powered-as-promised (rw e)
 
 lacks-room-requires : tie.Need-lacks-room-requires
 lacks-room-requires c κs = search needs
@@ -26,7 +27,7 @@ unfolding poweredUp pick row10 lacksRoom
 returns-2 c =
     let e = sym (c .before .before .before .within-limits .ensures) ∙ not-false _ (c .before .before .if1 .left) in
     let f = sym (rw e at (c .before .lacks-room .ensures)) ∙ c .if2 .taken in
-    record { answer = rw (e, f) }
+    powered-as-promised (rw (e, f))
 
 at-rest-requires : tie.Need-at-rest-requires
 at-rest-requires c κs = search needs
@@ -36,7 +37,7 @@ unfolding poweredUp pick row10 lacksRoom
 returns-3 c =
     let e = sym (c .before .before .before .before .within-limits .ensures) ∙ not-false _ (c .before .before .before .if1 .left) in
     let f = sym (rw e at (c .before .before .lacks-room .ensures)) ∙ c .before .if2 .left in
-    record { answer = rw (e, f) (ap Up (c .at-rest .ensures)) }
+    powered-as-promised (rw (e, f) (ap Up (c .at-rest .ensures)))
 
 pub power-up-spec : {M : Type 1} → statement M
 power-up-spec =
