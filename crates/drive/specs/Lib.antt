@@ -28,3 +28,4 @@ pub mod Demand3
 pub mod Calls
 pub mod Demand3Examples
 pub mod NeverDead
+pub mod WrongAnswers
