@@ -30,3 +30,4 @@ pub mod Demand3Examples
 pub mod NeverDead
 pub mod Computing
 pub mod WrongAnswers
+pub mod WrongRuns

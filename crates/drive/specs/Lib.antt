@@ -29,3 +29,4 @@ pub mod Calls
 pub mod Demand3Examples
 pub mod NeverDead
 pub mod WrongAnswers
+pub mod WrongRuns
