@@ -23,6 +23,7 @@ use Rattle.drive.specs.Bounded.{statuses, Bounded}
 use Rattle.drive.specs.declared.drive.Drive.{Drive}
 use Rattle.drive.specs.declared.answer.Answer.{Answer}
 use Rattle.drive.specs.declared.answer.Answer.the-variants.{Refused, Done, Status, Opened, Word, LastWord, Response}
+use Rattle.drive.proofs.Step.{says-as}
 use Rattle.drive.proofs.Posted.{OnBoth}
 use Rattle.drive.proofs.Sound.{sound}
 use Rattle.drive.proofs.Turns.{thirteen}
@@ -108,9 +109,11 @@ pub handled-by : (d : Drive) {e : Event} {sectors staging words answer : List �
 unfolding answerTo after
 handled-by d {e} {sectors} {staging} {words} {r = r} long room same octets call read back =
     let left = as-after long room call in
+    let answer = read ∙ told-again r long room octets call in
     rw (← same)
     (record {
-      answer = read ∙ told-again r long room octets call;
+      answer = answer;
+      says = says-as answer;
       drive = back ∙ ap driveIn (left .0) ∙ goes words sectors staging e long .drive;
       sectors = left .1;
       staging = left .2;

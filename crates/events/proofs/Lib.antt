@@ -18,3 +18,5 @@ pub mod ToldWords
 pub mod Only
 pub mod Exactly
 pub mod ByValue
+pub mod Computing
+pub mod WrongAnswers

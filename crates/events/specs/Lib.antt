@@ -6,3 +6,4 @@ pub mod Unsound
 pub mod Fit
 pub mod Turn
 pub mod Exactly
+pub mod WrongAnswers

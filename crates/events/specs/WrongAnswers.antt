@@ -1,0 +1,115 @@
+-- Wrong answers of the public calls: what a careless programmer would get, and no promise allows.
+use Prim.Native.Nat.{ℕ, _*_}
+use mathlib.Core.List.{List, [], _∷_, _++_}
+use lib.ListN.{replicate, take, set}
+use Rattle.parts.specs.Pending.{alternatePortPrioritySelect, pendingOf, nothingPending}
+use Rattle.parts.specs.Tests.{transferring}
+use Rattle.parts.specs.declared.setup.Setup.{Setup}
+use Rattle.parts.specs.declared.event.Event.{Event}
+use Rattle.parts.specs.declared.holding.Hold.the-variants.{None, Strong}
+use Rattle.drive.specs.State.{atPlace, withPlace, withTransfer, withPending, told}
+use Rattle.drive.specs.Power.{atRest, setupOf}
+use Rattle.drive.specs.Event.{Handled}
+use Rattle.drive.specs.AnswerWords.{answerWords}
+use Rattle.drive.specs.Cases.{bench}
+use Rattle.drive.specs.NeverDead.{sent, wordSent}
+use Rattle.drive.specs.WrongAnswers.{selectedBy}
+use Rattle.drive.specs.declared.drive.Drive.{Drive}
+use Rattle.drive.specs.declared.answer.Answer.{Answer}
+use Rattle.drive.specs.declared.answer.Answer.the-variants.{Refused, Done, Status, Word}
+use Rattle.events.specs.State.{stateWords}
+use Rattle.events.specs.Power.{PoweredUpOnWords}
+use Rattle.events.specs.Event.{EventOnWords}
+use Rattle.events.specs.Run.{RunOnWords}
+
+-- A sector's words: header, field 1 and field 2 of the bench drive.
+abbrev pub sector : ℕ → ℕ → ℕ → ℕ → List ℕ
+sector header first second field2 = header ∷ first ∷ second ∷ field2 ∷ []
+
+abbrev pub zeros : List ℕ
+zeros = sector 0 0 0 0
+
+-- All its sector words: these in the first sector, zeros elsewhere.
+abbrev pub disk : List ℕ → List ℕ
+disk first = first ++ replicate 44 0
+
+-- The record of a selection with octet 30.
+abbrev pub selection : ℕ → List ℕ
+selection port = 0 ∷ 0 ∷ port ∷ 1 ∷ 0x30 ∷ 0 ∷ 0 ∷ 0 ∷ []
+
+-- Port 0 is selected, and so many words of a transfer have passed.
+abbrev moving : ℕ → ℕ → Drive
+moving control moved = withTransfer (selectedBy 0 None) (transferring control moved)
+
+-- A transfer is over, at the next sector.
+abbrev over : Drive
+over = withPlace (selectedBy 0 None) (atPlace 0 0 1)
+
+-- The drive, the event, the first sector and the staging; the answer, and what is left of them.
+abbrev Handles : Drive → Event → List ℕ → List ℕ → Answer → Drive → List ℕ → List ℕ → Type 0
+Handles d e first staging answer d′ first′ staging′ = Handled d e (disk first) staging (told answer d′) (disk first′) staging′
+
+-- A drive with no heads: power-up refuses it with 9.
+abbrev headless : Setup
+headless = setupOf 2 0 3 1 2 1 3
+
+-- The set-up and the state's words; the number, and the state's words after it.
+abbrev PowersUp : Setup → List ℕ → ℕ → List ℕ → Type 0
+PowersUp s state r state′ = PoweredUpOnWords s (disk zeros) zeros state r state′
+
+-- The state's words and the event; the number, and the state's and the answer's words after it.
+abbrev Answers : List ℕ → Event → ℕ → List ℕ → List ℕ → Type 0
+Answers state e r state′ answer = EventOnWords state e (disk zeros) zeros (replicate 13 0) r state′ (disk zeros) zeros answer
+
+-- The records, and room for so many answers; the number, and the state's and the answers' words after a run from rest.
+abbrev Runs : List ℕ → ℕ → ℕ → List ℕ → List ℕ → Type 0
+Runs records count r state out = RunOnWords (stateWords (atRest bench)) records (disk zeros) zeros (replicate (13 * count) 0) r state (disk zeros) zeros out
+
+pub record WrongAnswers : Type 0 where
+  -- ---- `handle`
+  -- A drive that refuses all: here the selection of a free one.
+  pub refusesAll : Handles (atRest bench) (sent 0 1 0x30 0) zeros zeros (Refused 6) (atRest bench) zeros zeros → ⊥
+  -- A drive that does nothing: it grants the selection, and nobody is selected.
+  pub doesNothing : Handles (atRest bench) (sent 0 1 0x30 0) zeros zeros Done (atRest bench) zeros zeros → ⊥
+  -- 0 for the reserved control D0.
+  pub zeroForABadRequest : Handles (selectedBy 0 None) (sent 0 3 0xD0 0) zeros zeros (Status 0) (selectedBy 0 None) zeros zeros → ⊥
+  -- A header that differs goes through.
+  pub headerNotCompared : Handles (moving 0x85 0) (wordSent 0 8) (sector 7 0 0 0) zeros Done (moving 0x85 1) (sector 7 0 0 0) (sector 8 0 0 0) → ⊥
+  -- A word is written as it arrives.
+  pub writtenAsItArrives : Handles (moving 0x85 1) (wordSent 0 0xAA) (sector 7 0 0 0) (sector 7 0 0 0)
+      Done (moving 0x85 2) (sector 7 0xAA 0 0) (sector 7 0xAA 0 0) → ⊥
+  -- Field 1 is put where the sector begins.
+  pub fieldOverTheHeader : Handles (moving 0x85 2) (wordSent 0 0xBB) (sector 7 0 0 0) (sector 7 0xAA 0 0)
+      (Status 0) over (sector 0xAA 0xBB 0 0) (sector 7 0xAA 0xBB 0) → ⊥
+  -- Field 2 is put where field 1 stands.
+  pub fieldTwoOverFieldOne : Handles (moving 0x86 1) (wordSent 0 0xCC) (sector 7 0 0 0) (sector 7 0 0 0)
+      (Status 0) over (sector 7 0xCC 0 0) (sector 7 0xCC 0 0) → ⊥
+  -- A read of field 1 begins with the header's word.
+  pub readAFieldTooEarly : Handles (moving 0xC1 0) (sent 0 5 0 0) (sector 7 1 2 3) zeros (Word 7) (moving 0xC1 1) (sector 7 1 2 3) zeros → ⊥
+  -- ---- `power_up_words`
+  -- Address and field 2 changed over.
+  pub addressForFieldTwo : PowersUp bench (replicate 18 0) 0 (stateWords (atRest (setupOf 2 2 3 1 2 3 1))) → ⊥
+  -- A state of 17 words is taken.
+  pub stateOf17Taken : PowersUp bench (replicate 17 0) 0 (take 17 (stateWords (atRest bench))) → ⊥
+  -- 9, and the state is written all the same.
+  pub refusedYetWritten : PowersUp headless (replicate 18 0) 9 (stateWords (atRest headless)) → ⊥
+  -- ---- `answer_event`
+  -- A takeover's notice is written as that of the port that took over.
+  pub noticeToTheWinner : Answers (stateWords (selectedBy 0 None)) (sent 1 1 0x31 0)
+      0 (stateWords (withPending (selectedBy 1 None) nothingPending (pendingOf alternatePortPrioritySelect 0))) (answerWords Done) → ⊥
+  -- A state of 13 words is taken.
+  pub stateOf13Taken : Answers (take 13 (stateWords (atRest bench))) (sent 0 1 0x30 0) 0 (take 13 (stateWords (selectedBy 0 None))) (answerWords Done) → ⊥
+  -- Answer words are written for a refused event.
+  pub refusalAnswered : Answers (stateWords (atRest bench)) (sent 0 1 0x40 0) 4 (stateWords (atRest bench)) (answerWords (Refused 4)) → ⊥
+  -- A hold of 3 is taken for a strong one: the other port is told 6.
+  pub holdOf3Taken : Answers (set (stateWords (selectedBy 0 Strong)) 9 3) (sent 1 1 0x33 0) 6 (set (stateWords (selectedBy 0 Strong)) 9 3) (replicate 13 0) → ⊥
+  -- ---- `run_records`
+  -- 10 for records that are not whole.
+  pub tenForTornRecords : Runs (replicate 7 0) 0 10 (stateWords (atRest bench)) [] → ⊥
+  -- 8 for no record at all.
+  pub eightForNoRecord : Runs [] 0 8 (stateWords (atRest bench)) [] → ⊥
+  -- A record is left out.
+  pub recordLeftOut : Runs (selection 0) 1 0 (stateWords (atRest bench)) (answerWords Done) → ⊥
+  -- Answers twelve words apart.
+  pub answersTwelveApart : Runs (selection 0 ++ selection 1) 2
+      0 (stateWords (selectedBy 0 None)) (take 12 (answerWords Done) ++ answerWords (Refused 6) ++ (0 ∷ [])) → ⊥
