@@ -6,3 +6,4 @@ pub mod OneStatus
 pub mod Captures
 pub mod Only
 pub mod Exactly
+pub mod WrongAnswers

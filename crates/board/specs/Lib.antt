@@ -4,3 +4,4 @@ pub mod Exactly
 pub mod Demand3
 pub mod OneStatus
 pub mod Capture
+pub mod WrongAnswers
