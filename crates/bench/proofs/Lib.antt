@@ -8,3 +8,4 @@ pub mod Fits
 pub mod Cases
 pub mod Only
 pub mod Exactly
+pub mod WrongAnswers

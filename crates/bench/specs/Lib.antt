@@ -3,3 +3,4 @@ pub mod Line
 pub mod Run
 pub mod Report
 pub mod Cases
+pub mod WrongAnswers
