@@ -2,7 +2,7 @@
 -- Assumes nothing.
 use mathlib.Core.Path.{refl, ap}
 use lib.ListN.{getD}
-use Rattle.laws.proofs.Differ.{differ}
+use Rattle.laws.proofs.Differ.{told-apart}
 use Rattle.capture.specs.Capture.{recordsOf}
 use Rattle.drive.proofs.Computing.{computing}
 use Rattle.bench.specs.Text.{decimalWithin, decimal, numberedLine, hexDigit}
@@ -15,8 +15,8 @@ pub wrong-answers : WrongAnswers
 unfolding computing recordsOf decimalWithin decimal numberedLine hexDigit lineOf ownerLine linesFrom linesOfRun runReport captureReport reportOf
 wrong-answers =
     record {
-      statusOfARefusedEvent = λ h. differ 0x30 0x2D refl (ap (λ text. getD text 24 0) (h .slice));
-      firstEventLeftOut = λ h. differ 0x32 0x33 refl (ap (λ text. getD text 7 0) (h .slice));
-      selectedPortForTheOwner = λ h. differ 0x6E 0x30 refl (ap (λ text. getD text 33 0) (h .slice));
-      cutOff = λ h. differ 0 10 refl (ap refusalIn (h .answer));
+      statusOfARefusedEvent = λ h. told-apart 0x30 0x2D refl (ap (λ text. getD text 24 0) (h .slice));
+      firstEventLeftOut = λ h. told-apart 0x32 0x33 refl (ap (λ text. getD text 7 0) (h .slice));
+      selectedPortForTheOwner = λ h. told-apart 0x6E 0x30 refl (ap (λ text. getD text 33 0) (h .slice));
+      cutOff = λ h. told-apart 0 10 refl (ap refusalIn (h .answer));
     }

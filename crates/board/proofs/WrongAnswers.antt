@@ -2,7 +2,7 @@
 -- Assumes nothing.
 use mathlib.Core.Path.{refl, ap}
 use lib.ListN.{getD}
-use Rattle.laws.proofs.Differ.{differ}
+use Rattle.laws.proofs.Differ.{told-apart}
 use Rattle.lines.specs.Moves.{entryOf}
 use Rattle.lines.specs.Follower.{lacksHistory, remembers, movedBy, isReached, stepOf}
 use Rattle.events.proofs.Computing.{computing-words}
@@ -13,10 +13,10 @@ pub wrong-answers : WrongAnswers
 unfolding computing-words entryOf lacksHistory remembers movedBy isReached stepOf settingIn followerIn followerOctet lineNumber
 wrong-answers =
     record {
-      cylindersForHeads = λ h. differ 2 1 refl (ap (λ words. getD words 0 0) (h .state));
-      portForKind = λ h. differ 8 0 refl (h .refusal);
-      stagingForSectors = λ h. differ 10 0 refl (ap (λ words. getD words 0 0) (h .out));
-      drivesForControllers = λ h. differ 18 17 refl (h .answer);
-      bit7Taken = λ h. differ 17 11 refl (h .answer);
-      historyForgotten = λ h. differ 0x10 0x30 refl (ap (λ words. getD words 0 0) (h .follower));
+      cylindersForHeads = λ h. told-apart 2 1 refl (ap (λ words. getD words 0 0) (h .state));
+      portForKind = λ h. told-apart 8 0 refl (h .refusal);
+      stagingForSectors = λ h. told-apart 10 0 refl (ap (λ words. getD words 0 0) (h .out));
+      drivesForControllers = λ h. told-apart 18 17 refl (h .answer);
+      bit7Taken = λ h. told-apart 17 11 refl (h .answer);
+      historyForgotten = λ h. told-apart 0x10 0x30 refl (ap (λ words. getD words 0 0) (h .follower));
     }

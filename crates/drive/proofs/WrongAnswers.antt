@@ -2,7 +2,7 @@
 -- Assumes nothing.
 use Prim.Native.Nat.{ℕ}
 use mathlib.Core.Path.{refl, ap}
-use Rattle.laws.proofs.Differ.{differ}
+use Rattle.laws.proofs.Differ.{told-apart}
 use Rattle.drive.specs.Power.{refusalIn}
 use Rattle.drive.specs.WrongAnswers.{WrongAnswers}
 use Rattle.drive.specs.declared.drive.Drive.{Drive}
@@ -18,14 +18,14 @@ pub wrong-answers : WrongAnswers
 unfolding computing
 wrong-answers =
     record {
-      tenBeforeNine = λ h. differ 10 9 refl (ap refusalIn (h .answer));
-      lastWordLacking = λ h. differ 0 10 refl (ap refusalIn (h .answer));
-      notAtRest = λ h. differ 1 0 refl (ap sectorOf (h .answer));
-      takeoverKeepsTheTransfer = λ h. differ 2 0 refl (ap (λ (d : Drive). d .transfer .moved) h);
-      takeoverPostsReset = λ h. differ 0x80 0x40 refl (ap (λ (d : Drive). d .pending0 .octet1) h);
-      takeoverPostsNothing = λ h. differ 0 0x40 refl (ap (λ (d : Drive). d .pending0 .octet1) h);
-      staysSelected = λ h. differ 0 2 refl (ap (λ (d : Drive). d .holding .selected) h);
-      freesTheHeld = λ h. differ 2 0 refl (ap (λ (d : Drive). d .holding .owner) h);
-      resetKeepsTheTarget = λ h. differ 2 0xFFFF refl (ap (λ (d : Drive). d .target) h);
-      resetPostsNothing = λ h. differ 0 0x80 refl (ap (λ (d : Drive). d .pending0 .octet1) h);
+      tenBeforeNine = λ h. told-apart 10 9 refl (ap refusalIn (h .answer));
+      lastWordLacking = λ h. told-apart 0 10 refl (ap refusalIn (h .answer));
+      notAtRest = λ h. told-apart 1 0 refl (ap sectorOf (h .answer));
+      takeoverKeepsTheTransfer = λ h. told-apart 2 0 refl (ap (λ (d : Drive). d .transfer .moved) h);
+      takeoverPostsReset = λ h. told-apart 0x80 0x40 refl (ap (λ (d : Drive). d .pending0 .octet1) h);
+      takeoverPostsNothing = λ h. told-apart 0 0x40 refl (ap (λ (d : Drive). d .pending0 .octet1) h);
+      staysSelected = λ h. told-apart 0 2 refl (ap (λ (d : Drive). d .holding .selected) h);
+      freesTheHeld = λ h. told-apart 2 0 refl (ap (λ (d : Drive). d .holding .owner) h);
+      resetKeepsTheTarget = λ h. told-apart 2 0xFFFF refl (ap (λ (d : Drive). d .target) h);
+      resetPostsNothing = λ h. told-apart 0 0x80 refl (ap (λ (d : Drive). d .pending0 .octet1) h);
     }

@@ -11,7 +11,7 @@ use borrow.Author.Tests.{eq-eqb}
 use lib.Dec.{eqb}
 use lib.ListN.{getD}
 use Rattle.laws.specs.Pick.{pick}
-use Rattle.laws.proofs.Differ.{differ}
+use Rattle.laws.proofs.Differ.{told-apart}
 use Rattle.parts.specs.Holding.{nobody}
 use Rattle.parts.specs.Kind.{Kind, Select, Deselect, Use, Reset, Unknown, kindOf}
 use Rattle.parts.specs.declared.setup.Place.{Place}
@@ -152,24 +152,24 @@ wrong-runs =
       parts = λ h.
           (h .struck-out, h .whole-sessions, h .last-write, h .whole-writes, h .words-read, h .openings, h .cut-short, h .never-11-or-10);
       idle = idle;
-      refusesAll = λ calls. differ 6 0 refl (ap (refusalAt 0) (demand-3-of-calls .ran calls .answered ∙ never-dead .answered powerUp 0 _ _ possible));
-      alwaysZero = λ h. differ 8 0 refl (ap (statusAt 1) (h .sameAnswers));
-      doesNothing = λ h. differ 0 0xAA refl (h .word 1 (omega arith));
-      onlyTheFirstSector = λ h. differ 0 0xAA refl (h .word 5 (omega arith));
-      madeUpCount = λ h. differ 3 2 refl (ap orFFFF (h .1 .0 (atPlace 0 0 0) refl .count));
-      madeUpPlace = λ h. differ 1 0 refl (ap (λ (p : Place). p .sector) (h .1 .0 (atPlace 0 0 1) refl .follows));
-      writtenAsTheyArrive = λ h. differ 0xAA 0 refl (h .word 1 (omega arith));
-      endCommits = λ h. differ 0xAA 0 refl (h .word 1 (omega arith));
+      refusesAll = λ calls. told-apart 6 0 refl (ap (refusalAt 0) (demand-3-of-calls .ran calls .answered ∙ never-dead .answered powerUp 0 _ _ possible));
+      alwaysZero = λ h. told-apart 8 0 refl (ap (statusAt 1) (h .sameAnswers));
+      doesNothing = λ h. told-apart 0 0xAA refl (h .word 1 (omega arith));
+      onlyTheFirstSector = λ h. told-apart 0 0xAA refl (h .word 5 (omega arith));
+      madeUpCount = λ h. told-apart 3 2 refl (ap orFFFF (h .1 .0 (atPlace 0 0 0) refl .count));
+      madeUpPlace = λ h. told-apart 1 0 refl (ap (λ (p : Place). p .sector) (h .1 .0 (atPlace 0 0 1) refl .follows));
+      writtenAsTheyArrive = λ h. told-apart 0xAA 0 refl (h .word 1 (omega arith));
+      endCommits = λ h. told-apart 0xAA 0 refl (h .word 1 (omega arith));
       takeoverKeepsTheTransfer = λ h. false≢true (sessions-own h nobody);
-      takeoverHandsOn = λ h. differ 0xAA 0 refl (ap (λ sectors. getD sectors 1 0) (h (wordSent 1 0xBB ∷ []) refl));
-      miscompareCalledGood = λ h. differ 7 0xFFFF refl (ap (statusAt 2) (h .sameAnswers));
-      halfAGlyph = λ h. differ 2 3 refl (h .0 .words);
-      noticeCleared = λ h. differ 0xC 0xFFFF refl (ap (statusAt 4) (h .sameAnswers));
-      prioritySelectAlone = λ h. differ 6 0 refl (ap (refusalAt 2) (h .sameAnswers));
+      takeoverHandsOn = λ h. told-apart 0xAA 0 refl (ap (λ sectors. getD sectors 1 0) (h (wordSent 1 0xBB ∷ []) refl));
+      miscompareCalledGood = λ h. told-apart 7 0xFFFF refl (ap (statusAt 2) (h .sameAnswers));
+      halfAGlyph = λ h. told-apart 2 3 refl (h .0 .words);
+      noticeCleared = λ h. told-apart 0xC 0xFFFF refl (ap (statusAt 4) (h .sameAnswers));
+      prioritySelectAlone = λ h. told-apart 6 0 refl (ap (refusalAt 2) (h .sameAnswers));
       neverWritten = λ h.
           let taken = h .1 .1 .0 0xAA refl in
-          differ 0xAA 0 refl (taken .written ∙ ap (λ going. getD (powerUp .sectors) (addressIn going) 0) (sym (taken .going)));
+          told-apart 0xAA 0 refl (taken .written ∙ ap (λ going. getD (powerUp .sectors) (addressIn going) 0) (sym (taken .going)));
       strangerDeselects = λ h. false≢true (sessions-own h nobody);
-      refusalMoves = λ h. differ 0 1 refl (ap (λ (m : Machine). m .drive .place .sector) (h .sameEnd));
+      refusalMoves = λ h. told-apart 0 1 refl (ap (λ (m : Machine). m .drive .place .sector) (h .sameEnd));
       findsItselfUnsound = λ h. let over : 11 ≤ 8 = h .0 in omega arith;
     }

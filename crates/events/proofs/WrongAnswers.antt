@@ -2,7 +2,7 @@
 -- Assumes nothing.
 use mathlib.Core.Path.{refl, ap}
 use lib.ListN.{getD}
-use Rattle.laws.proofs.Differ.{differ}
+use Rattle.laws.proofs.Differ.{told-apart}
 use Rattle.drive.specs.Answer.{refusalIn}
 use Rattle.drive.specs.AnswerWords.{orFFFF}
 use Rattle.drive.specs.declared.drive.Drive.{Drive}
@@ -13,23 +13,23 @@ pub wrong-answers : WrongAnswers
 unfolding computing-words
 wrong-answers =
     record {
-      refusesAll = λ h. differ 6 0 refl (ap refusalIn (h .answer));
-      doesNothing = λ h. differ 2 0 refl (ap (λ (d : Drive). d .holding .selected) (h .drive));
-      zeroForABadRequest = λ h. differ 0 8 refl (ap orFFFF (h .says .status));
-      headerNotCompared = λ h. differ 0xFFFF 7 refl (ap orFFFF (h .says .status));
-      writtenAsItArrives = λ h. differ 0xAA 0 refl (ap (λ words. getD words 1 0) (h .sectors));
-      fieldOverTheHeader = λ h. differ 0xAA 7 refl (ap (λ words. getD words 0 0) (h .sectors));
-      fieldTwoOverFieldOne = λ h. differ 0xCC 0 refl (ap (λ words. getD words 1 0) (h .sectors));
-      readAFieldTooEarly = λ h. differ 7 1 refl (ap orFFFF (h .says .word));
-      addressForFieldTwo = λ h. differ 3 1 refl (ap (λ words. getD words 5 0) (h .state));
-      stateOf17Taken = λ h. differ 0 10 refl (h .answer);
-      refusedYetWritten = λ h. differ 2 0 refl (ap (λ words. getD words 0 0) (h .state));
-      noticeToTheWinner = λ h. differ 0 0x4000 refl (ap (λ words. getD words 16 0) (h .state));
-      stateOf13Taken = λ h. differ 0 10 refl (h .refusal);
-      refusalAnswered = λ h. differ 4 0 refl (ap (λ words. getD words 0 0) (h .answer));
-      holdOf3Taken = λ h. differ 6 11 refl (h .refusal);
-      tenForTornRecords = λ h. differ 10 8 refl (h .refusal);
-      eightForNoRecord = λ h. differ 8 0 refl (h .refusal);
-      recordLeftOut = λ h. differ 2 0 refl (ap (λ words. getD words 7 0) (h .state));
-      answersTwelveApart = λ h. differ 0xFFFF 6 refl (ap (λ words. getD words 13 0) (h .out));
+      refusesAll = λ h. told-apart 6 0 refl (ap refusalIn (h .answer));
+      doesNothing = λ h. told-apart 2 0 refl (ap (λ (d : Drive). d .holding .selected) (h .drive));
+      zeroForABadRequest = λ h. told-apart 0 8 refl (ap orFFFF (h .says .status));
+      headerNotCompared = λ h. told-apart 0xFFFF 7 refl (ap orFFFF (h .says .status));
+      writtenAsItArrives = λ h. told-apart 0xAA 0 refl (ap (λ words. getD words 1 0) (h .sectors));
+      fieldOverTheHeader = λ h. told-apart 0xAA 7 refl (ap (λ words. getD words 0 0) (h .sectors));
+      fieldTwoOverFieldOne = λ h. told-apart 0xCC 0 refl (ap (λ words. getD words 1 0) (h .sectors));
+      readAFieldTooEarly = λ h. told-apart 7 1 refl (ap orFFFF (h .says .word));
+      addressForFieldTwo = λ h. told-apart 3 1 refl (ap (λ words. getD words 5 0) (h .state));
+      stateOf17Taken = λ h. told-apart 0 10 refl (h .answer);
+      refusedYetWritten = λ h. told-apart 2 0 refl (ap (λ words. getD words 0 0) (h .state));
+      noticeToTheWinner = λ h. told-apart 0 0x4000 refl (ap (λ words. getD words 16 0) (h .state));
+      stateOf13Taken = λ h. told-apart 0 10 refl (h .refusal);
+      refusalAnswered = λ h. told-apart 4 0 refl (ap (λ words. getD words 0 0) (h .answer));
+      holdOf3Taken = λ h. told-apart 6 11 refl (h .refusal);
+      tenForTornRecords = λ h. told-apart 10 8 refl (h .refusal);
+      eightForNoRecord = λ h. told-apart 8 0 refl (h .refusal);
+      recordLeftOut = λ h. told-apart 2 0 refl (ap (λ words. getD words 7 0) (h .state));
+      answersTwelveApart = λ h. told-apart 0xFFFF 6 refl (ap (λ words. getD words 13 0) (h .out));
     }

@@ -12,6 +12,10 @@ use lib.ListN.{getD}
 pub differ : {a b : ℕ} → eqb a b ≡ false → a ≡ b → ⊥
 differ {a} {b} e h = true≢false (sym (eq-eqb a b h) ∙ e)
 
+-- the same with both numbers written down, the wrong one first
+pub told-apart : (wrong right : ℕ) → eqb wrong right ≡ false → wrong ≡ right → ⊥
+told-apart wrong right = differ
+
 pub differ-at : (i : ℕ) {xs ys : List ℕ} → eqb (getD xs i 0) (getD ys i 0) ≡ false → xs ≡ ys → ⊥
 differ-at i {xs} {ys} e h = differ e (ap (λ (list : List ℕ). getD list i 0) h)
 
