@@ -3,9 +3,9 @@
  *
  *     0007 00AA 00BB 00CC
  *
- * Build it at the project's root, after `rt staticlib board`, with
+ * Build it at the project's root, after `rt staticlib pantoglide`, with
  *
- *     gcc -std=c99 -Wall -Wextra -pedantic -I include c/example.c target/staticlib/libboard.a -o target/example
+ *     gcc -std=c99 -Wall -Wextra -pedantic -I include c/example.c target/staticlib/libpantoglide.a -o target/example
  */
 #include <inttypes.h>
 #include <stdio.h>

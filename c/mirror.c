@@ -5,9 +5,9 @@
  *
  *     5 writes mirrored, stores equal
  *
- * Build it at the project's root, after `rt staticlib board`, with
+ * Build it at the project's root, after `rt staticlib pantoglide`, with
  *
- *     gcc -std=c99 -Wall -Wextra -pedantic -I include c/mirror.c target/staticlib/libboard.a -o target/mirror
+ *     gcc -std=c99 -Wall -Wextra -pedantic -I include c/mirror.c target/staticlib/libpantoglide.a -o target/mirror
  */
 #include <inttypes.h>
 #include <stdio.h>

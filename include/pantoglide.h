@@ -1,6 +1,6 @@
 /* Pantoglide: the proved drive behind a C interface.
  *
- * The archive libboard.a, made by `rt staticlib board` at the project's root, holds the four calls
+ * The archive libpantoglide.a, made by `rt staticlib pantoglide` at the project's root, holds the four calls
  * below. None of them allocates, keeps anything between calls or asks the caller to have checked
  * anything: every input gets one of the answers named here, and all calls end.
  *
@@ -30,6 +30,11 @@
 #ifdef __cplusplus
 extern "C" {
 #endif
+
+/* The version of this header and of the archive it belongs to. The major number grows where a
+ * program that was written for the last one may need a change; CHANGELOG.md says which. */
+#define PG_VERSION_MAJOR 1
+#define PG_VERSION_MINOR 0
 
 /* The state of a drive: PG_STATE_WORDS words of 16 bits. Only pg_power_up, pg_event and pg_run
  * need to understand it; a caller may read it, keep it and copy it. */

@@ -1,8 +1,8 @@
-//! Links the archive of the proved drive, made by `rt staticlib board` at the project's root.
+//! Links the archive of the proved drive, made by `rt staticlib pantoglide` at the project's root.
 
 use std::{env, path::PathBuf};
 
-/// Names another folder that holds `libboard.a`.
+/// Names another folder that holds `libpantoglide.a`.
 const FOLDER_VARIABLE: &str = "PANTOGLIDE_ARCHIVE_DIR";
 
 fn main() {
@@ -12,14 +12,14 @@ fn main() {
         Some(folder) => PathBuf::from(folder),
         None => manifest.join("../target/staticlib"),
     };
-    let archive = folder.join("libboard.a");
+    let archive = folder.join("libpantoglide.a");
     println!("cargo:rerun-if-changed={}", archive.display());
     if !archive.is_file() {
         eprintln!("There is no archive {}.", archive.display());
-        eprintln!("Run `rt staticlib board` at the project's root first,");
+        eprintln!("Run `rt staticlib pantoglide` at the project's root first,");
         eprintln!("or name the folder that holds it in {FOLDER_VARIABLE}.");
         std::process::exit(1);
     }
     println!("cargo:rustc-link-search=native={}", folder.display());
-    println!("cargo:rustc-link-lib=static=board");
+    println!("cargo:rustc-link-lib=static=pantoglide");
 }

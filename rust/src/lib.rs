@@ -2,7 +2,7 @@
 //!
 //! [`Board`] is a drive over sector and staging words that the caller lends, [`Follower`] watches
 //! the control lines of one port. Both hand every request to the archive of proved code that the
-//! project's `rt staticlib board` makes; [`raw`] has its calls as they are, on slices of words.
+//! project's `rt staticlib pantoglide` makes; [`raw`] has its calls as they are, on slices of words.
 //! Nothing in this interface is unsafe, and no input makes a call panic.
 //!
 //! ```
