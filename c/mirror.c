@@ -7,7 +7,7 @@
  *
  * Build it at the project's root, after `rt staticlib pantoglide`, with
  *
- *     gcc -std=c99 -Wall -Wextra -pedantic -I include c/mirror.c target/staticlib/libpantoglide.a -o target/mirror
+ *     gcc -std=c99 -Wall -Wextra -pedantic -Werror -I include c/mirror.c target/staticlib/libpantoglide.a -o target/mirror
  */
 #include <inttypes.h>
 #include <stdio.h>
@@ -21,9 +21,14 @@ enum { SECTOR_WORDS = HEADER + FIELD_1 + FIELD_2, CUT_SHORT = SECTOR_WORDS - 1 }
 #define DRIVE_WORDS (CYLINDERS * HEADS * SECTORS * SECTOR_WORDS)
 #define LENGTH(array) (sizeof(array) / sizeof(array)[0])
 
-/* The octets that the hosts send to select and to open a write. */
-enum { SELECT = ADDRESS << 4, SELECT_WITH_PRIORITY = SELECT | 1 };
-enum { VERIFY_AND_WRITE = 0x87, WRITE = 0x8B, WRITE_AT_TARGET = 0x8F };
+/* The octets that the hosts send to select and to open a write of both fields. */
+enum {
+    SELECT = PG_SELECT_ADDRESS(ADDRESS),
+    SELECT_WITH_PRIORITY = SELECT | PG_SELECT_PRIORITY_SELECT,
+    VERIFY_AND_WRITE = PG_WRITE | PG_HEADER_VERIFY | PG_FIELD_1 | PG_FIELD_2,
+    WRITE = PG_WRITE | PG_HEADER_MOVE | PG_FIELD_1 | PG_FIELD_2,
+    WRITE_AT_TARGET = PG_WRITE | PG_AT_TARGET | PG_FIELD_1 | PG_FIELD_2
+};
 
 static uint16_t state[PG_STATE_WORDS], answer[PG_ANSWER_WORDS], staging[SECTOR_WORDS];
 static uint16_t sectors[DRIVE_WORDS], mirror[DRIVE_WORDS];

@@ -1,25 +1,44 @@
-/* Pantoglide: the proved drive behind a C interface.
+/* Pantoglide 1.0: the proved drive behind a C interface.
  *
- * The archive libpantoglide.a, made by `rt staticlib pantoglide` at the project's root, holds the four calls
- * below. None of them allocates, keeps anything between calls or asks the caller to have checked
- * anything: every input gets one of the answers named here, and all calls end.
+ * Two hosts share a drive, one on each of two IPI-2 ports, 0 and 1. The firmware hands each thing
+ * that a host does to pg_event, with the words of the drive; the call does what the drive would do
+ * and tells what to answer. This header is all that a caller needs to read. The rules are those of
+ * the paper that the project calls document 01, which takes them from three papers on IPI: 001 (a
+ * drive's manual), 003 (the physical level) and 004 (IPI-2). Octets are in hex.
  *
- * A slice is lent as a pointer and a length counted in elements. The pointer must lead to so many
- * elements (where the length is 0 it is never followed), and no two slices of one call may overlap
- * unless both are only read. Elements beyond those that a call needs are never changed.
  *
- * Two things are not proved, and the board has to see to them:
+ * WHAT IT NEEDS
  *
- * A commit copies word by word, so power lost inside a call can leave part of a write in the lent
- * words. One pg_event commits to one sector at most, so a board that must survive this calls
+ * The archive libpantoglide.a, made by `rt staticlib pantoglide` at the project's root. It is for
+ * x86-64 only, since the toolchain compiles archives for x86-64 Linux and nothing else today. It
+ * calls nothing, so it needs no C library and no operating system beside it. It allocates nothing
+ * and has no variables of its own: all it knows is in the slices that a call is lent.
+ *
+ * Every input gets one of the answers named here, nothing has to be checked beforehand, and all
+ * calls end.
+ *
+ *
+ * WHAT THE CALLER SEES TO
+ *
+ * Slices. A slice is lent as a pointer and a length counted in elements. The pointer must lead to
+ * so many elements (where the length is 0 it is never followed), and no two slices of one call may
+ * overlap unless both are only read. Elements beyond those that a call needs are never changed.
+ *
+ * Threads. Calls on one state must not overlap in time. So where each port has an interrupt of its
+ * own, the two take turns: neither makes a call before that of the other has returned. Calls on
+ * different states, each with slices of its own, may run at once.
+ *
+ * Power. A commit copies word by word, so power lost inside a call can leave part of a write in the
+ * lent words. One pg_event commits to one sector at most, so a board that must survive this calls
  * pg_event, not pg_run, and keeps the words of that sector back until the call has returned, as
  * c/mirror.c does.
  *
- * Calls on one state must not overlap in time. So where each port has an interrupt of its own, the
- * two take turns: neither makes a call before that of the other has returned.
+ * Saved states. A state may be kept, copied and handed back at any later time, with the sector and
+ * staging words of that time. Every call judges the state anew, whoever made it, and refuses with
+ * 11 one that is not sound. Whether the words are those that belong to it nobody can tell.
  *
- * The rules themselves, with the words "selected", "hold", "data control" and so on, are those of
- * the paper that the project calls document 01.
+ * Byte order. A word is a number of 16 bits. Which of its two octets comes first on a medium, or in
+ * a file that keeps the sectors, is the caller's. Events and captures have the high octet first.
  */
 #ifndef PANTOGLIDE_H
 #define PANTOGLIDE_H
@@ -36,8 +55,15 @@ extern "C" {
 #define PG_VERSION_MAJOR 1
 #define PG_VERSION_MINOR 0
 
-/* The state of a drive: PG_STATE_WORDS words of 16 bits. Only pg_power_up, pg_event and pg_run
- * need to understand it; a caller may read it, keep it and copy it. */
+/* ---- The drive ---------------------------------------------------------------------------- */
+
+/* A drive has cylinders, heads and sectors, each counted from 0. A sector's words are its header,
+ * field 1 and field 2, in that order; sectors follow one another by sector, then head, then
+ * cylinder. So the words of a sector begin, in the lent slice, at
+ *
+ *     ((cylinder * heads + head) * sectors + sector) * (header + field_1 + field_2)
+ *
+ * The state of a drive: PG_STATE_WORDS words of 16 bits. A caller may read it. */
 enum {
     PG_STATE_CYLINDERS = 0,   /* 1 to 4096 */
     PG_STATE_HEADS = 1,       /* 1 to 32 */
@@ -63,15 +89,124 @@ enum {
 #define PG_NOBODY 2
 #define PG_NO_TARGET 0xFFFF
 
+/* ---- What a host does ---------------------------------------------------------------------- */
+
+/* The kinds of events, with the argument octets each uses. The unused ones must be 0. */
+enum {
+    PG_SELECT = 1,          /* a0: the selection octet */
+    PG_DESELECT = 2,        /* none */
+    PG_DATA_CONTROL = 3,    /* a0: the data control octet */
+    PG_WORD_FROM_HOST = 4,  /* a0, a1: the word, high octet first */
+    PG_TAKE_WORD = 5,       /* none */
+    PG_END = 6,             /* none */
+    PG_POSITION = 7,        /* a0, a1: cylinder, high octet first; a2: head; a3: sector */
+    PG_TARGET = 8,          /* a0, a1: sector or PG_NO_TARGET, high octet first */
+    PG_READ_STATUS = 9,     /* none */
+    PG_RESET = 10           /* none */
+};
+
+/* The two octets of a word or a cylinder, as a0 and a1 take them. */
+#define PG_HIGH(word) ((uint8_t)((word) >> 8))
+#define PG_LOW(word) ((uint8_t)((word) & 0xFF))
+
+/* The selection octet (003, 7.4.1):
+ *
+ *     bit      7      6 5 4      3                2             1           0
+ *     means    is 0   address    change transfer  change octet  Priority    Priority
+ *                                mode: refused 5  mode: 5       Hold        Select
+ *
+ * The sum of PG_SELECT_ADDRESS(n), n from 0 to 7, and either, both or none of the two others.
+ *
+ * A granted selection sets the hold, whatever hold the same port had before:
+ *
+ *     Priority Hold   Priority Select   hold
+ *     no              no or yes         PG_HOLD_NONE: Deselect frees the drive
+ *     yes             no                PG_HOLD_PLAIN: the port still has the drive after Deselect
+ *     yes             yes               PG_HOLD_STRONG: the same
+ *
+ * A drive that is free, or that the asking port has, is granted. One that the other port has, be it
+ * selected or not, is granted only
+ *
+ *     if its hold is     to a selection with
+ *     PG_HOLD_NONE       Priority Select
+ *     PG_HOLD_PLAIN      Priority Hold and Priority Select
+ *     PG_HOLD_STRONG     nothing: it is refused with 6 until the hold is given up or a reset
+ *
+ * which is a takeover: the other port's selection, hold and open transfer are gone, and Alternate
+ * Port Priority Select goes pending on it. */
+#define PG_SELECT_PRIORITY_SELECT 0x01
+#define PG_SELECT_PRIORITY_HOLD 0x02
+#define PG_SELECT_ADDRESS(n) ((n) << 4)
+
 enum { PG_HOLD_NONE = 0, PG_HOLD_PLAIN = 1, PG_HOLD_STRONG = 2 };
 
-/* Bits of the pending words; no others are ever set. */
-#define PG_PENDING_RESET_COMPLETE 0x8000
-#define PG_PENDING_ALTERNATE_PORT_PRIORITY_SELECT 0x4000
-#define PG_PENDING_INVALID_CONTROL 0x0080
-#define PG_PENDING_OUTSIDE_DRIVE 0x0040
-#define PG_PENDING_UNSUPPORTED_CONTROL 0x0020
-#define PG_PENDING_TARGET_MISSING 0x0010
+/* The data control octet (001, table 3-6):
+ *
+ *     bit      7 6              5      4             3 2           1          0
+ *     means    10 write         is 0   no meaning,   the header,   field 2    field 1
+ *              11 read                 see below     see below     passes     passes
+ *
+ *     bits 3 2   on a write (80 and up)              on a read (C0 and up)
+ *     00         unsupported                         the header is skipped
+ *     01         the header is verified              the header is skipped
+ *     10         the header is written               the header is read
+ *     11         the same, at the target             the same, at the target
+ *
+ * So a control is the sum of PG_WRITE or PG_READ, of one of the PG_HEADER_ constants or
+ * PG_AT_TARGET, and of the fields that pass, which may be none. Bit 4 changes nothing, but for 90
+ * and D0 (001 steps the head with it; document 01 does not). All octets:
+ *
+ *     80 to 83, 91 to 93       unsupported: status 8, Unsupported Bus Control
+ *     84 to 8F, 94 to 9F       write
+ *     90                       PG_STEP_HEAD: the head becomes the next, 0 after the last
+ *     C0 to CF, D1 to DF       read
+ *     D0                       PG_CONTROL_RESERVED: status 8, Invalid Bus Control
+ *     00 to 7F, A0 to BF,      invalid: status 8, Invalid Bus Control
+ *     E0 to FF
+ *
+ * The answer that opens a transfer tells how many words will pass, and where. They pass in the
+ * order header, field 1, field 2. A verify's count includes the header's words: the host sends the
+ * header first, and behind it the fields. So of a sector with a header of 4, a field 1 of 256 and a
+ * field 2 of 0 words
+ *
+ *     PG_WRITE | PG_HEADER_VERIFY | PG_FIELD_1   85   260 words, 256 of them written
+ *     PG_WRITE | PG_HEADER_MOVE | PG_FIELD_1     89   260 words, all written
+ *     PG_READ | PG_FIELD_1                       C1   256 words
+ *     PG_READ | PG_HEADER_SKIP | PG_FIELD_1      C5   the same
+ *     PG_READ | PG_AT_TARGET                     CC   4 words, the header at the target
+ *     PG_READ | PG_FIELD_2                       C2   0 words: ends at once, with status 0 alone
+ *
+ * A write changes the sector at its last word, all at once and not before; until then its words are
+ * staged. A verified header that differs from the stored one ends the write at the header's last
+ * word, with status 7 and nothing written. PG_END ends a write or a read early, with status 0; the
+ * write has then written nothing. A takeover and a reset end it too, and nothing is written. */
+#define PG_WRITE 0x80
+#define PG_READ 0xC0
+#define PG_HEADER_VERIFY 0x04 /* writes: sent by the host and compared, not written */
+#define PG_HEADER_SKIP 0x04   /* reads: does not pass */
+#define PG_HEADER_MOVE 0x08   /* writes: written; reads: read */
+#define PG_AT_TARGET 0x0C     /* the same, in the target's sector */
+#define PG_FIELD_1 0x01
+#define PG_FIELD_2 0x02
+#define PG_STEP_HEAD 0x90
+#define PG_CONTROL_RESERVED 0xD0
+
+/* Where the position goes:
+ *
+ *     a transfer ends inside its session: at its      the next sector, 0 after the track's last;
+ *     last word, with status 7, by PG_END, or at      cylinder and head stay
+ *     once because no words are to come
+ *     a control "at target" with a target             first to the target's sector, at the opening
+ *     PG_STEP_HEAD                                    the next head, 0 after the last
+ *     PG_POSITION with a place inside the drive       there
+ *     a takeover, PG_SELECT, PG_DESELECT              stays, in the middle of a transfer too
+ *     PG_RESET                                        0/0/0
+ *     a refusal, status 8, status C                   stays
+ *
+ * The target is a sector of whatever track the position is on. It stays until PG_TARGET changes it
+ * or PG_RESET takes it away; using it does not. */
+
+/* ---- What the drive answers ----------------------------------------------------------------- */
 
 /* The answer to an event: PG_ANSWER_WORDS words of 16 bits. */
 enum {
@@ -90,10 +225,12 @@ enum {
 
 #define PG_ABSENT 0xFFFF
 
-/* Octets of a capture's record: tick (2, high first), port, kind, four argument octets. */
-#define PG_RECORD_OCTETS 8
-
-/* The drive status octets. The drive never sends busy: refusal 6 stands for it. */
+/* The drive status octets (004, 8.3.9). The drive never sends busy: refusal 6 stands for it.
+ *
+ * Kinds 3, 7 and 8 are answered with C, and do nothing, while a bit of response octet 1 is pending
+ * on their port; else with 8 if they ask what cannot be done, which sets a bit of octet 2. Kinds 1,
+ * 2 and 10, the opening of a transfer and a word before the last have no status. All else has 0,
+ * but for status 7 of a verify. */
 enum {
     PG_STATUS_NORMAL = 0x00,
     PG_STATUS_BUSY = 0x01,
@@ -102,22 +239,41 @@ enum {
     PG_STATUS_UNSOLICITED_EXCEPTION = 0x0C
 };
 
-/* The kinds of events, with the argument octets each uses. The unused ones must be 0. */
-enum {
-    PG_SELECT = 1,          /* a0: the selection octet */
-    PG_DESELECT = 2,        /* none */
-    PG_DATA_CONTROL = 3,    /* a0: the data control octet */
-    PG_WORD_FROM_HOST = 4,  /* a0, a1: the word, high octet first */
-    PG_TAKE_WORD = 5,       /* none */
-    PG_END = 6,             /* none */
-    PG_POSITION = 7,        /* a0, a1: cylinder, high octet first; a2: head; a3: sector */
-    PG_TARGET = 8,          /* a0, a1: sector or PG_NO_TARGET, high octet first */
-    PG_READ_STATUS = 9,     /* none */
-    PG_RESET = 10           /* none */
-};
+/* The status response (001, figure 3-3): 8 octets, of which octets 3 to 7 are 0. PG_READ_STATUS
+ * answers them and clears what was pending on its port. Nothing else clears that but PG_RESET,
+ * which leaves Reset Complete alone on both ports. Octet 0 follows from the others.
+ *
+ *     octet  bit   001's name                        set by
+ *     0      40    UNSOLICITED EXCEPTION             octet 1 is not 0
+ *     0      20    BUS CONTROL EXCEPTION             octet 2 is not 0
+ *     1      80    RESET COMPLETE                    a reset from either port
+ *     1      40    ALTERNATE PORT PRIORITY SELECT    the other port's takeover
+ *     2      80    INVALID BUS CONTROL               an invalid control, or the reserved one
+ *     2      40    INVALID PARAMETER                 a place or a target outside the drive
+ *     2      20    UNSUPPORTED BUS CONTROL           80 to 83 and 91 to 93
+ *     2      10    BUS CONTROL CONTEXT               "at target" while there is no target */
+#define PG_RESPONSE_0_UNSOLICITED_EXCEPTION 0x40
+#define PG_RESPONSE_0_BUS_CONTROL_EXCEPTION 0x20
+#define PG_RESPONSE_1_RESET_COMPLETE 0x80
+#define PG_RESPONSE_1_ALTERNATE_PORT_PRIORITY_SELECT 0x40
+#define PG_RESPONSE_2_INVALID_BUS_CONTROL 0x80
+#define PG_RESPONSE_2_INVALID_PARAMETER 0x40
+#define PG_RESPONSE_2_UNSUPPORTED_BUS_CONTROL 0x20
+#define PG_RESPONSE_2_BUS_CONTROL_CONTEXT 0x10
 
-/* The refusals. The calls of this header give 1 to 11; 12 to 14 belong to the decoding of whole
- * captures and are listed so that the numbers stand in one place. */
+/* Octet n, 0 to 7, of the response in an answer's words. */
+#define PG_RESPONSE_OCTET(answer, n) \
+    ((uint8_t)((answer)[PG_ANSWER_RESPONSE + (n) / 2] >> ((n) % 2 == 0 ? 8 : 0)))
+
+/* The same bits in the state's pending words, by our names; no others are ever set. */
+#define PG_PENDING_RESET_COMPLETE 0x8000                  /* octet 1, RESET COMPLETE */
+#define PG_PENDING_ALTERNATE_PORT_PRIORITY_SELECT 0x4000  /* octet 1, the same name */
+#define PG_PENDING_INVALID_CONTROL 0x0080                 /* octet 2, INVALID BUS CONTROL */
+#define PG_PENDING_OUTSIDE_DRIVE 0x0040                   /* octet 2, INVALID PARAMETER */
+#define PG_PENDING_UNSUPPORTED_CONTROL 0x0020             /* octet 2, UNSUPPORTED BUS CONTROL */
+#define PG_PENDING_TARGET_MISSING 0x0010                  /* octet 2, BUS CONTROL CONTEXT */
+
+/* The refusals. A refused call changes nothing. */
 enum {
     PG_ACCEPTED = 0,
     PG_REFUSED_NO_SUCH_PORT = 1,      /* The port is neither 0 nor 1. */
@@ -129,16 +285,30 @@ enum {
     PG_REFUSED_WRONG_MOMENT = 7,      /* Kind 4 with no write open, 5 with no read open, 6 with
                                          neither, or 2, 3, 7, 8 or 9 with one open. */
     PG_REFUSED_MALFORMED = 8,         /* The kind is not 1 to 10 or an unused argument octet is not
-                                         0; records are not whole; a setting is over 31. */
+                                         0; records are not whole, or too long for a capture; a
+                                         setting is over 31. */
     PG_REFUSED_OUTSIDE_LIMITS = 9,    /* Power-up: a number is outside its limits. */
     PG_REFUSED_TOO_SHORT = 10,        /* A lent slice is too short. */
-    PG_REFUSED_UNSOUND = 11,          /* The state handed in is none that a drive can be in by its
-                                         numbers, or none that a trace leads a follower to. */
-    PG_REFUSED_CAPTURE_TOO_SHORT = 12,    /* A capture has under 8 octets. */
-    PG_REFUSED_TRAILER_MARK = 13,         /* A capture's trailer mark is wrong. */
-    PG_REFUSED_TRAILER_DISTANCE = 14      /* A trailer's distance is no multiple of 8, or is more
-                                             than the capture's length less 8. */
+    PG_REFUSED_UNSOUND = 11,          /* The state handed in is not sound, see below, or is none
+                                         that a trace leads a follower to. */
+    PG_REFUSED_CAPTURE_TOO_SHORT = 12,  /* A capture has under 8 octets. */
+    PG_REFUSED_TRAILER_MARK = 13,       /* A capture's trailer mark is wrong. */
+    PG_REFUSED_TRAILER_DISTANCE = 14    /* A trailer's distance is no multiple of 8, or is more than
+                                           the capture's length less 8. */
 };
+
+/* A state is sound unless
+ *
+ *     a number is outside the limits named beside it;
+ *     the position or the target is outside the drive;
+ *     a port is selected that does not have the drive;
+ *     there is a hold or an open transfer and no port has the drive;
+ *     a port has the drive and is neither selected nor holding it;
+ *     a transfer is open with nobody selected, with a control that opens none, or with as many
+ *     words moved as it has, or more; words are moved and no transfer is open; or
+ *     a pending bit is set that has no name above. */
+
+/* ---- The calls of the drive ------------------------------------------------------------------ */
 
 /* Powers a drive up: nobody selected, no hold, position 0/0/0, no target, nothing open, nothing
  * pending. sector_words must hold every sector, that is cylinders * heads * sectors *
@@ -171,6 +341,9 @@ uint8_t pg_event(uint16_t *state, size_t state_length, uint8_t port, uint8_t kin
                  uint16_t *staging_words, size_t staging_length, uint16_t *answer,
                  size_t answer_length);
 
+/* A record: tick (2 octets, high first), port, kind, four argument octets. */
+#define PG_RECORD_OCTETS 8
+
 /* The records of a capture, one after another, without notes or trailer. Ticks are not looked at.
  *
  * Returns 10 if state has under PG_STATE_WORDS words, or answers under PG_ANSWER_WORDS words for
@@ -185,6 +358,37 @@ uint8_t pg_run(uint16_t *state, size_t state_length, const uint8_t *records, siz
                uint16_t *sector_words, size_t sector_length, uint16_t *staging_words,
                size_t staging_length, uint16_t *answers, size_t answers_length);
 
+/* ---- The lines of a port -------------------------------------------------------------------- */
+
+/* A setting is the sum of the lines that are up. SLAVE IN and SYNC IN are the drive's, the others
+ * the controller's. */
+#define PG_LINE_SELECT_OUT 16
+#define PG_LINE_SLAVE_IN 8
+#define PG_LINE_MASTER_OUT 4
+#define PG_LINE_SYNC_IN 2
+#define PG_LINE_SYNC_OUT 1
+
+/* The settings that have a name. 31 and 29 finish the handshake of one word.
+ *
+ * The listed moves are, of the controller's: 0 to 4, 4 to 0, 0 to 1, 1 to 0, 0 to 16, 16 to 0 if 16
+ * came from 0, 24 to 25, 27 to 26, 24 to 28 if 24 came from a 26 that came from 27, 30 to 31, 29 to
+ * 28, 30 to 26, 20 to 16 and 24 to 8. Of the drive's: 16 to 24, 25 to 27, 26 to 24, 28 to 20, 28 to
+ * 30, 31 to 29 and 8 to 0. */
+enum {
+    PG_SETTING_IDLE = 0,
+    PG_SETTING_MAINT = 1,
+    PG_SETTING_REQUEST = 4,
+    PG_SETTING_DESEL = 8,
+    PG_SETTING_SELECT = 16,
+    PG_SETTING_SLAVEND = 20,
+    PG_SETTING_SLAVACK = 24,
+    PG_SETTING_BUSCTL = 25,
+    PG_SETTING_MASTEND = 26,
+    PG_SETTING_BUSACK = 27,
+    PG_SETTING_XFRRDY = 28,
+    PG_SETTING_XFRST = 30
+};
+
 /* The follower of one port's control lines: one octet, 0 at the start. Bits 0 to 4 are the setting
  * of the lines; bit 5 is set where the history is there that a later move needs, at setting 16
  * (that came from 0), 26 (that came from 27) and 24 (that came from such a 26), and nowhere else;
@@ -192,13 +396,6 @@ uint8_t pg_run(uint16_t *state, size_t state_length, const uint8_t *records, siz
 #define PG_FOLLOWER_START 0x00
 #define PG_FOLLOWER_HISTORY 0x20
 #define PG_FOLLOWER_LOST 0x40
-
-/* A setting is the sum of the lines that are up. */
-#define PG_LINE_SELECT_OUT 16
-#define PG_LINE_SLAVE_IN 8
-#define PG_LINE_MASTER_OUT 4
-#define PG_LINE_SYNC_IN 2
-#define PG_LINE_SYNC_OUT 1
 
 /* What pg_line answers. */
 enum {
