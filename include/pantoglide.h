@@ -14,6 +14,15 @@
  * calls nothing, so it needs no C library and no operating system beside it. It allocates nothing
  * and has no variables of its own: all it knows is in the slices that a call is lent.
  *
+ * The most stack that a call takes, in octets, its return address included and its arguments not:
+ *
+ *     pg_power_up 24     pg_event 232     pg_run 168     pg_line 1032
+ *
+ * c/stack.c measured it: on a stack filled with a pattern, how deep each call writes, over every
+ * kind, status and refusal. Part of it lies below the stack pointer, in the 128 octets that the ABI
+ * of x86-64 grants a function there (the red zone), so code that interrupts a call on the same
+ * stack has to leave those alone.
+ *
  * Every input gets one of the answers named here, nothing has to be checked beforehand, and all
  * calls end.
  *

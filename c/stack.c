@@ -1,0 +1,263 @@
+/* Measures how much stack the calls of the archive take, in octets. Each call is made on a stack of
+ * its own that was filled with a pattern before; how deep the pattern was written over shows
+ * afterwards. What the caller itself takes, measured with a call that returns at once, is taken off,
+ * so that a figure is the return address, all that the call writes below it, and nothing else.
+ *
+ * The deepest of these counts: what hosts do and every refusal, one after another, and then octets
+ * at random, on a state that is now and then disturbed. It prints a line for each call.
+ *
+ * It is for Linux on x86-64. Build it at the project's root, after `rt staticlib pantoglide`, with
+ *
+ *     gcc -std=c99 -Wall -Wextra -pedantic -Werror -I include c/stack.c target/staticlib/libpantoglide.a -o target/stack
+ */
+#define _XOPEN_SOURCE 700
+#include <inttypes.h>
+#include <stdio.h>
+#include <stdlib.h>
+#include <string.h>
+#include <ucontext.h>
+
+#include "pantoglide.h"
+
+enum { CYLINDERS = 2, HEADS = 2, SECTORS = 3, HEADER = 1, FIELD_1 = 2, FIELD_2 = 1, ADDRESS = 3 };
+enum { SECTOR_WORDS = HEADER + FIELD_1 + FIELD_2, RETURN_ADDRESS = 8, RANDOM_CALLS = 20000 };
+#define DRIVE_WORDS (CYLINDERS * HEADS * SECTORS * SECTOR_WORDS)
+#define LENGTH(array) (sizeof(array) / sizeof(array)[0])
+
+/* Returns at once and writes nothing, whatever it is called with. */
+__asm__(".text\nnothing_power_up:\nnothing_event:\nnothing_run:\nnothing_line:\n"
+        "xorl %eax, %eax\nret\n");
+__typeof__(pg_power_up) nothing_power_up;
+__typeof__(pg_event) nothing_event;
+__typeof__(pg_run) nothing_run;
+__typeof__(pg_line) nothing_line;
+
+static uint16_t state[PG_STATE_WORDS], answer[PG_ANSWER_WORDS], staging[SECTOR_WORDS];
+static uint16_t sectors[DRIVE_WORDS];
+static uint8_t record[PG_RECORD_OCTETS], follower, setting;
+static size_t state_length, sector_length, answer_length, record_length, follower_length;
+
+static ucontext_t here, there;
+static uint8_t stack[16384];
+static int calls_nothing;
+static void (*callee)(void);
+
+static void power_up(void) {
+    __typeof__(pg_power_up) *call = calls_nothing ? nothing_power_up : pg_power_up;
+    call(CYLINDERS, HEADS, SECTORS, HEADER, FIELD_1, FIELD_2, record[4], sectors, sector_length,
+         staging, LENGTH(staging), state, state_length);
+}
+
+static void event(void) {
+    __typeof__(pg_event) *call = calls_nothing ? nothing_event : pg_event;
+    call(state, state_length, record[2], record[3], record[4], record[5], record[6], record[7],
+         sectors, sector_length, staging, LENGTH(staging), answer, answer_length);
+}
+
+static void run(void) {
+    __typeof__(pg_run) *call = calls_nothing ? nothing_run : pg_run;
+    call(state, state_length, record, record_length, sectors, sector_length, staging,
+         LENGTH(staging), answer, answer_length);
+}
+
+static void line(void) {
+    __typeof__(pg_line) *call = calls_nothing ? nothing_line : pg_line;
+    call(&follower, follower_length, setting);
+}
+
+/* Makes the caller's own part deeper than what the change of stacks writes. */
+static void enter(void) {
+    volatile uint8_t room[1024];
+
+    room[0] = 0;
+    callee();
+    room[0]++;
+}
+
+static size_t depth_over(uint8_t pattern) {
+    size_t untouched = 0;
+
+    memset(stack, pattern, sizeof stack);
+    getcontext(&there);
+    there.uc_stack.ss_sp = stack;
+    there.uc_stack.ss_size = sizeof stack;
+    there.uc_link = &here;
+    makecontext(&there, enter, 0);
+    swapcontext(&here, &there);
+    while (stack[untouched] == pattern) {
+        untouched++;
+    }
+    return sizeof stack - untouched;
+}
+
+/* Measured with two patterns, since an octet may be written over with the one that was there. The
+ * second call finds what the first one found. */
+static size_t depth_of(void (*wrapped)(void)) {
+    static struct { uint16_t state[PG_STATE_WORDS], sectors[DRIVE_WORDS]; uint8_t follower; } saved;
+    size_t nothing, first, second;
+
+    callee = wrapped;
+    calls_nothing = 1;
+    nothing = depth_over(0xA5);
+    calls_nothing = 0;
+    memcpy(saved.state, state, sizeof state);
+    memcpy(saved.sectors, sectors, sizeof sectors);
+    saved.follower = follower;
+    first = depth_over(0xA5);
+    memcpy(state, saved.state, sizeof state);
+    memcpy(sectors, saved.sectors, sizeof sectors);
+    follower = saved.follower;
+    second = depth_over(0x5A);
+    return (first > second ? first : second) - nothing + RETURN_ADDRESS;
+}
+
+static size_t deepest_power_up, deepest_event, deepest_run, deepest_line;
+
+static void note(size_t *deepest, void (*wrapped)(void)) {
+    size_t depth = depth_of(wrapped);
+
+    if (depth > *deepest) {
+        *deepest = depth;
+    }
+}
+
+/* The same event as a call and as a run of one record, each from the same state. */
+static void note_event(const uint8_t octets[6]) {
+    uint16_t before[PG_STATE_WORDS], sectors_before[DRIVE_WORDS];
+
+    memcpy(record + 2, octets, 6);
+    memcpy(before, state, sizeof state);
+    memcpy(sectors_before, sectors, sizeof sectors);
+    note(&deepest_run, run);
+    memcpy(state, before, sizeof state);
+    memcpy(sectors, sectors_before, sizeof sectors);
+    note(&deepest_event, event);
+}
+
+static void whole_slices(void) {
+    state_length = LENGTH(state);
+    sector_length = LENGTH(sectors);
+    answer_length = LENGTH(answer);
+    record_length = sizeof record;
+    follower_length = 1;
+}
+
+enum { SELECT = PG_SELECT_ADDRESS(ADDRESS), TAKEOVER = SELECT | PG_SELECT_PRIORITY_SELECT };
+enum { VERIFY = PG_WRITE | PG_HEADER_VERIFY | PG_FIELD_1, READ = PG_READ | PG_FIELD_2 };
+
+/* Port, kind and argument octets: every kind, accepted and refused, with every status. */
+static const uint8_t script[][6] = {
+    {0, PG_DESELECT}, {0, PG_SELECT, 0xFF}, {0, PG_SELECT, SELECT | 0x0C}, {2, PG_SELECT, SELECT},
+    {0, 11}, {0, PG_SELECT, SELECT}, {0, PG_SELECT, SELECT}, {1, PG_SELECT, SELECT},
+    {0, PG_POSITION, 0, 1, 1, 2}, {0, PG_POSITION, 9}, {0, PG_TARGET, 0, 2}, {0, PG_TARGET, 0, 3},
+    {0, PG_READ_STATUS}, {0, PG_DATA_CONTROL, PG_CONTROL_RESERVED},
+    {0, PG_DATA_CONTROL, PG_WRITE}, {0, PG_DATA_CONTROL, PG_STEP_HEAD},
+    {0, PG_DATA_CONTROL, PG_READ}, {0, PG_WORD_FROM_HOST}, {0, PG_TAKE_WORD}, {0, PG_END},
+    {0, PG_DATA_CONTROL, VERIFY}, {0, PG_WORD_FROM_HOST, 0, 1}, {0, PG_DATA_CONTROL, VERIFY},
+    {0, PG_WORD_FROM_HOST}, {0, PG_WORD_FROM_HOST, 1, 2}, {0, PG_WORD_FROM_HOST, 3, 4},
+    {0, PG_DATA_CONTROL, READ | PG_AT_TARGET}, {0, PG_TAKE_WORD}, {0, PG_DESELECT},
+    {0, PG_TAKE_WORD}, {0, PG_DATA_CONTROL, READ}, {0, PG_END}, {0, PG_DATA_CONTROL, VERIFY},
+    {1, PG_SELECT, TAKEOVER}, {1, PG_DESELECT}, {0, PG_SELECT, SELECT},
+    {0, PG_DATA_CONTROL, READ}, {0, PG_READ_STATUS}, {1, PG_RESET}, {1, PG_SELECT, SELECT},
+    {1, PG_TARGET}, {1, PG_READ_STATUS}, {1, PG_DESELECT}
+};
+
+static void power_ups(void) {
+    record[4] = ADDRESS + 8;
+    note(&deepest_power_up, power_up);
+    record[4] = ADDRESS;
+    sector_length--;
+    note(&deepest_power_up, power_up);
+    whole_slices();
+    note(&deepest_power_up, power_up);
+}
+
+/* An event that 10 and then 11 refuse, and a run whose record is not whole. */
+static void refused_events(void) {
+    uint16_t hold = state[PG_STATE_HOLD];
+
+    for (state_length = 0; state_length < LENGTH(state); state_length += LENGTH(state) - 1) {
+        note_event(script[0]);
+    }
+    whole_slices();
+    sector_length = 0;
+    note_event(script[0]);
+    whole_slices();
+    answer_length = 0;
+    note_event(script[0]);
+    whole_slices();
+    state[PG_STATE_HOLD] = 3;
+    note_event(script[0]);
+    state[PG_STATE_HOLD] = hold;
+    record_length = 7;
+    note(&deepest_run, run);
+    whole_slices();
+}
+
+static uint8_t random_octet(void) {
+    static uint32_t seed = 1;
+
+    seed = seed * 1664525 + 1013904223;
+    return (uint8_t)(seed >> 24);
+}
+
+/* Octets that get far more often than not, and a state with a word that may be wrong. */
+static void random_events(void) {
+    int i, at;
+
+    for (i = 0; i < RANDOM_CALLS; i++) {
+        uint8_t octets[6] = {0};
+
+        octets[0] = (uint8_t)(state[PG_STATE_SELECTED] < 2 ? state[PG_STATE_SELECTED] : i & 1);
+        octets[1] = random_octet() % 12;
+        if (octets[1] == PG_SELECT) {
+            octets[0] = random_octet() & 1;
+            octets[2] = SELECT | (random_octet() & 3);
+        } else if (octets[1] == PG_DATA_CONTROL) {
+            octets[2] = PG_WRITE | random_octet();
+        }
+        note_event(octets);
+        at = random_octet() % PG_STATE_WORDS;
+        if (i % 8 == 0) {
+            uint16_t word = state[at];
+
+            state[at] = random_octet();
+            note_event(octets);
+            state[at] = word;
+        }
+        if (i % 64 == 0) {
+            note(&deepest_power_up, power_up);
+        }
+    }
+}
+
+/* Every octet with every setting. */
+static void lines(void) {
+    int octet, new_setting;
+
+    for (octet = 0; octet < 256; octet++) {
+        for (new_setting = 0; new_setting < 33; new_setting++) {
+            follower = (uint8_t)octet;
+            setting = (uint8_t)new_setting;
+            note(&deepest_line, line);
+        }
+    }
+    follower_length = 0;
+    note(&deepest_line, line);
+}
+
+int main(void) {
+    size_t i;
+
+    whole_slices();
+    power_ups();
+    refused_events();
+    for (i = 0; i < LENGTH(script); i++) {
+        note_event(script[i]);
+    }
+    random_events();
+    lines();
+    printf("pg_power_up %zu\npg_event %zu\npg_run %zu\npg_line %zu\n", deepest_power_up,
+           deepest_event, deepest_run, deepest_line);
+    return EXIT_SUCCESS;
+}
