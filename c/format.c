@@ -1,7 +1,7 @@
 /* Formats a drive of 100 cylinders, 4 heads and 17 sectors, with a header of 4 words and a field 1
- * of 256: every header says where it lies. Then one host writes a sector under its header, sends the
- * same header at another sector and is told, and the other host takes the drive over and reads the
- * sector back. It was written from pantoglide.h alone. It prints exactly
+ * of 256: every header says where it lies. Then one host writes a sector under its header, sends
+ * the same header at another sector and is told, and the other host takes the drive over and reads
+ * the sector back. It was written from pantoglide.h alone. It prints exactly
  *
  *     6800 sectors formatted
  *     99/3/16 written: status 00

@@ -1,7 +1,7 @@
 /* Measures how much stack the calls of the archive take, in octets. Each call is made on a stack of
  * its own that was filled with a pattern before; how deep the pattern was written over shows
- * afterwards. What the caller itself takes, measured with a call that returns at once, is taken off,
- * so that a figure is the return address, all that the call writes below it, and nothing else.
+ * afterwards. What the caller itself takes, measured with a call that returns at once, is taken
+ * off, so that a figure is the return address, all that the call writes below it, and nothing else.
  *
  * The deepest of these counts: what hosts do and every refusal, one after another, and then octets
  * at random, on a state that is now and then disturbed. It prints a line for each call.
@@ -26,16 +26,20 @@ enum { SECTOR_WORDS = HEADER + FIELD_1 + FIELD_2, RETURN_ADDRESS = 8, RANDOM_CAL
 
 /* Returns at once and writes nothing, whatever it is called with. */
 __asm__(".text\nnothing_power_up:\nnothing_event:\nnothing_run:\nnothing_line:\n"
-        "xorl %eax, %eax\nret\n");
+        "nothing_capture:\nnothing_make_capture:\nxorl %eax, %eax\nret\n");
 __typeof__(pg_power_up) nothing_power_up;
 __typeof__(pg_event) nothing_event;
 __typeof__(pg_run) nothing_run;
 __typeof__(pg_line) nothing_line;
+__typeof__(pg_capture) nothing_capture;
+__typeof__(pg_make_capture) nothing_make_capture;
 
 static uint16_t state[PG_STATE_WORDS], answer[PG_ANSWER_WORDS], staging[SECTOR_WORDS];
 static uint16_t sectors[DRIVE_WORDS];
-static uint8_t record[PG_RECORD_OCTETS], follower, setting;
+static uint8_t record[PG_RECORD_OCTETS], capture[2 * PG_RECORD_OCTETS + PG_TRAILER_OCTETS];
+static uint8_t follower, setting;
 static size_t state_length, sector_length, answer_length, record_length, follower_length;
+static size_t capture_length, first_record, record_count, size;
 
 static ucontext_t here, there;
 static uint8_t stack[16384];
@@ -63,6 +67,16 @@ static void run(void) {
 static void line(void) {
     __typeof__(pg_line) *call = calls_nothing ? nothing_line : pg_line;
     call(&follower, follower_length, setting);
+}
+
+static void find(void) {
+    __typeof__(pg_capture) *call = calls_nothing ? nothing_capture : pg_capture;
+    call(capture, capture_length, &first_record, &record_count);
+}
+
+static void make(void) {
+    __typeof__(pg_make_capture) *call = calls_nothing ? nothing_make_capture : pg_make_capture;
+    call(record, sizeof record, record, record_length, capture, capture_length, &size);
 }
 
 /* Makes the caller's own part deeper than what the change of stacks writes. */
@@ -111,7 +125,8 @@ static size_t depth_of(void (*wrapped)(void)) {
     return (first > second ? first : second) - nothing + RETURN_ADDRESS;
 }
 
-static size_t deepest_power_up, deepest_event, deepest_run, deepest_line;
+static size_t deepest_power_up, deepest_event, deepest_run, deepest_find, deepest_make;
+static size_t deepest_line;
 
 static void note(size_t *deepest, void (*wrapped)(void)) {
     size_t depth = depth_of(wrapped);
@@ -139,6 +154,7 @@ static void whole_slices(void) {
     sector_length = LENGTH(sectors);
     answer_length = LENGTH(answer);
     record_length = sizeof record;
+    capture_length = sizeof capture;
     follower_length = 1;
 }
 
@@ -246,6 +262,30 @@ static void lines(void) {
     note(&deepest_line, line);
 }
 
+/* Captures made whole, of records that are not whole, and in too little room; then found with
+ * each octet of the trailer and each length. */
+static void captures(void) {
+    size_t i;
+
+    for (capture_length = sizeof capture; capture_length > 0; capture_length--) {
+        for (record_length = 0; record_length <= sizeof record; record_length++) {
+            note(&deepest_make, make);
+        }
+    }
+    whole_slices();
+    pg_make_capture(record, sizeof record, record, sizeof record, capture, sizeof capture, &size);
+    for (i = 0; i < sizeof capture; i++) {
+        note(&deepest_find, find);
+        capture[i] ^= 1;
+        note(&deepest_find, find);
+        capture[i] ^= 1;
+    }
+    for (capture_length = 0; capture_length < sizeof capture; capture_length++) {
+        note(&deepest_find, find);
+    }
+    whole_slices();
+}
+
 int main(void) {
     size_t i;
 
@@ -257,7 +297,10 @@ int main(void) {
     }
     random_events();
     lines();
-    printf("pg_power_up %zu\npg_event %zu\npg_run %zu\npg_line %zu\n", deepest_power_up,
-           deepest_event, deepest_run, deepest_line);
+    captures();
+    printf("pg_power_up %zu\npg_event %zu\npg_run %zu\n", deepest_power_up, deepest_event,
+           deepest_run);
+    printf("pg_capture %zu\npg_make_capture %zu\npg_line %zu\n", deepest_find, deepest_make,
+           deepest_line);
     return EXIT_SUCCESS;
 }

@@ -350,10 +350,8 @@ uint8_t pg_event(uint16_t *state, size_t state_length, uint8_t port, uint8_t kin
                  uint16_t *staging_words, size_t staging_length, uint16_t *answer,
                  size_t answer_length);
 
-/* A record: tick (2 octets, high first), port, kind, four argument octets. */
-#define PG_RECORD_OCTETS 8
-
-/* The records of a capture, one after another, without notes or trailer. Ticks are not looked at.
+/* The records of a capture (see below) one after another, without notes or trailer. Ticks are not
+ * looked at.
  *
  * Returns 10 if state has under PG_STATE_WORDS words, or answers under PG_ANSWER_WORDS words for
  * each whole record; otherwise 8 if records_length is no multiple of PG_RECORD_OCTETS; and then
@@ -366,6 +364,40 @@ uint8_t pg_event(uint16_t *state, size_t state_length, uint8_t port, uint8_t kin
 uint8_t pg_run(uint16_t *state, size_t state_length, const uint8_t *records, size_t records_length,
                uint16_t *sector_words, size_t sector_length, uint16_t *staging_words,
                size_t staging_length, uint16_t *answers, size_t answers_length);
+
+/* ---- Captures ------------------------------------------------------------------------------- */
+
+/* A capture keeps what hosts did: notes, records and a trailer, with nothing between them.
+ *
+ *     notes      any octets, also none; they are kept and ignored
+ *     records    PG_RECORD_OCTETS octets each: tick (2, high first), port, kind and the four
+ *                argument octets of an event
+ *     trailer    PG_TRAILER_OCTETS octets: the distance back from the trailer to the first record,
+ *                that is the octets of all records (4, high first), then 49 50 49 32, which is
+ *                "IPI2" in ASCII */
+#define PG_RECORD_OCTETS 8
+#define PG_TRAILER_OCTETS 8
+
+/* Finds the records of a capture. What they say is not looked at.
+ *
+ * Returns 12 if the capture has under 8 octets; otherwise 13 if its last four octets are not 49 50
+ * 49 32; otherwise 14 if the distance is no multiple of 8, or is more than the capture's length
+ * less 8; and then nothing is changed. Otherwise returns 0, with the offset of the first record
+ * from the front in *first_record, which is the length of the notes, and the number of records in
+ * *record_count. So octets + *first_record and PG_RECORD_OCTETS * *record_count are what pg_run
+ * takes. The two pointers must lead to a size_t each, which no slice overlaps. */
+uint8_t pg_capture(const uint8_t *octets, size_t octets_length, size_t *first_record,
+                   size_t *record_count);
+
+/* Makes a capture of notes and records.
+ *
+ * Returns 10 if out is shorter than notes_length + records_length + PG_TRAILER_OCTETS; otherwise 8
+ * if records_length is no multiple of PG_RECORD_OCTETS or is over 4,294,967,295, which the trailer
+ * cannot hold; and then nothing is changed. Otherwise returns 0, with the capture at the front of
+ * out, the rest of out as it was, and the capture's length in *size. What the records say is not
+ * looked at. size must lead to a size_t that no slice overlaps. */
+uint8_t pg_make_capture(const uint8_t *notes, size_t notes_length, const uint8_t *records,
+                        size_t records_length, uint8_t *out, size_t out_length, size_t *size);
 
 /* ---- The lines of a port -------------------------------------------------------------------- */
 

@@ -1,8 +1,9 @@
 //! The proved drive of Pantoglide for Rust.
 //!
-//! [`Board`] is a drive over sector and staging words that the caller lends, [`Follower`] watches
-//! the control lines of one port. Both hand every request to the archive of proved code that the
-//! project's `rt staticlib pantoglide` makes; [`raw`] has its calls as they are, on slices of words.
+//! [`Board`] is a drive over sector and staging words that the caller lends, [`Capture`] a file of
+//! events, and [`Follower`] watches the control lines of one port. All hand every request to the
+//! archive of proved code that the project's `rt staticlib pantoglide` makes; [`raw`] has its calls
+//! as they are, on slices.
 //! Nothing in this interface is unsafe, and no input makes a call panic.
 //!
 //! ```
@@ -17,6 +18,7 @@
 
 mod answer;
 mod board;
+mod capture;
 mod event;
 mod follower;
 pub mod raw;
@@ -24,6 +26,7 @@ mod refusal;
 
 pub use answer::{Answer, Place, Status};
 pub use board::{Board, Hold, Setup, Transfer};
+pub use capture::{make_capture, Capture};
 pub use event::Event;
 pub use follower::{Follower, Move};
 pub use refusal::Refusal;

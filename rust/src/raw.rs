@@ -1,4 +1,4 @@
-//! The archive's four calls on slices. `include/pantoglide.h` says what each returns and changes.
+//! The archive's calls on slices. `include/pantoglide.h` says what each returns and changes.
 
 /// Words of a state.
 pub const STATE_WORDS: usize = 18;
@@ -6,6 +6,8 @@ pub const STATE_WORDS: usize = 18;
 pub const ANSWER_WORDS: usize = 13;
 /// Octets of a capture's record.
 pub const RECORD_OCTETS: usize = 8;
+/// Octets of a capture's trailer.
+pub const TRAILER_OCTETS: usize = 8;
 /// In an answer, a part that is not there.
 pub const ABSENT: u16 = 0xFFFF;
 /// In a state, no target.
@@ -55,6 +57,21 @@ mod archive {
             staging_length: usize,
             answers: *mut u16,
             answers_length: usize,
+        ) -> u8;
+        pub fn pg_capture(
+            octets: *const u8,
+            octets_length: usize,
+            first_record: *mut usize,
+            record_count: *mut usize,
+        ) -> u8;
+        pub fn pg_make_capture(
+            notes: *const u8,
+            notes_length: usize,
+            records: *const u8,
+            records_length: usize,
+            out: *mut u8,
+            out_length: usize,
+            size: *mut usize,
         ) -> u8;
         pub fn pg_line(follower: *mut u8, follower_length: usize, setting: u8) -> u8;
     }
@@ -155,6 +172,29 @@ pub fn run(
             staging_words.len(),
             answers.as_mut_ptr(),
             answers.len(),
+        )
+    }
+}
+
+/// Finds the records of a capture: 0, where the first one starts and how many there are, or 12, 13
+/// or 14 and nothing changed.
+#[inline(always)]
+pub fn capture(octets: &[u8], first_record: &mut usize, record_count: &mut usize) -> u8 {
+    unsafe { archive::pg_capture(octets.as_ptr(), octets.len(), first_record, record_count) }
+}
+
+/// Makes a capture at the front of `out`: 0 and its length, or 10 or 8 and nothing changed.
+#[inline(always)]
+pub fn make_capture(notes: &[u8], records: &[u8], out: &mut [u8], size: &mut usize) -> u8 {
+    unsafe {
+        archive::pg_make_capture(
+            notes.as_ptr(),
+            notes.len(),
+            records.as_ptr(),
+            records.len(),
+            out.as_mut_ptr(),
+            out.len(),
+            size,
         )
     }
 }

@@ -2,7 +2,7 @@
 
 use std::fmt;
 
-/// The refusals that the drive and the follower give, by document 01's numbers.
+/// The refusals that the drive, the follower and captures give, by document 01's numbers.
 #[derive(Clone, Copy, Debug, PartialEq, Eq)]
 #[repr(u8)]
 pub enum Refusal {
@@ -20,8 +20,8 @@ pub enum Refusal {
     Busy = 6,
     /// The event does not go with the transfer that is open, or with none being open.
     WrongMoment = 7,
-    /// No such kind, an unused argument octet that is not zero, a record that is not whole, or a
-    /// setting over 31.
+    /// No such kind, an unused argument octet that is not zero, records that are not whole or too
+    /// many for a capture, or a setting over 31.
     Malformed = 8,
     /// A number of the set-up is outside its limits.
     OutsideLimits = 9,
@@ -29,13 +29,19 @@ pub enum Refusal {
     TooShort = 10,
     /// The state handed in is none that a drive or a follower can have.
     Unsound = 11,
+    /// A capture has under 8 octets.
+    CaptureTooShort = 12,
+    /// A capture's trailer mark is wrong.
+    TrailerMark = 13,
+    /// A trailer's distance is no multiple of 8, or leads back before the capture's front.
+    TrailerDistance = 14,
 }
 
 impl Refusal {
     /// The refusal with a number, nothing for numbers that are none of the above.
     pub fn from_number(number: u8) -> Option<Refusal> {
         use Refusal::*;
-        const ALL: [Refusal; 11] = [
+        const ALL: [Refusal; 14] = [
             NoSuchPort,
             NotSelected,
             AlreadySelected,
@@ -47,6 +53,9 @@ impl Refusal {
             OutsideLimits,
             TooShort,
             Unsound,
+            CaptureTooShort,
+            TrailerMark,
+            TrailerDistance,
         ];
         ALL.get(usize::from(number).checked_sub(1)?).copied()
     }
@@ -56,7 +65,7 @@ impl Refusal {
         self as u8
     }
 
-    /// What a call returned: accepted, or refused with a number from 1 to 11.
+    /// What a call returned: accepted, or refused with a number from 1 to 14.
     pub(crate) fn check(returned: u8) -> Result<(), Refusal> {
         Refusal::from_number(returned).map_or(Ok(()), Err)
     }

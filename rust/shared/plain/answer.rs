@@ -16,6 +16,9 @@ pub enum Refusal {
     OutsideLimits = 9,
     TooShort = 10,
     Unsound = 11,
+    CaptureTooShort = 12,
+    TrailerMark = 13,
+    TrailerDistance = 14,
 }
 
 #[derive(Clone, Copy)]

@@ -5,11 +5,13 @@
 //! built in memory, which costs half as many instructions again.
 
 mod answer;
+mod capture;
 mod control;
 mod drive;
 mod follower;
 mod setup;
 mod words;
 
+pub use capture::{capture, make_capture};
 pub use follower::line;
 pub use words::{event, power_up, run, ANSWER_WORDS, RECORD_OCTETS, STATE_WORDS};

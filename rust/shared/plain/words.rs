@@ -14,7 +14,7 @@ const ABSENT: u16 = 0xFFFF;
 const BARE_ANSWER: AnswerWords = [
     0, ABSENT, ABSENT, ABSENT, ABSENT, ABSENT, 0, 0, 0, 0, 0, 0, 0,
 ];
-const ACCEPTED: u8 = 0;
+pub const ACCEPTED: u8 = 0;
 
 type State = [u16; STATE_WORDS];
 type AnswerWords = [u16; ANSWER_WORDS];
