@@ -1,34 +1,29 @@
 //! The drive over lent words.
 
-use crate::raw::{self, ANSWER_WORDS, NO_TARGET, RECORD_OCTETS, STATE_WORDS};
-use crate::{Answer, Event, Place, Refusal};
+use crate::raw::{self, ANSWER_WORDS, NO_TARGET, STATE_WORDS};
+use crate::{Answer, Event, Outcome, Place, Refusal, Setup};
+use core::fmt;
 
-/// The drive's measures: 1 to 4,096 cylinders, 1 to 32 heads, 1 to 256 sectors per track; in each
-/// sector a header of 0 to 8 words, a field 1 of 1 to 1,024 and a field 2 of 0 to 1,024; the
-/// address is 0 to 7.
-#[derive(Clone, Copy, Debug, PartialEq, Eq)]
-pub struct Setup {
-    pub cylinders: u16,
-    pub heads: u16,
-    pub sectors: u16,
-    pub header: u16,
-    pub field1: u16,
-    pub field2: u16,
-    pub address: u16,
-}
+#[cfg(feature = "alloc")]
+use alloc::vec::Vec;
 
 /// How firmly the owner has the drive.
 #[derive(Clone, Copy, Debug, PartialEq, Eq)]
 pub enum Hold {
+    /// A deselection frees the drive.
     None,
+    /// The drive stays the owner's after its deselection, until a selection with both priorities.
     Plain,
+    /// The drive stays the owner's until it gives the hold up, or a reset.
     Strong,
 }
 
 /// An open transfer.
 #[derive(Clone, Copy, Debug, PartialEq, Eq)]
 pub struct Transfer {
+    /// The data control that opened it.
     pub control: u8,
+    /// How many of its words have passed.
     pub words_moved: u16,
 }
 
@@ -63,7 +58,8 @@ impl<'a> Board<'a> {
         Ok(Board::from_state(state, sectors, staging))
     }
 
-    /// A drive in any state. Events at one that is not sound are refused.
+    /// A drive in any state, such as one that [`state`](Board::state) gave. Every event judges it
+    /// anew: at one that is not sound all are refused.
     pub fn from_state(
         state: [u16; STATE_WORDS],
         sectors: &'a mut [u16],
@@ -77,18 +73,13 @@ impl<'a> Board<'a> {
     }
 
     /// One event of a port.
-    pub fn event(&mut self, port: u8, event: Event) -> Result<Answer, Refusal> {
+    pub fn event(&mut self, port: u8, event: Event) -> Outcome {
         let (kind, arguments) = event.octets();
         self.event_octets(port, kind, arguments)
     }
 
     /// One event by its octets, whatever they are.
-    pub fn event_octets(
-        &mut self,
-        port: u8,
-        kind: u8,
-        arguments: [u8; 4],
-    ) -> Result<Answer, Refusal> {
+    pub fn event_octets(&mut self, port: u8, kind: u8, arguments: [u8; 4]) -> Outcome {
         let [a0, a1, a2, a3] = arguments;
         let mut answer = [0; ANSWER_WORDS];
         Refusal::check(raw::event(
@@ -103,25 +94,50 @@ impl<'a> Board<'a> {
             self.staging,
             &mut answer,
         ))?;
-        Answer::from_words(&answer)
+        Answer::told_by(&answer)
     }
 
     /// The records of a capture one after another, and the outcome of each.
-    pub fn run(&mut self, records: &[u8]) -> Result<Vec<Result<Answer, Refusal>>, Refusal> {
-        let mut answers = vec![[0; ANSWER_WORDS]; records.len() / RECORD_OCTETS];
+    #[cfg(feature = "alloc")]
+    pub fn run(&mut self, records: &[u8]) -> Result<Vec<Outcome>, Refusal> {
+        let mut answers = alloc::vec![[0; ANSWER_WORDS]; records.len() / raw::RECORD_OCTETS];
+        self.run_into(records, &mut answers)?;
+        Ok(answers.iter().map(Answer::told_by).collect())
+    }
+
+    /// The records of a capture one after another, with the words of each one's answer, which
+    /// [`Answer::from_words`] reads, in `answers`. Those beyond the records stay as they were.
+    pub fn run_into(
+        &mut self,
+        records: &[u8],
+        answers: &mut [[u16; ANSWER_WORDS]],
+    ) -> Result<(), Refusal> {
         Refusal::check(raw::run(
             &mut self.state,
             records,
             self.sectors,
             self.staging,
             answers.as_flattened_mut(),
-        ))?;
-        Ok(answers.iter().map(Answer::from_words).collect())
+        ))
     }
 
     /// The state as the archive keeps it.
     pub fn state(&self) -> &[u16; STATE_WORDS] {
         &self.state
+    }
+
+    /// The drive's measures.
+    pub fn setup(&self) -> Setup {
+        let [cylinders, heads, sectors, header, field1, field2, address, ..] = self.state;
+        Setup {
+            cylinders,
+            heads,
+            sectors,
+            header,
+            field1,
+            field2,
+            address,
+        }
     }
 
     /// The lent sector words.
@@ -144,6 +160,7 @@ impl<'a> Board<'a> {
         port(self.state[8])
     }
 
+    /// How firmly the owner has the drive.
     pub fn hold(&self) -> Hold {
         match self.state[9] {
             0 => Hold::None,
@@ -152,6 +169,7 @@ impl<'a> Board<'a> {
         }
     }
 
+    /// The position.
     pub fn place(&self) -> Place {
         Place {
             cylinder: self.state[10],
@@ -160,10 +178,12 @@ impl<'a> Board<'a> {
         }
     }
 
+    /// The sector for "at target" controls.
     pub fn target(&self) -> Option<u16> {
         Some(self.state[13]).filter(|&target| target != NO_TARGET)
     }
 
+    /// The open transfer.
     pub fn transfer(&self) -> Option<Transfer> {
         (self.state[14] != 0).then_some(Transfer {
             control: self.state[14] as u8,
@@ -175,6 +195,24 @@ impl<'a> Board<'a> {
     pub fn pending(&self, port: u8) -> Option<[u8; 2]> {
         let word = self.state[16..].get(usize::from(port))?;
         Some(word.to_be_bytes())
+    }
+}
+
+/// The state by its parts, and of the lent words how many there are.
+impl fmt::Debug for Board<'_> {
+    fn fmt(&self, out: &mut fmt::Formatter<'_>) -> fmt::Result {
+        out.debug_struct("Board")
+            .field("setup", &self.setup())
+            .field("selected", &self.selected())
+            .field("owner", &self.owner())
+            .field("hold", &self.hold())
+            .field("place", &self.place())
+            .field("target", &self.target())
+            .field("transfer", &self.transfer())
+            .field("pending", &[self.pending(0), self.pending(1)])
+            .field("sector_words", &self.sectors.len())
+            .field("staging_words", &self.staging.len())
+            .finish()
     }
 }
 

@@ -5,22 +5,32 @@ use crate::raw::{NO_TARGET, RECORD_OCTETS};
 /// An event, kinds 1 to 10 of document 01.
 #[derive(Clone, Copy, Debug, PartialEq, Eq)]
 pub enum Event {
-    /// The selection octet: the address in bits 6 to 4, Priority Hold 2, Priority Select 1.
+    /// Asks for the drive, by an octet of [`selection`](crate::selection).
     Select(u8),
+    /// Ends the session. Without a hold the drive is free then.
     Deselect,
-    /// The data control octet.
+    /// Opens a transfer, or steps the head, by an octet of [`control`](crate::control).
     DataControl(u8),
+    /// The next word of the open write. At the last one the write goes to its sector.
     WordFromHost(u16),
+    /// Takes the next word of the open read.
     TakeWord,
+    /// Ends the open transfer early. A write has then written nothing.
     End,
+    /// Goes to a place.
     Position {
+        /// Counted from 0, as are the others.
         cylinder: u16,
+        /// The head.
         head: u8,
+        /// The sector.
         sector: u8,
     },
     /// The sector for "at target" controls, or none.
     Target(Option<u16>),
+    /// Reads the status response and clears what is pending on the port.
     ReadStatus,
+    /// Ends everything on both ports, and tells them so by their next response.
     Reset,
 }
 

@@ -39,7 +39,7 @@ impl Follower {
 
     /// The lines now have this setting.
     pub fn line(&mut self, setting: u8) -> Result<Move, Refusal> {
-        let returned = raw::line(std::slice::from_mut(&mut self.octet), setting);
+        let returned = raw::line(core::slice::from_mut(&mut self.octet), setting);
         match returned {
             16 => Ok(Move::Same),
             17 => Ok(Move::Controllers),

@@ -3,30 +3,51 @@
 //! [`Board`] is a drive over sector and staging words that the caller lends, [`Capture`] a file of
 //! events, and [`Follower`] watches the control lines of one port. All hand every request to the
 //! archive of proved code that the project's `rt staticlib pantoglide` makes; [`raw`] has its calls
-//! as they are, on slices.
-//! Nothing in this interface is unsafe, and no input makes a call panic.
+//! as they are, on slices. Nothing in this interface is unsafe, and no input makes a call panic.
 //!
 //! ```
-//! use pantoglide::{Answer, Board, Event, Setup};
+//! use pantoglide::{control, selection, Answer, Board, Event, Setup};
 //!
 //! let setup = Setup { cylinders: 2, heads: 2, sectors: 3, header: 1, field1: 2, field2: 1, address: 3 };
 //! let (mut sectors, mut staging) = ([0; 48], [0; 4]);
 //! let mut board = Board::power_up(setup, &mut sectors, &mut staging)?;
-//! assert_eq!(board.event(0, Event::Select(0x30)), Ok(Answer::default()));
+//!
+//! let select = Event::Select(selection::address(3));
+//! assert_eq!(board.event(0, select), Ok(Answer::default()));
+//! let read = Event::DataControl(control::READ | control::FIELD_1);
+//! assert_eq!(board.event(0, read)?.words_to_come, Some(2));
 //! # Ok::<(), pantoglide::Refusal>(())
 //! ```
+//!
+//! The archive is looked for in the project's `target/staticlib`, or in the folder that
+//! `PANTOGLIDE_ARCHIVE_DIR` names; a relative one is a folder of the package that is built. It is
+//! for x86-64 Linux.
+//!
+//! The library needs no `std`. The feature `alloc`, on by default, adds what hands back a `Vec`:
+//! `Board::run`.
+
+#![no_std]
+#![warn(missing_docs, missing_debug_implementations)]
+
+#[cfg(feature = "alloc")]
+extern crate alloc;
 
 mod answer;
 mod board;
 mod capture;
+pub mod control;
 mod event;
 mod follower;
 pub mod raw;
 mod refusal;
+pub mod response;
+pub mod selection;
+mod setup;
 
-pub use answer::{Answer, Place, Status};
-pub use board::{Board, Hold, Setup, Transfer};
+pub use answer::{Answer, Outcome, Place, Status};
+pub use board::{Board, Hold, Transfer};
 pub use capture::{make_capture, Capture};
 pub use event::Event;
 pub use follower::{Follower, Move};
 pub use refusal::Refusal;
+pub use setup::Setup;

@@ -1,9 +1,10 @@
 //! Why a request was refused.
 
-use std::fmt;
+use core::fmt;
 
-/// The refusals that the drive, the follower and captures give, by document 01's numbers.
-#[derive(Clone, Copy, Debug, PartialEq, Eq)]
+/// The refusals that the drive, the follower and captures give, by document 01's numbers. What is
+/// refused changes nothing.
+#[derive(Clone, Copy, Debug, PartialEq, Eq, Hash)]
 #[repr(u8)]
 pub enum Refusal {
     /// The port is neither 0 nor 1.
@@ -65,6 +66,26 @@ impl Refusal {
         self as u8
     }
 
+    /// The reason in words.
+    pub fn reason(self) -> &'static str {
+        match self {
+            Refusal::NoSuchPort => "the port is neither 0 nor 1",
+            Refusal::NotSelected => "the port is not selected",
+            Refusal::AlreadySelected => "the port is selected already",
+            Refusal::WrongAddress => "the selection is for another drive",
+            Refusal::ModeChange => "the selection asks for a mode that cannot change",
+            Refusal::Busy => "the other port has the drive and keeps it",
+            Refusal::WrongMoment => "a transfer is open, or none is, at the wrong moment",
+            Refusal::Malformed => "malformed: a kind, argument, record or setting that is none",
+            Refusal::OutsideLimits => "a number of the set-up is outside its limits",
+            Refusal::TooShort => "a lent slice is too short",
+            Refusal::Unsound => "the state handed in is not sound",
+            Refusal::CaptureTooShort => "the capture has under 8 octets",
+            Refusal::TrailerMark => "the capture's trailer mark is wrong",
+            Refusal::TrailerDistance => "the capture's trailer leads to no first record",
+        }
+    }
+
     /// What a call returned: accepted, or refused with a number from 1 to 14.
     pub(crate) fn check(returned: u8) -> Result<(), Refusal> {
         Refusal::from_number(returned).map_or(Ok(()), Err)
@@ -73,8 +94,8 @@ impl Refusal {
 
 impl fmt::Display for Refusal {
     fn fmt(&self, out: &mut fmt::Formatter<'_>) -> fmt::Result {
-        write!(out, "refused {}", self.number())
+        write!(out, "refused {}: {}", self.number(), self.reason())
     }
 }
 
-impl std::error::Error for Refusal {}
+impl core::error::Error for Refusal {}

@@ -4,7 +4,7 @@ use crate::shared::plain;
 use crate::shared::random::Random;
 use crate::shared::streams::EventOctets;
 use crate::tally::Tally;
-use pantoglide::raw;
+use pantoglide::{raw, Answer};
 
 /// The longest run has so many records.
 const LONGEST_RUN: usize = 40;
@@ -175,7 +175,9 @@ impl Pair {
         let expected = self.plain.event_by(plain::event, event, cut);
         assert_eq!(returned, expected, "{event:?} with {cut:?} at {before:?}");
         self.assert_equal(|| format!("{event:?} with {cut:?} at {before:?}"));
-        if returned != 0 {
+        if returned == 0 {
+            assert_answers(&self.plain.answers[..raw::ANSWER_WORDS]);
+        } else {
             assert_eq!(*self.state(), before, "refused {event:?}");
             assert_eq!(self.plain.answers[..raw::ANSWER_WORDS], answer_before);
         }
@@ -198,10 +200,9 @@ impl Pair {
         } else {
             0
         };
-        tally.run(
-            returned,
-            &self.plain.answers[..raw::ANSWER_WORDS * answered],
-        );
+        let answers = &self.plain.answers[..raw::ANSWER_WORDS * answered];
+        assert_answers(answers);
+        tally.run(returned, answers);
     }
 
     /// A run must do what so many single events do.
@@ -225,6 +226,13 @@ impl Pair {
             "staging after {}",
             request()
         );
+    }
+}
+
+/// The wrapper reads what the archive writes.
+fn assert_answers(words: &[u16]) {
+    for words in words.as_chunks().0 {
+        assert!(Answer::from_words(words).is_some(), "{words:?}");
     }
 }
 

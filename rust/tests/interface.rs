@@ -1,0 +1,263 @@
+//! The wrapper's own parts: its constants are the header's, refusals say why, and words that no
+//! event is answered by are read as nothing.
+
+use pantoglide::raw::{self, ABSENT, ANSWER_WORDS};
+use pantoglide::{control, response, selection};
+use pantoglide::{Answer, Board, Event, Follower, Move, Place, Refusal, Setup, Status};
+use std::collections::{BTreeMap, BTreeSet};
+
+/// The numbers that the header gives names to.
+fn header_numbers() -> BTreeMap<String, usize> {
+    let header = include_str!("../../include/pantoglide.h");
+    let code = header
+        .split("/*")
+        .map(|part| part.split_once("*/").map_or(part, |(_, code)| code))
+        .collect::<String>();
+    let words = code
+        .split(|character: char| !(character.is_alphanumeric() || character == '_'))
+        .filter(|word| !word.is_empty())
+        .collect::<Vec<_>>();
+    let number = |word: &str| match word.strip_prefix("0x") {
+        Some(hex) => usize::from_str_radix(hex, 16).ok(),
+        None => word.parse().ok(),
+    };
+    words
+        .windows(2)
+        .filter(|pair| pair[0].starts_with("PG_"))
+        .filter_map(|pair| Some((pair[0].to_string(), number(pair[1])?)))
+        .collect()
+}
+
+fn assert_headers(name: &str, number: usize) {
+    assert_eq!(header_numbers().get(name), Some(&number), "{name}");
+}
+
+#[test]
+fn the_octets_of_a_host_are_the_headers() {
+    for (name, octet) in [
+        ("PG_WRITE", control::WRITE),
+        ("PG_READ", control::READ),
+        ("PG_HEADER_VERIFY", control::HEADER_VERIFY),
+        ("PG_HEADER_SKIP", control::HEADER_SKIP),
+        ("PG_HEADER_MOVE", control::HEADER_MOVE),
+        ("PG_AT_TARGET", control::AT_TARGET),
+        ("PG_FIELD_1", control::FIELD_1),
+        ("PG_FIELD_2", control::FIELD_2),
+        ("PG_STEP_HEAD", control::STEP_HEAD),
+        ("PG_CONTROL_RESERVED", control::RESERVED),
+        ("PG_SELECT_PRIORITY_SELECT", selection::PRIORITY_SELECT),
+        ("PG_SELECT_PRIORITY_HOLD", selection::PRIORITY_HOLD),
+        ("PG_SELECT", Event::Select(0).octets().0),
+        ("PG_DESELECT", Event::Deselect.octets().0),
+        ("PG_DATA_CONTROL", Event::DataControl(0).octets().0),
+        ("PG_WORD_FROM_HOST", Event::WordFromHost(0).octets().0),
+        ("PG_TAKE_WORD", Event::TakeWord.octets().0),
+        ("PG_END", Event::End.octets().0),
+        ("PG_TARGET", Event::Target(None).octets().0),
+        ("PG_READ_STATUS", Event::ReadStatus.octets().0),
+        ("PG_RESET", Event::Reset.octets().0),
+    ] {
+        assert_headers(name, octet.into());
+    }
+}
+
+#[test]
+fn the_octets_of_an_answer_are_the_headers() {
+    let response_bits = [
+        (
+            "0_UNSOLICITED_EXCEPTION",
+            response::OCTET_0_UNSOLICITED_EXCEPTION,
+        ),
+        (
+            "0_BUS_CONTROL_EXCEPTION",
+            response::OCTET_0_BUS_CONTROL_EXCEPTION,
+        ),
+        ("1_RESET_COMPLETE", response::OCTET_1_RESET_COMPLETE),
+        (
+            "1_ALTERNATE_PORT_PRIORITY_SELECT",
+            response::OCTET_1_ALTERNATE_PORT_PRIORITY_SELECT,
+        ),
+        (
+            "2_INVALID_BUS_CONTROL",
+            response::OCTET_2_INVALID_BUS_CONTROL,
+        ),
+        ("2_INVALID_PARAMETER", response::OCTET_2_INVALID_PARAMETER),
+        (
+            "2_UNSUPPORTED_BUS_CONTROL",
+            response::OCTET_2_UNSUPPORTED_BUS_CONTROL,
+        ),
+        (
+            "2_BUS_CONTROL_CONTEXT",
+            response::OCTET_2_BUS_CONTROL_CONTEXT,
+        ),
+    ];
+    for (name, bit) in response_bits {
+        assert_headers(&format!("PG_RESPONSE_{name}"), bit.into());
+    }
+    for (name, number) in [
+        ("PG_STATUS_NORMAL", Status::Normal as usize),
+        (
+            "PG_STATUS_HEADER_MISCOMPARE",
+            Status::HeaderMiscompare as usize,
+        ),
+        (
+            "PG_STATUS_OPERATION_EXCEPTION",
+            Status::OperationException as usize,
+        ),
+        (
+            "PG_STATUS_UNSOLICITED_EXCEPTION",
+            Status::UnsolicitedException as usize,
+        ),
+        ("PG_MOVE_SAME", Move::Same as usize),
+        ("PG_MOVE_IDLE", Move::Idle as usize),
+        ("PG_STATE_WORDS", raw::STATE_WORDS),
+        ("PG_ANSWER_WORDS", ANSWER_WORDS),
+        ("PG_RECORD_OCTETS", raw::RECORD_OCTETS),
+        ("PG_TRAILER_OCTETS", raw::TRAILER_OCTETS),
+        ("PG_ABSENT", ABSENT.into()),
+        ("PG_NO_TARGET", raw::NO_TARGET.into()),
+    ] {
+        assert_headers(name, number);
+    }
+}
+
+#[test]
+fn the_version_is_the_headers() {
+    let number = |name: &str| header_numbers()[name];
+    let (major, minor) = (number("PG_VERSION_MAJOR"), number("PG_VERSION_MINOR"));
+    assert_eq!(env!("CARGO_PKG_VERSION"), format!("{major}.{minor}.0"));
+}
+
+#[test]
+fn document_01_s_octets_are_sums() {
+    use control::*;
+    assert_eq!(WRITE | HEADER_VERIFY | FIELD_1, 0x85);
+    assert_eq!(WRITE | HEADER_MOVE | FIELD_1 | FIELD_2, 0x8B);
+    assert_eq!(WRITE | AT_TARGET, 0x8C);
+    assert_eq!(READ | FIELD_1, 0xC1);
+    assert_eq!(READ | HEADER_SKIP, 0xC4);
+    assert_eq!(READ | AT_TARGET | FIELD_2, 0xCE);
+    assert_eq!(selection::address(3), 0x30);
+    assert_eq!(
+        selection::address(3) | selection::PRIORITY_HOLD | selection::PRIORITY_SELECT,
+        0x33
+    );
+    for address in 8..=255 {
+        assert_eq!(selection::address(address), 0x80, "no drive has {address}");
+    }
+}
+
+#[test]
+fn every_refusal_says_why() {
+    let refusals = (0..=255)
+        .filter_map(Refusal::from_number)
+        .collect::<Vec<_>>();
+    assert_eq!(
+        refusals.iter().map(|r| r.number()).collect::<Vec<_>>(),
+        (1..=14).collect::<Vec<_>>()
+    );
+    let reasons = refusals.iter().map(|refusal| refusal.reason());
+    assert_eq!(reasons.collect::<BTreeSet<_>>().len(), 14, "all different");
+    let busy: &dyn std::error::Error = &Refusal::Busy;
+    assert_eq!(
+        busy.to_string(),
+        "refused 6: the other port has the drive and keeps it"
+    );
+}
+
+#[test]
+fn everything_can_be_shown() {
+    let setup = Setup {
+        cylinders: 2,
+        heads: 2,
+        sectors: 3,
+        header: 1,
+        field1: 2,
+        field2: 1,
+        address: 3,
+    };
+    assert_eq!((setup.drive_words(), setup.sector_words()), (48, 4));
+    let (mut sectors, mut staging) = (vec![0; 48], vec![0; 4]);
+    let board = Board::power_up(setup, &mut sectors, &mut staging).expect("the bench drive");
+    assert_eq!(board.setup(), setup);
+    let shown = format!("{board:?}");
+    assert!(shown.contains("selected: None") && shown.contains("sector_words: 48"));
+    assert!(format!("{:?}", Follower::default()).contains("Follower"));
+}
+
+/// An accepted answer with nothing in it.
+const BARE: [u16; ANSWER_WORDS] = [
+    0, ABSENT, ABSENT, ABSENT, ABSENT, ABSENT, 0, 0, 0, 0, 0, 0, 0,
+];
+
+fn with(changes: &[(usize, u16)]) -> [u16; ANSWER_WORDS] {
+    let mut words = BARE;
+    for &(at, word) in changes {
+        words[at] = word;
+    }
+    words
+}
+
+#[test]
+fn words_of_answers_are_read() {
+    let read = |changes: &[(usize, u16)]| Answer::from_words(&with(changes));
+    let answer = Answer::default();
+    assert_eq!(read(&[]), Some(Ok(answer)));
+    assert_eq!(read(&[(0, 6)]), Some(Err(Refusal::Busy)));
+    let status = Some(Status::HeaderMiscompare);
+    assert_eq!(read(&[(1, 7)]), Some(Ok(Answer { status, ..answer })));
+    let opened = Answer {
+        words_to_come: Some(2056),
+        place: Some(Place {
+            cylinder: 4095,
+            head: 31,
+            sector: 255,
+        }),
+        ..answer
+    };
+    let words = [(2, 2056), (3, 4095), (4, 31), (5, 255)];
+    assert_eq!(read(&words), Some(Ok(opened)));
+    let word = Some(0xFFFF);
+    assert_eq!(
+        read(&[(6, 1), (7, 0xFFFF)]),
+        Some(Ok(Answer { word, ..answer }))
+    );
+    let told = Answer {
+        status: Some(Status::Normal),
+        response: Some([0x60, 0xC0, 0xF0, 0, 0, 0, 0, 0]),
+        ..answer
+    };
+    let words = [(1, 0), (8, 1), (9, 0x60C0), (10, 0xF000)];
+    assert_eq!(read(&words), Some(Ok(told)));
+}
+
+#[test]
+fn words_of_no_answer_are_read_as_nothing() {
+    let none: [&[(usize, u16)]; 22] = [
+        &[(0, 9)],
+        &[(0, 12)],
+        &[(0, 256)],
+        &[(0, 262)],
+        &[(0, 2), (1, 0)],
+        &[(0, 2), (7, 5)],
+        &[(1, 1)],
+        &[(1, 0x0100)],
+        &[(2, 3)],
+        &[(2, 0), (3, 0), (4, 0), (5, 0)],
+        &[(2, 2057), (3, 0), (4, 0), (5, 0)],
+        &[(2, 3), (3, 4096), (4, 0), (5, 0)],
+        &[(1, 0), (2, 3), (3, 0), (4, 0), (5, 0)],
+        &[(3, 0), (4, 0), (5, 0)],
+        &[(7, 5)],
+        &[(6, 2), (7, 5)],
+        &[(1, 7), (6, 1), (7, 5)],
+        &[(8, 1)],
+        &[(1, 0), (9, 0x4040)],
+        &[(1, 0), (8, 1), (9, 0x0040)],
+        &[(1, 0), (8, 1), (9, 0x4020)],
+        &[(1, 0), (8, 1), (9, 0x2000), (10, 0x8001)],
+    ];
+    for changes in none {
+        assert_eq!(Answer::from_words(&with(changes)), None, "{changes:?}");
+    }
+}
