@@ -87,6 +87,7 @@ fn side_of_move(old: u8, new: u8) -> u8 {
     }
 }
 
+#[inline(never)]
 pub fn line(follower: &mut [u8], setting: u8) -> u8 {
     let Some(octet) = follower.first_mut() else {
         return Refusal::TooShort as u8;

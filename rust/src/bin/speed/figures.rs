@@ -1,4 +1,4 @@
-//! Instructions and time per event.
+//! Instructions and time per event or setting.
 
 use crate::sides::{Bench, Call, Side};
 use crate::workloads::Workload;
@@ -23,8 +23,8 @@ pub struct Sides {
 /// ratio is the median of the rounds' own: the sides of a round follow one another, so that a
 /// machine that changes its clock between two rounds does not change it.
 pub fn nanoseconds(workload: &Workload, call: Call) -> Sides {
-    let cycles = EVENTS_PER_ROUND.div_ceil(workload.records.len());
-    let events = (cycles * workload.records.len()) as f64;
+    let cycles = EVENTS_PER_ROUND.div_ceil(workload.requests(call));
+    let events = (cycles * workload.requests(call)) as f64;
     let mut benches = [Bench::new(workload), Bench::new(workload)];
     let mut times = [Vec::new(), Vec::new()];
     // The first round only warms up.
@@ -62,7 +62,7 @@ fn median(mut numbers: Vec<f64>) -> f64 {
 
 /// Instructions per event, without the loop; nothing where callgrind cannot be run.
 pub fn instructions(workload: &Workload, number: usize, call: Call) -> Option<Sides> {
-    let events = ((CYCLES[1] - CYCLES[0]) * workload.records.len()) as f64;
+    let events = ((CYCLES[1] - CYCLES[0]) * workload.requests(call)) as f64;
     let per_event = |side| {
         let [short, long] = CYCLES.map(|cycles| collected(number, side, call, cycles));
         Some((long? - short?) / events)

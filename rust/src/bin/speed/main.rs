@@ -5,6 +5,7 @@
 
 mod figures;
 mod sides;
+mod traces;
 mod workloads;
 
 use figures::{instructions, nanoseconds, Sides, ROUNDS};
@@ -16,7 +17,7 @@ use workloads::Workload;
 mod shared;
 
 const SIDES: [Side; 3] = [Side::Rattle, Side::Plain, Side::Nothing];
-const CALLS: [Call; 2] = [Call::Single, Call::Run];
+const CALLS: [Call; 3] = [Call::Single, Call::Run, Call::Line];
 
 fn main() {
     let numbers: Vec<usize> = std::env::args()
@@ -26,23 +27,23 @@ fn main() {
     match numbers[..] {
         [] => print_tables(),
         [number, side, call, cycles] => {
-            let workload = &workloads::all()[number];
-            Bench::new(workload).cycles(SIDES[side], CALLS[call], cycles);
+            let call = CALLS[call];
+            let workload = &workloads::of(call)[number];
+            Bench::new(workload).cycles(SIDES[side], call, cycles);
         }
         _ => panic!("either no number or workload, side, call and cycles"),
     }
 }
 
 fn print_tables() {
-    let workloads = workloads::all();
     for call in CALLS {
         println!("{}", title(call));
         println!(
             "{:40} {:^27}   {:^27}",
-            "", "instructions per event", "ns per event, median"
+            "", "instructions per call", "ns per call, median"
         );
         println!("{:40} {}   {}", "workload", column_names(), column_names());
-        for (number, workload) in workloads.iter().enumerate() {
+        for (number, workload) in workloads::of(call).iter().enumerate() {
             print_row(workload, number, call);
         }
         println!();
@@ -56,7 +57,8 @@ fn print_tables() {
 fn title(call: Call) -> &'static str {
     match call {
         Call::Single => "pg_event; both sides test rows 11 and 10 at every event",
-        Call::Run => "pg_run; the plain side tests rows 11 and 10 once in a run",
+        Call::Run => "pg_run, per record; the plain side tests rows 11 and 10 once in a run",
+        Call::Line => "pg_line; both sides judge the follower's octet at every setting",
     }
 }
 

@@ -20,17 +20,20 @@ pub enum Side {
 pub enum Call {
     Single,
     Run,
+    Line,
 }
 
 /// One side's own words and its answers.
 pub struct Bench<'a> {
     workload: &'a Workload,
     words: Words,
+    follower: [u8; 1],
     answers: Vec<u16>,
 }
 
 type EventCall = fn(&mut [u16], u8, u8, u8, u8, u8, u8, &mut [u16], &mut [u16], &mut [u16]) -> u8;
 type RunCall = fn(&mut [u16], &[u8], &mut [u16], &mut [u16], &mut [u16]) -> u8;
+type LineCall = fn(&mut [u8], u8) -> u8;
 
 #[allow(clippy::too_many_arguments)] // it stands in for a call with as many
 #[inline(never)]
@@ -54,19 +57,26 @@ fn no_run(_: &mut [u16], _: &[u8], _: &mut [u16], _: &mut [u16], _: &mut [u16]) 
     0
 }
 
+#[inline(never)]
+fn no_line(_: &mut [u8], _: u8) -> u8 {
+    0
+}
+
 impl<'a> Bench<'a> {
     pub fn new(workload: &'a Workload) -> Bench<'a> {
         Bench {
             workload,
             words: workload.words.clone(),
+            follower: [0],
             answers: vec![0; ANSWER_WORDS * RUN_RECORDS],
         }
     }
 
-    /// Sends the workload's records so many times.
+    /// Sends the workload's records, or its settings, so many times.
     pub fn cycles(&mut self, side: Side, call: Call, cycles: usize) {
         // Hidden from the optimiser, so that the arguments of a call that ignores them are passed.
-        let (no_event, no_run): (EventCall, RunCall) = black_box((no_event, no_run));
+        let (no_event, no_run, no_line): (EventCall, RunCall, LineCall) =
+            black_box((no_event, no_run, no_line));
         for _ in 0..cycles {
             match (call, side) {
                 (Call::Single, Side::Rattle) => self.single_events(raw::event),
@@ -75,6 +85,9 @@ impl<'a> Bench<'a> {
                 (Call::Run, Side::Rattle) => self.runs(raw::run),
                 (Call::Run, Side::Plain) => self.runs(plain::run),
                 (Call::Run, Side::Nothing) => self.runs(no_run),
+                (Call::Line, Side::Rattle) => self.lines(raw::line),
+                (Call::Line, Side::Plain) => self.lines(plain::line),
+                (Call::Line, Side::Nothing) => self.lines(no_line),
             }
         }
     }
@@ -119,11 +132,23 @@ impl<'a> Bench<'a> {
         }
     }
 
+    #[inline(never)]
+    fn lines<F>(&mut self, line: F)
+    where
+        F: Fn(&mut [u8], u8) -> u8,
+    {
+        assert!(self.workload.settings.len() <= self.answers.len());
+        for (&setting, answer) in self.workload.settings.iter().zip(&mut self.answers) {
+            *answer = black_box(line(&mut self.follower, setting)).into();
+        }
+    }
+
     /// Whether two sides that did the same work came to the same words.
     pub fn agrees_with(&self, other: &Bench) -> bool {
         self.words.state == other.words.state
             && self.words.sectors == other.words.sectors
             && self.words.staging == other.words.staging
+            && self.follower == other.follower
             && self.answers == other.answers
     }
 }

@@ -1,8 +1,10 @@
-//! The streams of events that are measured.
+//! The streams of events, and of settings of the lines, that are measured.
 
 use crate::shared::plain::{self, ANSWER_WORDS, RECORD_OCTETS, STATE_WORDS};
 use crate::shared::random::Random;
 use crate::shared::streams::{likely_event, record, EventOctets};
+use crate::sides::Call;
+use crate::traces;
 
 /// The number of cylinders of the big drives.
 const MANY_CYLINDERS: u16 = 4096;
@@ -13,6 +15,8 @@ pub struct Workload {
     pub words: Words,
     /// The records of one cycle, which may be sent again and again.
     pub records: Vec<[u8; RECORD_OCTETS]>,
+    /// The settings of one cycle, for the calls of the lines.
+    pub settings: Vec<u8>,
 }
 
 /// What is lent to a drive.
@@ -29,8 +33,18 @@ struct Stream {
     records: Vec<[u8; RECORD_OCTETS]>,
 }
 
-/// All workloads, in the order of the table.
-pub fn all() -> Vec<Workload> {
+/// All workloads of a call, in the order of its table.
+pub fn of(call: Call) -> Vec<Workload> {
+    match call {
+        Call::Single | Call::Run => events(),
+        Call::Line => vec![
+            settings("f  words handed over", traces::words_handed_over()),
+            settings("g  mixed settings", traces::mixed()),
+        ],
+    }
+}
+
+fn events() -> Vec<Workload> {
     vec![
         verify_writes("a  verify-writes", 2),
         long_writes("b  1,024-word writes", 2),
@@ -97,6 +111,24 @@ fn mixed(name: &'static str, cylinders: u16) -> Workload {
         stream.records.push(record(0, event));
     }
     stream.named(name)
+}
+
+/// A trace of settings, with a drive that it leaves alone.
+fn settings(name: &'static str, settings: Vec<u8>) -> Workload {
+    Workload {
+        settings,
+        ..Stream::new(bench_drive(2)).named(name)
+    }
+}
+
+impl Workload {
+    /// How many calls, or records of calls, one cycle has.
+    pub fn requests(&self, call: Call) -> usize {
+        match call {
+            Call::Single | Call::Run => self.records.len(),
+            Call::Line => self.settings.len(),
+        }
+    }
 }
 
 impl Words {
@@ -172,6 +204,7 @@ impl Stream {
             name,
             words,
             records,
+            settings: Vec::new(),
         }
     }
 
