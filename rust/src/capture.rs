@@ -28,7 +28,8 @@ impl<'a> Capture<'a> {
         self.notes
     }
 
-    /// The records, [`RECORD_OCTETS`] octets each, as [`Board::run`](crate::Board::run) takes them.
+    /// The records, [`RECORD_OCTETS`] octets each, as [`Board::run_into`](crate::Board::run_into)
+    /// takes them.
     pub fn records(&self) -> &'a [u8] {
         self.records
     }

@@ -165,21 +165,40 @@ fn every_refusal_says_why() {
     );
 }
 
+const BENCH: Setup = Setup {
+    cylinders: 2,
+    heads: 2,
+    sectors: 3,
+    header: 1,
+    field1: 2,
+    field2: 1,
+    address: 3,
+};
+
+#[test]
+fn a_run_needs_no_allocation() {
+    let select = Event::Select(selection::address(3));
+    let records = [select.record(0, 0), select.record(5, 1)];
+    let (mut sectors, mut staging) = ([0; 48], [0; 4]);
+    let mut board = Board::power_up(BENCH, &mut sectors, &mut staging).expect("the bench drive");
+    let mut answers = [[0xEEEE; ANSWER_WORDS]; 3];
+    let too_few = board.run_into(records.as_flattened(), &mut answers[..1]);
+    assert_eq!(too_few, Err(Refusal::TooShort));
+    let half = board.run_into(&records.as_flattened()[..12], &mut answers);
+    assert_eq!(half, Err(Refusal::Malformed));
+    assert_eq!(answers, [[0xEEEE; ANSWER_WORDS]; 3], "refused");
+    assert_eq!(board.run_into(records.as_flattened(), &mut answers), Ok(()));
+    let outcomes = answers.each_ref().map(Answer::from_words);
+    let granted = Some(Ok(Answer::default()));
+    assert_eq!(outcomes, [granted, Some(Err(Refusal::Busy)), None]);
+}
+
 #[test]
 fn everything_can_be_shown() {
-    let setup = Setup {
-        cylinders: 2,
-        heads: 2,
-        sectors: 3,
-        header: 1,
-        field1: 2,
-        field2: 1,
-        address: 3,
-    };
-    assert_eq!((setup.drive_words(), setup.sector_words()), (48, 4));
-    let (mut sectors, mut staging) = (vec![0; 48], vec![0; 4]);
-    let board = Board::power_up(setup, &mut sectors, &mut staging).expect("the bench drive");
-    assert_eq!(board.setup(), setup);
+    assert_eq!((BENCH.drive_words(), BENCH.sector_words()), (48, 4));
+    let (mut sectors, mut staging) = ([0; 48], [0; 4]);
+    let board = Board::power_up(BENCH, &mut sectors, &mut staging).expect("the bench drive");
+    assert_eq!(board.setup(), BENCH);
     let shown = format!("{board:?}");
     assert!(shown.contains("selected: None") && shown.contains("sector_words: 48"));
     assert!(format!("{:?}", Follower::default()).contains("Follower"));
