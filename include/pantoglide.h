@@ -185,10 +185,11 @@ enum { PG_HOLD_NONE = 0, PG_HOLD_PLAIN = 1, PG_HOLD_STRONG = 2 };
  *     PG_READ | PG_AT_TARGET                     CC   4 words, the header at the target
  *     PG_READ | PG_FIELD_2                       C2   0 words: ends at once, with status 0 alone
  *
- * A write changes the sector at its last word, all at once and not before; until then its words are
- * staged. A verified header that differs from the stored one ends the write at the header's last
- * word, with status 7 and nothing written. PG_END ends a write or a read early, with status 0; the
- * write has then written nothing. A takeover and a reset end it too, and nothing is written. */
+ * A write changes the sector in the call that takes its last word, and not before; until then its
+ * words are staged. A verified header that differs from the stored one ends the write at the
+ * header's last word, with status 7 and nothing written. PG_END ends a write or a read early, with
+ * status 0; the write has then written nothing. A takeover and a reset end it too, and nothing is
+ * written. */
 #define PG_WRITE 0x80
 #define PG_READ 0xC0
 #define PG_HEADER_VERIFY 0x04 /* writes: sent by the host and compared, not written */

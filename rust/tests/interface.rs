@@ -59,6 +59,28 @@ fn the_octets_of_a_host_are_the_headers() {
     ] {
         assert_headers(name, octet.into());
     }
+    let position = Event::Position {
+        cylinder: 0x0102,
+        head: 3,
+        sector: 4,
+    };
+    assert_headers("PG_POSITION", position.octets().0.into());
+    assert_eq!(position.octets().1, [1, 2, 3, 4]);
+}
+
+#[test]
+fn the_refusals_are_the_headers() {
+    let names = header_numbers()
+        .into_iter()
+        .filter(|(name, _)| name.starts_with("PG_REFUSED_"))
+        .collect::<Vec<_>>();
+    assert_eq!(names.len(), 14);
+    for (name, number) in names {
+        let refusal = u8::try_from(number).ok().and_then(Refusal::from_number);
+        let refusal = refusal.expect("the wrapper has every refusal");
+        let shouted = name.trim_start_matches("PG_REFUSED_").replace('_', "");
+        assert_eq!(format!("{refusal:?}").to_uppercase(), shouted);
+    }
 }
 
 #[test]
