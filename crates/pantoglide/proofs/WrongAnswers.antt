@@ -1,0 +1,22 @@
+-- The wrong answers of `pg_power_up`, `pg_event`, `pg_run` and `pg_line` break their promises, by computation.
+-- Assumes nothing.
+use mathlib.Core.Path.{refl, ap}
+use lib.ListN.{getD}
+use Rattle.laws.proofs.Differ.{told-apart}
+use Rattle.lines.specs.Moves.{entryOf}
+use Rattle.lines.specs.Follower.{lacksHistory, remembers, movedBy, isReached, stepOf}
+use Rattle.events.proofs.Computing.{computing-words}
+use Rattle.pantoglide.specs.Line.{settingIn, followerIn, followerOctet, lineNumber}
+use Rattle.pantoglide.specs.WrongAnswers.{WrongAnswers}
+
+pub wrong-answers : WrongAnswers
+unfolding computing-words entryOf lacksHistory remembers movedBy isReached stepOf settingIn followerIn followerOctet lineNumber
+wrong-answers =
+    record {
+      cylindersForHeads = λ h. told-apart 2 1 refl (ap (λ words. getD words 0 0) (h .state));
+      portForKind = λ h. told-apart 8 0 refl (h .refusal);
+      stagingForSectors = λ h. told-apart 10 0 refl (ap (λ words. getD words 0 0) (h .out));
+      drivesForControllers = λ h. told-apart 18 17 refl (h .answer);
+      bit7Taken = λ h. told-apart 17 11 refl (h .answer);
+      historyForgotten = λ h. told-apart 0x10 0x30 refl (ap (λ words. getD words 0 0) (h .follower));
+    }

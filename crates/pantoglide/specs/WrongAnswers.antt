@@ -1,0 +1,37 @@
+-- Wrong answers of the public calls: what a careless programmer would get, and no promise allows. `pg_power_up`, `pg_event` and `pg_run` promise what
+-- the calls of `events` do, so that the wrong answers of those are wrong here too.
+use Prim.Native.Nat.{ℕ}
+use mathlib.Core.List.{List, [], _∷_}
+use lib.ListN.{replicate}
+use Rattle.drive.specs.Power.{atRest, setupOf}
+use Rattle.drive.specs.AnswerWords.{answerWords}
+use Rattle.drive.specs.Cases.{bench}
+use Rattle.drive.specs.declared.answer.Answer.the-variants.{Refused}
+use Rattle.events.specs.State.{stateWords}
+use Rattle.events.specs.Power.{PoweredUpOnWords}
+use Rattle.events.specs.Event.{eventOfOctets, EventOnWords}
+use Rattle.events.specs.Run.{RunOnWords}
+use Rattle.events.specs.WrongAnswers.{zeros, disk, selection}
+use Rattle.pantoglide.specs.Line.{LineFollowed}
+
+-- The words of the bench drive at rest.
+abbrev rest : List ℕ
+rest = stateWords (atRest bench)
+
+pub record WrongAnswers : Type 0 where
+  -- ---- `pg_power_up`
+  -- Cylinders and heads changed over.
+  pub cylindersForHeads : PoweredUpOnWords (setupOf 1 2 3 1 2 1 3) (disk zeros) zeros (replicate 18 0) 0 (stateWords (atRest (setupOf 2 1 3 1 2 1 3))) → ⊥
+  -- ---- `pg_event`
+  -- Port and kind changed over: the selection is an event of no kind.
+  pub portForKind : EventOnWords rest (eventOfOctets 0 1 0x30 0 0 0) (disk zeros) zeros (replicate 13 0) 8 rest (disk zeros) zeros (replicate 13 0) → ⊥
+  -- ---- `pg_run`
+  -- Sectors and staging changed over: every event is told 10.
+  pub stagingForSectors : RunOnWords rest (selection 0) (disk zeros) zeros (replicate 13 0) 0 rest (disk zeros) zeros (answerWords (Refused 10)) → ⊥
+  -- ---- `pg_line`
+  -- 18, the drive's, for the controller's move from IDLE to SELECT.
+  pub drivesForControllers : LineFollowed (0 ∷ []) 16 18 (0x30 ∷ []) → ⊥
+  -- An octet with bit 7 set is taken.
+  pub bit7Taken : LineFollowed (0x80 ∷ []) 16 17 (0x30 ∷ []) → ⊥
+  -- The history is forgotten: the next move to IDLE would be undefined.
+  pub historyForgotten : LineFollowed (0 ∷ []) 16 17 (0x10 ∷ []) → ⊥
