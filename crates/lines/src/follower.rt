@@ -92,12 +92,15 @@ impl Follower {
         requires { ⌜ (self .setting < 32) × (setting < 32) ⌝ }
         ensures { λ r. ⌜ r ≡ moved self setting ⌝ }
     {
-        let said = entry(self.setting, setting);
-        match said {
-            0 => Followed {
+        // Most settings that are seen are repeated ones, and the compiler builds the table anew each time it is asked.
+        if setting == self.setting {
+            return Followed {
                 answer: Answer::Same,
                 follower: self,
-            },
+            };
+        }
+        let said = entry(self.setting, setting);
+        match said {
             1 => {
                 if self.lacks_history(setting) {
                     return undefined_at(setting);
