@@ -1,4 +1,4 @@
--- The wrong answers of `pg_power_up`, `pg_event`, `pg_run` and `pg_line` break their promises, by computation.
+-- The wrong answers of the calls that C makes break their promises, by computation.
 -- Assumes nothing.
 use mathlib.Core.Path.{refl, ap}
 use lib.ListN.{getD}
@@ -18,5 +18,9 @@ wrong-answers =
       stagingForSectors = λ h. told-apart 10 0 refl (ap (λ words. getD words 0 0) (h .out));
       drivesForControllers = λ h. told-apart 18 17 refl (h .answer);
       bit7Taken = λ h. told-apart 17 11 refl (h .answer);
+      firstRecordForNotes = λ h. told-apart 8 0 refl (h .first);
+      refusedYetCounted = λ h. told-apart 0 7 refl (h .count);
+      tornRecordsTaken = λ h. told-apart 0 8 refl (h .refusal);
+      trailerNotCounted = λ h. told-apart 24 32 refl (h .size);
       historyForgotten = λ h. told-apart 0x10 0x30 refl (ap (λ words. getD words 0 0) (h .follower));
     }

@@ -1,8 +1,10 @@
 -- Wrong answers of the public calls: what a careless programmer would get, and no promise allows. `pg_power_up`, `pg_event` and `pg_run` promise what
 -- the calls of `events` do, so that the wrong answers of those are wrong here too.
 use Prim.Native.Nat.{ℕ}
-use mathlib.Core.List.{List, [], _∷_}
+use mathlib.Core.List.{List, [], _∷_, _++_}
 use lib.ListN.{replicate}
+use Rattle.capture.specs.Encoding.{captureOctets}
+use Rattle.capture.specs.Cases.{threeEvents, itsTrailer}
 use Rattle.drive.specs.Power.{atRest, setupOf}
 use Rattle.drive.specs.AnswerWords.{answerWords}
 use Rattle.drive.specs.Cases.{bench}
@@ -12,6 +14,7 @@ use Rattle.events.specs.Power.{PoweredUpOnWords}
 use Rattle.events.specs.Event.{eventOfOctets, EventOnWords}
 use Rattle.events.specs.Run.{RunOnWords}
 use Rattle.events.specs.WrongAnswers.{zeros, disk, selection}
+use Rattle.pantoglide.specs.Capture.{CaptureFound, CaptureMade}
 use Rattle.pantoglide.specs.Line.{LineFollowed}
 
 -- The words of the bench drive at rest.
@@ -35,3 +38,13 @@ pub record WrongAnswers : Type 0 where
   pub bit7Taken : LineFollowed (0x80 ∷ []) 16 17 (0x30 ∷ []) → ⊥
   -- The history is forgotten: the next move to IDLE would be undefined.
   pub historyForgotten : LineFollowed (0 ∷ []) 16 17 (0x10 ∷ []) → ⊥
+  -- ---- `pg_capture`
+  -- The first record of document 01's own capture is taken for notes.
+  pub firstRecordForNotes : CaptureFound (threeEvents ++ itsTrailer) 0 0 0 8 2 → ⊥
+  -- A refused capture is said to have no record.
+  pub refusedYetCounted : CaptureFound [] 7 7 12 7 0 → ⊥
+  -- ---- `pg_make_capture`
+  -- Torn records are taken, and the trailer counts them.
+  pub tornRecordsTaken : CaptureMade [] (replicate 7 0) (replicate 15 0) 0 0 (captureOctets [] (replicate 7 0)) 15 → ⊥
+  -- The size leaves the trailer out.
+  pub trailerNotCounted : CaptureMade [] threeEvents (replicate 32 0) 0 0 (threeEvents ++ itsTrailer) 24 → ⊥

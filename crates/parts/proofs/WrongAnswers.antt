@@ -5,19 +5,20 @@ use mathlib.Core.Path.{refl, ap}
 use mathlib.Core.Bool.{true≢false, false≢true}
 use Rattle.laws.specs.Pick.{pick}
 use Rattle.laws.proofs.Differ.{differ}
-use Rattle.parts.specs.Setup.{withinLimits, isPlace, isTarget, following}
+use Rattle.parts.specs.Setup.{withinLimits, isPlace, isTarget, following, allWords, lacksRoom}
 use Rattle.parts.specs.Control.{controlOf, headerPasses, wordsToCome}
 use Rattle.parts.specs.Holding.{isBusy, released}
-use Rattle.parts.specs.Pending.{octet0}
+use Rattle.parts.specs.Pending.{octet0, withBit, noticed, faulted}
 use Rattle.parts.specs.WrongAnswers.{WrongAnswers}
 use Rattle.parts.specs.declared.holding.Holding.{Holding}
+use Rattle.parts.specs.declared.pending.Pending.{Pending}
 use Rattle.parts.specs.declared.transfer.Transfer.{Transfer}
 
 abbrev ownerIn : Holding → ℕ
 ownerIn h = h .owner
 
 pub wrong-answers : WrongAnswers
-unfolding pick withinLimits isPlace isTarget following controlOf headerPasses wordsToCome isBusy released octet0
+unfolding pick withinLimits allWords lacksRoom isPlace isTarget following controlOf headerPasses wordsToCome isBusy released withBit noticed faulted octet0
 wrong-answers =
     record {
       read-for-D0 = λ h. false≢true (h .on-paper);
@@ -64,6 +65,10 @@ wrong-answers =
       none-not-broken = true≢false;
       owner-stays = λ h. differ refl (ap ownerIn (h .answer));
       hold-lost = λ h. differ refl (h .on-paper);
+      notice-of-a-reset = λ h. differ refl (ap (λ (p : Pending). p .octet1) h);
+      notice-clears-the-reset = λ h. differ refl (ap (λ (p : Pending). p .octet1) h);
+      control-as-parameter = λ h. differ refl (ap (λ (p : Pending). p .octet2) h);
+      fault-clears-another = λ h. differ refl (ap (λ (p : Pending). p .octet2) h);
       octet-1-as-octet-2 = differ refl;
       octet-2-overlooked = differ refl;
       selection-before-form = differ refl;
@@ -72,6 +77,8 @@ wrong-answers =
       busy-before-mode = differ refl;
       cylinder-too-many = true≢false;
       no-header-refused = false≢true;
+      last-word-overlooked = false≢true;
+      room-denied = true≢false;
       sector-without-header = differ refl;
       sector-of-field1 = differ refl;
       cylinder-after-the-last = true≢false;

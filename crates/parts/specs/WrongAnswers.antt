@@ -3,15 +3,16 @@ use Prim.Native.Nat.{ℕ}
 use mathlib.Core.Path.{_≡_}
 use mathlib.Core.Bool.{true, false}
 use Rattle.laws.specs.Rows.{first}
-use Rattle.parts.specs.Setup.{withinLimits, sectorWords, isPlace, noTarget, isTarget, following}
+use Rattle.parts.specs.Setup.{withinLimits, sectorWords, lacksRoom, isPlace, noTarget, isTarget, following}
 use Rattle.parts.specs.Control.{ControlSaid, controlOf, isWrite, isRead, namesField1, namesField2, verifiesHeader, movesHeader, isAtTarget, part, headerPasses, wordsToCome}
 use Rattle.parts.specs.Holding.{nobody, held, free, isOwnedByOther, isBusy, Granted, NotHeld, Released}
-use Rattle.parts.specs.Pending.{pendingOf, octet0}
+use Rattle.parts.specs.Pending.{pendingOf, noticed, bitOf, faulted, octet0}
 use Rattle.parts.specs.Kind.{noneAfter1, noneAfter2, noneAtAll, wordOf}
 use Rattle.parts.specs.Tests.{transferring, noTransfer, isMisaddressed, changesMode, insideRows, selectRows}
 use Rattle.parts.specs.declared.setup.Setup.{Setup}
 use Rattle.parts.specs.declared.setup.Place.{Place}
 use Rattle.parts.specs.declared.control.Control.{Control}
+use Rattle.parts.specs.declared.pending.Fault.{Fault}
 use Rattle.parts.specs.declared.event.Event.{Event}
 use Rattle.parts.specs.declared.holding.Hold.{Hold}
 
@@ -140,6 +141,16 @@ pub record WrongAnswers : Type 0 where
   pub owner-stays : Released (held 0 0 Hold.None) (held nobody 0 Hold.None) → ⊥
   -- With a hold the port still owns it.
   pub hold-lost : Released (held 0 0 Hold.Plain) (held nobody nobody Hold.None) → ⊥
+  -- ---- Pending::noticed
+  -- A takeover is no reset.
+  pub notice-of-a-reset : pendingOf 0x80 0x00 ≡ noticed (pendingOf 0x00 0x00) → ⊥
+  -- Reset Complete stays pending.
+  pub notice-clears-the-reset : pendingOf 0x40 0x00 ≡ noticed (pendingOf 0x80 0x00) → ⊥
+  -- ---- Pending::faulted
+  -- An invalid bus control is bit 7.
+  pub control-as-parameter : pendingOf 0x00 0x40 ≡ faulted (pendingOf 0x00 0x00) (bitOf Fault.InvalidBusControl) → ⊥
+  -- The bit that was pending stays.
+  pub fault-clears-another : pendingOf 0x00 0x40 ≡ faulted (pendingOf 0x00 0x80) (bitOf Fault.InvalidParameter) → ⊥
   -- ---- Pending::octet0
   -- Octet 1 sets bit 6.
   pub octet-1-as-octet-2 : 0x20 ≡ octet0 (pendingOf 0x40 0x00) → ⊥
@@ -160,6 +171,11 @@ pub record WrongAnswers : Type 0 where
   pub cylinder-too-many : true ≡ withinLimits (benchWith 4097 1) → ⊥
   -- A header may have no words.
   pub no-header-refused : false ≡ withinLimits (benchWith 2 0) → ⊥
+  -- ---- Setup::lacks_room
+  -- The last word of the last sector is needed.
+  pub last-word-overlooked : false ≡ lacksRoom bench 47 4 → ⊥
+  -- The bench drive has 48 words, and one sector four.
+  pub room-denied : true ≡ lacksRoom bench 48 4 → ⊥
   -- ---- Setup::sector_words
   -- Header, field 1 and field 2 are 4 words.
   pub sector-without-header : 3 ≡ sectorWords bench → ⊥
