@@ -17,7 +17,11 @@ same-length : tie.Need-same-length
 same-length c = search needs
 
 returns : tie.Need-returns
-returns c = did-refused (Use DataControl) _ _ _ _ (c .before .before .before .before .before .pre .0) (number-as _ (c .before .refusal .ensures) (c .before .before .before .none-after-1 .ensures) (timely-told (c .before .before .before .before .before .pre .0) .none)) (c .if1 .taken)
+returns c =
+    let after-refusal : tie.After-refusal = search in
+    let after-none-after-1 : tie.After-none-after-1 = search in
+    let start : tie.Start = search in
+    did-refused (Use DataControl) _ _ _ _ (start .pre .0) (number-as _ (after-refusal .refusal .ensures) (after-none-after-1 .none-after-1 .ensures) (timely-told (start .pre .0) .none)) (c .if1 .taken)
 
 cast-ask : tie.Need-cast-ask
 cast-ask c = search needs
@@ -29,7 +33,13 @@ same-length-2 : tie.Need-same-length-2
 same-length-2 c = search needs
 
 returns-2 : tie.Need-returns-2
-returns-2 c = did-accepted (Use DataControl) _ _ _ _ (number-as _ (c .before .before .before .before .before .before .refusal .ensures) (c .before .before .before .before .before .before .before .before .none-after-1 .ensures) (timely-told (c .before .before .before .before .before .before .before .before .before .before .pre .0) .none)) (c .before .before .before .before .before .if1 .left) (c .before .before .ask .ensures)
+returns-2 c =
+    let after-ask : tie.After-ask = search in
+    let else1 : tie.Else1 = search in
+    let after-refusal : tie.After-refusal = search in
+    let after-none-after-1 : tie.After-none-after-1 = search in
+    let start : tie.Start = search in
+    did-accepted (Use DataControl) _ _ _ _ (number-as _ (after-refusal .refusal .ensures) (after-none-after-1 .none-after-1 .ensures) (timely-told (start .pre .0) .none)) (else1 .if1 .left) (after-ask .ask .ensures)
 
 pub on-data-control-spec : {M : Type 1} → statement M
 on-data-control-spec =

@@ -18,7 +18,11 @@ same-length : tie.Need-same-length
 same-length c = search needs
 
 returns : tie.Need-returns
-returns c = did-refused Deselect _ _ _ _ (c .before .before .before .before .before .pre) (number-as _ (c .before .refusal .ensures) (c .before .before .before .none-at-all .ensures) (timely-told (c .before .before .before .before .before .pre) .none)) (c .if1 .taken)
+returns c =
+    let after-refusal : tie.After-refusal = search in
+    let after-none-at-all : tie.After-none-at-all = search in
+    let start : tie.Start = search in
+    did-refused Deselect _ _ _ _ (start .pre) (number-as _ (after-refusal .refusal .ensures) (after-none-at-all .none-at-all .ensures) (timely-told (start .pre) .none)) (c .if1 .taken)
 
 drive-in-requires : tie.Need-drive-in-requires
 drive-in-requires c κs = search needs
@@ -27,13 +31,23 @@ deselect-requires : tie.Need-deselect-requires
 deselect-requires c κs = search needs
 
 put-moved-requires : tie.Need-put-moved-requires
-put-moved-requires c κs = c .before .before .before .before .before .before .before .before .before .pre .long
+put-moved-requires c κs =
+    let start : tie.Start = search in
+    start .pre .long
 
 same-length-2 : tie.Need-same-length-2
 same-length-2 c = search needs
 
 returns-2 : tie.Need-returns-2
-returns-2 c = did-accepted Deselect _ _ _ _ (number-as _ (c .before .before .before .before .before .before .before .before .refusal .ensures) (c .before .before .before .before .before .before .before .before .before .before .none-at-all .ensures) (timely-told (c .before .before .before .before .before .before .before .before .before .before .before .before .pre) .none)) (c .before .before .before .before .before .before .before .if1 .left) (record { answer = refl; state = c .before .before .put-moved .ensures ∙ rw (c .before .before .before .before .deselect .ensures, c .before .before .before .before .before .drive-in .ensures) })
+returns-2 c =
+    let after-put-moved : tie.After-put-moved = search in
+    let after-deselect : tie.After-deselect = search in
+    let after-drive-in : tie.After-drive-in = search in
+    let else1 : tie.Else1 = search in
+    let after-refusal : tie.After-refusal = search in
+    let after-none-at-all : tie.After-none-at-all = search in
+    let start : tie.Start = search in
+    did-accepted Deselect _ _ _ _ (number-as _ (after-refusal .refusal .ensures) (after-none-at-all .none-at-all .ensures) (timely-told (start .pre) .none)) (else1 .if1 .left) (record { answer = refl; state = after-put-moved .put-moved .ensures ∙ rw (after-deselect .deselect .ensures, after-drive-in .drive-in .ensures) })
 
 pub on-deselect-spec : {M : Type 1} → statement M
 on-deselect-spec =

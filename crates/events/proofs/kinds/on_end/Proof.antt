@@ -23,7 +23,13 @@ same-length : tie.Need-same-length
 same-length c = search needs
 
 returns : tie.Need-returns
-returns c = did-refused (Use End) _ _ _ _ (c .before .before .before .before .before .before .before .before .pre) (c .before .inside-refusal .ensures ∙ rw (c .before .before .before .before .before .before .none-at-all .ensures, c .before .before .before .before .is-selected .ensures, c .before .before .is-one-open .ensures)) (c .if1 .taken)
+returns c =
+    let after-inside-refusal : tie.After-inside-refusal = search in
+    let after-is-one-open : tie.After-is-one-open = search in
+    let after-is-selected : tie.After-is-selected = search in
+    let after-none-at-all : tie.After-none-at-all = search in
+    let start : tie.Start = search in
+    did-refused (Use End) _ _ _ _ (start .pre) (after-inside-refusal .inside-refusal .ensures ∙ rw (after-none-at-all .none-at-all .ensures, after-is-selected .is-selected .ensures, after-is-one-open .is-one-open .ensures)) (c .if1 .taken)
 
 end-transfer-requires : tie.Need-end-transfer-requires
 end-transfer-requires c κs = search needs
@@ -32,7 +38,14 @@ same-length-2 : tie.Need-same-length-2
 same-length-2 c = search needs
 
 returns-2 : tie.Need-returns-2
-returns-2 c = did-accepted (Use End) _ _ _ _ (c .before .before .before .before .before .inside-refusal .ensures ∙ rw (c .before .before .before .before .before .before .before .before .before .before .none-at-all .ensures, c .before .before .before .before .before .before .before .before .is-selected .ensures, c .before .before .before .before .before .before .is-one-open .ensures)) (c .before .before .before .before .if1 .left) (record { answer = refl; state = c .before .before .end-transfer .ensures })
+returns-2 c =
+    let after-end-transfer : tie.After-end-transfer = search in
+    let else1 : tie.Else1 = search in
+    let after-inside-refusal : tie.After-inside-refusal = search in
+    let after-is-one-open : tie.After-is-one-open = search in
+    let after-is-selected : tie.After-is-selected = search in
+    let after-none-at-all : tie.After-none-at-all = search in
+    did-accepted (Use End) _ _ _ _ (after-inside-refusal .inside-refusal .ensures ∙ rw (after-none-at-all .none-at-all .ensures, after-is-selected .is-selected .ensures, after-is-one-open .is-one-open .ensures)) (else1 .if1 .left) (record { answer = refl; state = after-end-transfer .end-transfer .ensures })
 
 pub on-end-spec : {M : Type 1} → statement M
 on-end-spec =

@@ -16,7 +16,10 @@ same-length : tie.Need-same-length
 same-length c = search needs
 
 returns : tie.Need-returns
-returns c = did-refused (Use Position) _ _ _ _ (c .before .before .before .before .pre .0) (number-as _ {formed = true} (c .before .refusal .ensures) refl (timely-told (c .before .before .before .before .pre .0) .none)) (c .if1 .taken)
+returns c =
+    let after-refusal : tie.After-refusal = search in
+    let start : tie.Start = search in
+    did-refused (Use Position) _ _ _ _ (start .pre .0) (number-as _ {formed = true} (after-refusal .refusal .ensures) refl (timely-told (start .pre .0) .none)) (c .if1 .taken)
 
 word-of-requires : tie.Need-word-of-requires
 word-of-requires c κs = search needs
@@ -34,7 +37,13 @@ same-length-2 : tie.Need-same-length-2
 same-length-2 c = search needs
 
 returns-2 : tie.Need-returns-2
-returns-2 c = did-accepted (Use Position) _ _ _ _ (number-as _ {formed = true} (c .before .before .before .before .before .before .before .before .refusal .ensures) refl (timely-told (c .before .before .before .before .before .before .before .before .before .before .before .pre .0) .none)) (c .before .before .before .before .before .before .before .if1 .left) (rw (c .before .before .before .before .before .before .word-of .ensures) at (c .before .before .move-to .ensures))
+returns-2 c =
+    let after-move-to : tie.After-move-to = search in
+    let after-word-of : tie.After-word-of = search in
+    let else1 : tie.Else1 = search in
+    let after-refusal : tie.After-refusal = search in
+    let start : tie.Start = search in
+    did-accepted (Use Position) _ _ _ _ (number-as _ {formed = true} (after-refusal .refusal .ensures) refl (timely-told (start .pre .0) .none)) (else1 .if1 .left) (rw (after-word-of .word-of .ensures) at (after-move-to .move-to .ensures))
 
 pub on-position-spec : {M : Type 1} → statement M
 on-position-spec =

@@ -17,7 +17,11 @@ same-length : tie.Need-same-length
 same-length c = search needs
 
 returns : tie.Need-returns
-returns c = did-refused (Use ReadStatus) _ _ _ _ (c .before .before .before .before .before .pre .0) (number-as _ (c .before .refusal .ensures) (c .before .before .before .none-at-all .ensures) (timely-told (c .before .before .before .before .before .pre .0) .none)) (c .if1 .taken)
+returns c =
+    let after-refusal : tie.After-refusal = search in
+    let after-none-at-all : tie.After-none-at-all = search in
+    let start : tie.Start = search in
+    did-refused (Use ReadStatus) _ _ _ _ (start .pre .0) (number-as _ (after-refusal .refusal .ensures) (after-none-at-all .none-at-all .ensures) (timely-told (start .pre .0) .none)) (c .if1 .taken)
 
 tell-status-requires : tie.Need-tell-status-requires
 tell-status-requires c κs = search needs
@@ -26,7 +30,13 @@ same-length-2 : tie.Need-same-length-2
 same-length-2 c = search needs
 
 returns-2 : tie.Need-returns-2
-returns-2 c = did-accepted (Use ReadStatus) _ _ _ _ (number-as _ (c .before .before .before .before .before .refusal .ensures) (c .before .before .before .before .before .before .before .none-at-all .ensures) (timely-told (c .before .before .before .before .before .before .before .before .before .pre .0) .none)) (c .before .before .before .before .if1 .left) (c .before .before .tell-status .ensures)
+returns-2 c =
+    let after-tell-status : tie.After-tell-status = search in
+    let else1 : tie.Else1 = search in
+    let after-refusal : tie.After-refusal = search in
+    let after-none-at-all : tie.After-none-at-all = search in
+    let start : tie.Start = search in
+    did-accepted (Use ReadStatus) _ _ _ _ (number-as _ (after-refusal .refusal .ensures) (after-none-at-all .none-at-all .ensures) (timely-told (start .pre .0) .none)) (else1 .if1 .left) (after-tell-status .tell-status .ensures)
 
 pub on-read-status-spec : {M : Type 1} → statement M
 on-read-status-spec =

@@ -14,7 +14,10 @@ none-at-all-requires c κs = search needs
 
 returns : tie.Need-returns
 unfolding pick
-returns c = did-refused Reset _ _ _ 8 (c .before .before .before .pre) (rw (← ((c .before .none-at-all .ensures)), (c .if1 .taken))) (λ z. omega arith)
+returns c =
+    let after-none-at-all : tie.After-none-at-all = search in
+    let start : tie.Start = search in
+    did-refused Reset _ _ _ 8 (start .pre) (rw (← (after-none-at-all .none-at-all .ensures), c .if1 .taken)) (λ z. omega arith)
 
 drive-in-requires : tie.Need-drive-in-requires
 drive-in-requires c κs = search needs
@@ -30,7 +33,13 @@ same-length c = search needs
 
 returns-2 : tie.Need-returns-2
 unfolding pick
-returns-2 c = did-accepted Reset _ _ _ 0 (rw (← ((c .before .before .before .before .before .before .before .before .none-at-all .ensures)), (c .before .before .before .before .before .before .before .if1 .left))) refl (record { answer = refl; state = (c .before .before .put-moved .ensures) ∙ rw ((c .before .before .before .before .reset .ensures), (c .before .before .before .before .before .drive-in .ensures)) })
+returns-2 c =
+    let after-put-moved : tie.After-put-moved = search in
+    let after-reset : tie.After-reset = search in
+    let after-drive-in : tie.After-drive-in = search in
+    let else1 : tie.Else1 = search in
+    let after-none-at-all : tie.After-none-at-all = search in
+    did-accepted Reset _ _ _ 0 (rw (← (after-none-at-all .none-at-all .ensures), else1 .if1 .left)) refl (record { answer = refl; state = after-put-moved .put-moved .ensures ∙ rw (after-reset .reset .ensures, after-drive-in .drive-in .ensures) })
 
 pub on-reset-spec : {M : Type 1} → statement M
 on-reset-spec =

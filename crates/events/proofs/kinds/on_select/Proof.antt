@@ -32,19 +32,39 @@ same-length : tie.Need-same-length
 same-length c = search needs
 
 returns : tie.Need-returns
-returns c = did-refused Select _ _ _ _ (c .before .before .before .before .before .before .before .before .before .before .before .before .before .pre) ((c .before .select-refusal .ensures) ∙ rw ((c .before .before .before .none-after-1 .ensures), (c .before .before .before .before .is-busy .ensures), (c .before .before .before .before .before .changes-mode .ensures), (c .before .before .before .before .before .before .is-misaddressed .ensures), (c .before .before .before .before .before .before .before .before .before .before .drive-in .ensures))) ((c .if1 .taken))
+returns c =
+    let after-select-refusal : tie.After-select-refusal = search in
+    let after-none-after-1 : tie.After-none-after-1 = search in
+    let after-is-busy : tie.After-is-busy = search in
+    let after-changes-mode : tie.After-changes-mode = search in
+    let after-is-misaddressed : tie.After-is-misaddressed = search in
+    let after-drive-in : tie.After-drive-in = search in
+    let start : tie.Start = search in
+    did-refused Select _ _ _ _ (start .pre) (after-select-refusal .select-refusal .ensures ∙ rw (after-none-after-1 .none-after-1 .ensures, after-is-busy .is-busy .ensures, after-changes-mode .changes-mode .ensures, after-is-misaddressed .is-misaddressed .ensures, after-drive-in .drive-in .ensures)) (c .if1 .taken)
 
 select-requires : tie.Need-select-requires
 select-requires c κs = search needs
 
 put-moved-requires : tie.Need-put-moved-requires
-put-moved-requires c κs = (c .before .before .before .before .before .before .before .before .before .before .before .before .before .before .before .pre .long)
+put-moved-requires c κs =
+    let start : tie.Start = c .before .before .before .before .before .before .before .before .before .before .before .before .before .before .before in
+    start .pre .long
 
 same-length-2 : tie.Need-same-length-2
 same-length-2 c = search needs
 
 returns-2 : tie.Need-returns-2
-returns-2 c = did-accepted Select _ _ _ _ ((c .before .before .before .before .before .before .select-refusal .ensures) ∙ rw ((c .before .before .before .before .before .before .before .before .none-after-1 .ensures), (c .before .before .before .before .before .before .before .before .before .is-busy .ensures), (c .before .before .before .before .before .before .before .before .before .before .changes-mode .ensures), (c .before .before .before .before .before .before .before .before .before .before .before .is-misaddressed .ensures), (c .before .before .before .before .before .before .before .before .before .before .before .before .before .before .before .drive-in .ensures))) ((c .before .before .before .before .before .if1 .left)) (record { answer = refl; state = (c .before .before .put-moved .ensures) ∙ rw ((c .before .before .before .before .select .ensures), (c .before .before .before .before .before .before .before .before .before .before .before .before .before .before .before .drive-in .ensures)) })
+returns-2 c =
+    let after-put-moved : tie.After-put-moved = search in
+    let after-select : tie.After-select = search in
+    let else1 : tie.Else1 = search in
+    let after-select-refusal : tie.After-select-refusal = search in
+    let after-none-after-1 : tie.After-none-after-1 = search in
+    let after-is-busy : tie.After-is-busy = search in
+    let after-changes-mode : tie.After-changes-mode = search in
+    let after-is-misaddressed : tie.After-is-misaddressed = search in
+    let after-drive-in : tie.After-drive-in = search in
+    did-accepted Select _ _ _ _ (after-select-refusal .select-refusal .ensures ∙ rw (after-none-after-1 .none-after-1 .ensures, after-is-busy .is-busy .ensures, after-changes-mode .changes-mode .ensures, after-is-misaddressed .is-misaddressed .ensures, after-drive-in .drive-in .ensures)) (else1 .if1 .left) (record { answer = refl; state = after-put-moved .put-moved .ensures ∙ rw (after-select .select .ensures, after-drive-in .drive-in .ensures) })
 
 pub on-select-spec : {M : Type 1} → statement M
 on-select-spec =

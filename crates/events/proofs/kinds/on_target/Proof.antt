@@ -17,7 +17,11 @@ same-length : tie.Need-same-length
 same-length c = search needs
 
 returns : tie.Need-returns
-returns c = did-refused (Use Target) _ _ _ _ (c .before .before .before .before .before .pre .0) (number-as _ (c .before .refusal .ensures) (c .before .before .before .none-after-2 .ensures) (timely-told (c .before .before .before .before .before .pre .0) .none)) (c .if1 .taken)
+returns c =
+    let after-refusal : tie.After-refusal = search in
+    let after-none-after-2 : tie.After-none-after-2 = search in
+    let start : tie.Start = search in
+    did-refused (Use Target) _ _ _ _ (start .pre .0) (number-as _ (after-refusal .refusal .ensures) (after-none-after-2 .none-after-2 .ensures) (timely-told (start .pre .0) .none)) (c .if1 .taken)
 
 word-of-requires : tie.Need-word-of-requires
 word-of-requires c κs = search needs
@@ -29,7 +33,14 @@ same-length-2 : tie.Need-same-length-2
 same-length-2 c = search needs
 
 returns-2 : tie.Need-returns-2
-returns-2 c = did-accepted (Use Target) _ _ _ _ (number-as _ (c .before .before .before .before .before .before .refusal .ensures) (c .before .before .before .before .before .before .before .before .none-after-2 .ensures) (timely-told (c .before .before .before .before .before .before .before .before .before .before .pre .0) .none)) (c .before .before .before .before .before .if1 .left) (rw (c .before .before .before .word-of .ensures) at (c .before .before .aim-at .ensures))
+returns-2 c =
+    let after-aim-at : tie.After-aim-at = search in
+    let after-word-of : tie.After-word-of = search in
+    let else1 : tie.Else1 = search in
+    let after-refusal : tie.After-refusal = search in
+    let after-none-after-2 : tie.After-none-after-2 = search in
+    let start : tie.Start = search in
+    did-accepted (Use Target) _ _ _ _ (number-as _ (after-refusal .refusal .ensures) (after-none-after-2 .none-after-2 .ensures) (timely-told (start .pre .0) .none)) (else1 .if1 .left) (rw (after-word-of .word-of .ensures) at (after-aim-at .aim-at .ensures))
 
 pub on-target-spec : {M : Type 1} → statement M
 on-target-spec =

@@ -37,7 +37,11 @@ same-length c = search needs
 
 returns : tie.Need-returns
 unfolding badRequest
-returns c = record { answer = refl; state = rw ((c .pending-word .ensures), (c .before .faulted .ensures), (c .before .before .pending-in .ensures), ← (pending-at _ _ ((c .before .before .before .before .before .pre .1)))) (posted _ _ _ ((c .before .before .before .before .before .pre .1)) ((c .before .before .before .before .before .pre .0 .long)) (known ((c .before .before .before .before .before .pre .0)))) }
+returns c =
+    let after-faulted : tie.After-faulted = search in
+    let after-pending-in : tie.After-pending-in = search in
+    let start : tie.Start = search in
+    record { answer = refl; state = rw (c .pending-word .ensures, after-faulted .faulted .ensures, after-pending-in .pending-in .ensures, ← (pending-at _ _ (start .pre .1))) (posted _ _ _ (start .pre .1) (start .pre .0 .long) (known (start .pre .0))) }
 
 pub fault-spec : {M : Type 1} → statement M
 fault-spec =

@@ -35,7 +35,10 @@ same-length c = search needs
 
 returns : tie.Need-returns
 unfolding statusRead pendingWord
-returns c = record { answer = rw ((c .octet0 .ensures), (c .before .pending-in .ensures), pending-at _ _ ((c .before .before .before .before .pre .1))); state = posted _ nothingPending _ ((c .before .before .before .before .pre .1)) ((c .before .before .before .before .pre .0 .long)) (known ((c .before .before .before .before .pre .0))) }
+returns c =
+    let after-pending-in : tie.After-pending-in = search in
+    let start : tie.Start = search in
+    record { answer = rw (c .octet0 .ensures, after-pending-in .pending-in .ensures, pending-at _ _ (start .pre .1)); state = posted _ nothingPending _ (start .pre .1) (start .pre .0 .long) (known (start .pre .0)) }
 
 pub tell-status-spec : {M : Type 1} → statement M
 tell-status-spec =

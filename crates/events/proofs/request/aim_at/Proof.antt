@@ -17,7 +17,10 @@ same-length c = search needs
 
 returns : tie.Need-returns
 unfolding targeted
-returns c = did-unsolicited _ _ _ _ ((c .before .before .before .before .pre .0)) ((c .before .is-unsolicited .ensures)) ((c .if1 .taken))
+returns c =
+    let after-is-unsolicited : tie.After-is-unsolicited = search in
+    let start : tie.Start = search in
+    did-unsolicited _ _ _ _ (start .pre .0) (after-is-unsolicited .is-unsolicited .ensures) (c .if1 .taken)
 
 setup-in-requires : tie.Need-setup-in-requires
 setup-in-requires c κs = search needs
@@ -33,17 +36,32 @@ same-length-2 c = search needs
 
 returns-2 : tie.Need-returns-2
 unfolding targeted
-returns-2 c = did-request _ _ _ _ ((c .before .before .before .before .before .is-unsolicited .ensures)) ((c .before .before .before .before .if1 .left)) (did-first _ _ _ _ (rw ((c .before .before .setup-in .ensures)) at ((c .before .is-target .ensures))) ((c .if2 .taken)) (record { answer = refl; state = target-put _ _ ((c .before .before .before .before .before .before .before .before .pre .0 .long)) (known ((c .before .before .before .before .before .before .before .before .pre .0))) }))
+returns-2 c =
+    let after-is-target : tie.After-is-target = search in
+    let after-setup-in : tie.After-setup-in = search in
+    let else1 : tie.Else1 = search in
+    let after-is-unsolicited : tie.After-is-unsolicited = search in
+    let start : tie.Start = search in
+    did-request _ _ _ _ (after-is-unsolicited .is-unsolicited .ensures) (else1 .if1 .left) (did-first _ _ _ _ (rw (after-setup-in .setup-in .ensures) at (after-is-target .is-target .ensures)) (c .if2 .taken) (record { answer = refl; state = target-put _ _ (start .pre .0 .long) (known (start .pre .0)) }))
 
 fault-requires : tie.Need-fault-requires
-fault-requires c κs = ((c .before .before .before .before .before .before .before .before .before .pre .0), (c .before .before .before .before .before .before .before .before .before .pre .1))
+fault-requires c κs =
+    let start : tie.Start = search in
+    (start .pre .0, start .pre .1)
 
 same-length-3 : tie.Need-same-length-3
 same-length-3 c = search needs
 
 returns-3 : tie.Need-returns-3
 unfolding targeted
-returns-3 c = did-request _ _ _ _ ((c .before .before .before .before .before .before .before .before .before .is-unsolicited .ensures)) ((c .before .before .before .before .before .before .before .before .if1 .left)) (did-second _ _ _ _ (rw ((c .before .before .before .before .before .before .setup-in .ensures)) at ((c .before .before .before .before .before .is-target .ensures))) ((c .before .before .before .before .if2 .left)) ((c .before .before .fault .ensures)))
+returns-3 c =
+    let after-fault : tie.After-fault = search in
+    let else2 : tie.Else2 = search in
+    let after-is-target : tie.After-is-target = search in
+    let after-setup-in : tie.After-setup-in = search in
+    let else1 : tie.Else1 = search in
+    let after-is-unsolicited : tie.After-is-unsolicited = search in
+    did-request _ _ _ _ (after-is-unsolicited .is-unsolicited .ensures) (else1 .if1 .left) (did-second _ _ _ _ (rw (after-setup-in .setup-in .ensures) at (after-is-target .is-target .ensures)) (else2 .if2 .left) (after-fault .fault .ensures))
 
 pub aim-at-spec : {M : Type 1} → statement M
 aim-at-spec =

@@ -41,7 +41,10 @@ same-length c = search needs
 
 returns : tie.Need-returns
 unfolding dataControl
-returns c = did-unsolicited _ _ _ _ (c .before .before .before .before .pre .0) (c .before .is-unsolicited .ensures) (c .if1 .taken)
+returns c =
+    let after-is-unsolicited : tie.After-is-unsolicited = search in
+    let start : tie.Start = search in
+    did-unsolicited _ _ _ _ (start .pre .0) (after-is-unsolicited .is-unsolicited .ensures) (c .if1 .taken)
 
 control-of-requires : tie.Need-control-of-requires
 control-of-requires c κs = search needs
@@ -59,54 +62,90 @@ enum-told-2 : tie.Need-enum-told-2
 enum-told-2 c = search needs
 
 fault-requires : tie.Need-fault-requires
-fault-requires c κs = (c .before .before .before .before .before .before .before .before .pre .0, c .before .before .before .before .before .before .before .before .pre .1)
+fault-requires c κs =
+    let start : tie.Start = search in
+    (start .pre .0, start .pre .1)
 
 enum-told-3 : tie.Need-enum-told-3
 enum-told-3 c = search needs
 
 fault-requires-2 : tie.Need-fault-requires-2
-fault-requires-2 c κs = (c .before .before .before .before .before .before .before .before .pre .0, c .before .before .before .before .before .before .before .before .pre .1)
+fault-requires-2 c κs =
+    let start : tie.Start = search in
+    (start .pre .0, start .pre .1)
 
 enum-told-4 : tie.Need-enum-told-4
 enum-told-4 c = search needs
 
 fault-requires-3 : tie.Need-fault-requires-3
-fault-requires-3 c κs = (c .before .before .before .before .before .before .before .before .pre .0, c .before .before .before .before .before .before .before .before .pre .1)
+fault-requires-3 c κs =
+    let start : tie.Start = search in
+    (start .pre .0, start .pre .1)
 
 same-length-2 : tie.Need-same-length-2
 same-length-2 c = search needs
 
 returns-2 : tie.Need-returns-2
 unfolding dataControl
-returns-2 c = did-request _ _ _ _ (c .before .before .before .before .before .before .before .is-unsolicited .ensures) (c .before .before .before .before .before .before .if1 .left) (did-opening _ _ _ (c .before .before .before .before .before .control-of .result) (low _ (c .before .before .before .before .match .keys1)) (c .before .before .before .before .before .control-of .ensures .answer) (c .before .before .open-there .ensures))
+returns-2 c =
+    let after-open-there : tie.After-open-there = search in
+    let at-match-keys1 : tie.At-match-keys1 = search in
+    let after-control-of : tie.After-control-of = search in
+    let else1 : tie.Else1 = search in
+    let after-is-unsolicited : tie.After-is-unsolicited = search in
+    did-request _ _ _ _ (after-is-unsolicited .is-unsolicited .ensures) (else1 .if1 .left) (did-opening _ _ _ (after-control-of .control-of .result) (low _ (at-match-keys1 .match .keys1)) (after-control-of .control-of .ensures .answer) (after-open-there .open-there .ensures))
 
 same-length-3 : tie.Need-same-length-3
 same-length-3 c = search needs
 
 returns-3 : tie.Need-returns-3
 unfolding dataControl
-returns-3 c = did-request _ _ _ _ (c .before .before .before .before .before .before .before .before .is-unsolicited .ensures) (c .before .before .before .before .before .before .before .if1 .left) (did-controlled _ _ _ StepHead (sym (c .before .before .before .before .enum-told .given .1) ∙ c .before .before .before .before .before .before .control-of .ensures .answer) (record { answer = refl; state = c .before .before .step-head .ensures }))
+returns-3 c =
+    let after-step-head : tie.After-step-head = search in
+    let after-enum-told : tie.After-enum-told = search in
+    let after-control-of : tie.After-control-of = search in
+    let else1 : tie.Else1 = search in
+    let after-is-unsolicited : tie.After-is-unsolicited = search in
+    did-request _ _ _ _ (after-is-unsolicited .is-unsolicited .ensures) (else1 .if1 .left) (did-controlled _ _ _ StepHead (sym (after-enum-told .enum-told .given .1) ∙ after-control-of .control-of .ensures .answer) (record { answer = refl; state = after-step-head .step-head .ensures }))
 
 same-length-4 : tie.Need-same-length-4
 same-length-4 c = search needs
 
 returns-4 : tie.Need-returns-4
 unfolding dataControl
-returns-4 c = did-request _ _ _ _ (c .before .before .before .before .before .before .before .before .is-unsolicited .ensures) (c .before .before .before .before .before .before .before .if1 .left) (did-controlled _ _ _ Reserved (sym (c .before .before .before .before .enum-told2 .given .1) ∙ c .before .before .before .before .before .before .control-of .ensures .answer) (c .before .before .fault .ensures))
+returns-4 c =
+    let after-fault : tie.After-fault = search in
+    let after-enum-told2 : tie.After-enum-told2 = search in
+    let after-control-of : tie.After-control-of = search in
+    let else1 : tie.Else1 = search in
+    let after-is-unsolicited : tie.After-is-unsolicited = search in
+    did-request _ _ _ _ (after-is-unsolicited .is-unsolicited .ensures) (else1 .if1 .left) (did-controlled _ _ _ Reserved (sym (after-enum-told2 .enum-told2 .given .1) ∙ after-control-of .control-of .ensures .answer) (after-fault .fault .ensures))
 
 same-length-5 : tie.Need-same-length-5
 same-length-5 c = search needs
 
 returns-5 : tie.Need-returns-5
 unfolding dataControl
-returns-5 c = did-request _ _ _ _ (c .before .before .before .before .before .before .before .before .is-unsolicited .ensures) (c .before .before .before .before .before .before .before .if1 .left) (did-controlled _ _ _ Unsupported (sym (c .before .before .before .before .enum-told3 .given .1) ∙ c .before .before .before .before .before .before .control-of .ensures .answer) (c .before .before .fault2 .ensures))
+returns-5 c =
+    let after-fault2 : tie.After-fault2 = search in
+    let after-enum-told3 : tie.After-enum-told3 = search in
+    let after-control-of : tie.After-control-of = search in
+    let else1 : tie.Else1 = search in
+    let after-is-unsolicited : tie.After-is-unsolicited = search in
+    did-request _ _ _ _ (after-is-unsolicited .is-unsolicited .ensures) (else1 .if1 .left) (did-controlled _ _ _ Unsupported (sym (after-enum-told3 .enum-told3 .given .1) ∙ after-control-of .control-of .ensures .answer) (after-fault2 .fault2 .ensures))
 
 same-length-6 : tie.Need-same-length-6
 same-length-6 c = search needs
 
 returns-6 : tie.Need-returns-6
 unfolding dataControl
-returns-6 c = did-request _ _ _ _ (c .before .before .before .before .before .before .before .before .is-unsolicited .ensures) (c .before .before .before .before .before .before .before .if1 .left) (did-controlled _ _ _ Invalid (sym (c .before .before .before .before .enum-told4 .given .1) ∙ c .before .before .before .before .before .before .control-of .ensures .answer) (c .before .before .fault3 .ensures))
+returns-6 c =
+    let after-fault3 : tie.After-fault3 = search in
+    let after-enum-told4 : tie.After-enum-told4 = search in
+    let after-control-of : tie.After-control-of = search in
+    let else1 : tie.Else1 = search in
+    let after-is-unsolicited : tie.After-is-unsolicited = search in
+    did-request _ _ _ _ (after-is-unsolicited .is-unsolicited .ensures) (else1 .if1 .left) (did-controlled _ _ _ Invalid (sym (after-enum-told4 .enum-told4 .given .1) ∙ after-control-of .control-of .ensures .answer) (after-fault3 .fault3 .ensures))
 
 pub ask-spec : {M : Type 1} → statement M
 ask-spec =

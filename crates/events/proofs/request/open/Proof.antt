@@ -25,7 +25,12 @@ same-length c = search needs
 
 returns : tie.Need-returns
 unfolding opened
-returns c = did-first _ _ _ _ (sym (eq-eqb _ _ (sym (rw ((c .before .before .before .before .before .before .setup-in .ensures)) at ((c .before .before .before .before .before .words-to-come .ensures))) ∙ (c .before .before .before .before .if1 .taken)))) refl (record { answer = refl; state = (c .before .before .end-transfer .ensures) })
+returns c =
+    let after-end-transfer : tie.After-end-transfer = search in
+    let then1 : tie.Then1 = search in
+    let after-words-to-come : tie.After-words-to-come = search in
+    let after-setup-in : tie.After-setup-in = search in
+    did-first _ _ _ _ (sym (eq-eqb _ _ (sym (rw (after-setup-in .setup-in .ensures) at (after-words-to-come .words-to-come .ensures)) ∙ then1 .if1 .taken))) refl (record { answer = refl; state = (after-end-transfer .end-transfer .ensures) })
 
 place-in-requires : tie.Need-place-in-requires
 place-in-requires c κs = search needs
@@ -34,14 +39,25 @@ put-transfer-requires : tie.Need-put-transfer-requires
 put-transfer-requires c κs = search needs
 
 cast-t17 : tie.Need-cast-t17
-cast-t17 c = let few = words-few _ ((c .before .before .before .before .before .before .before .before .before .before .before .args .control)) (limits _ (sound _ ((c .before .before .before .before .before .before .before .before .before .before .before .pre .sound)) .limits)) in rw ((c .before .before .before .before .before .before .before .words-to-come .ensures), (c .before .before .before .before .before .before .before .before .setup-in .ensures)) (omega (arith, few))
+cast-t17 c =
+    let after-words-to-come : tie.After-words-to-come = search in
+    let after-setup-in : tie.After-setup-in = search in
+    let start : tie.Start = search in
+    let few = words-few _ (start .args .control) (limits _ (sound _ (start .pre .sound) .limits)) in
+    rw (after-words-to-come .words-to-come .ensures, after-setup-in .setup-in .ensures) (omega (arith, few))
 
 same-length-2 : tie.Need-same-length-2
 same-length-2 c = search needs
 
 returns-2 : tie.Need-returns-2
 unfolding opened
-returns-2 c = did-second _ _ _ _ (sym (ne-eqb _ _ (λ z. (c .before .before .before .before .before .before .if1 .left) (rw ((c .before .before .before .before .before .before .before .before .setup-in .ensures)) at ((c .before .before .before .before .before .before .before .words-to-come .ensures)) ∙ z)))) refl (record { answer = rw ((c .before .before .before .before .place-in .ensures), (c .before .before .before .before .before .before .before .words-to-come .ensures), (c .before .before .before .before .before .before .before .before .setup-in .ensures)); state = (c .before .before .put-transfer .ensures) })
+returns-2 c =
+    let after-put-transfer : tie.After-put-transfer = search in
+    let after-place-in : tie.After-place-in = search in
+    let else1 : tie.Else1 = search in
+    let after-words-to-come : tie.After-words-to-come = search in
+    let after-setup-in : tie.After-setup-in = search in
+    did-second _ _ _ _ (sym (ne-eqb _ _ (λ z. (else1 .if1 .left) (rw (after-setup-in .setup-in .ensures) at (after-words-to-come .words-to-come .ensures) ∙ z)))) refl (record { answer = rw (after-place-in .place-in .ensures, after-words-to-come .words-to-come .ensures, after-setup-in .setup-in .ensures); state = (after-put-transfer .put-transfer .ensures) })
 
 pub open-spec : {M : Type 1} → statement M
 open-spec =

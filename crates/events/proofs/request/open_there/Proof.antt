@@ -21,34 +21,56 @@ same-length c = search needs
 
 returns : tie.Need-returns
 unfolding opening
-returns c = did-second _ _ _ _ ((c .before .before .before .before .before .is-at-target .ensures)) (not-true _ ((c .before .before .before .before .if1 .taken))) ((c .before .before .«open» .ensures))
+returns c =
+    let after-open : tie.After-open = search in
+    let then1 : tie.Then1 = search in
+    let after-is-at-target : tie.After-is-at-target = search in
+    did-second _ _ _ _ (after-is-at-target .is-at-target .ensures) (not-true _ (then1 .if1 .taken)) ((after-open .«open» .ensures))
 
 slice-read-if2 : tie.Need-slice-read-if2
 slice-read-if2 c = search needs
 
 fault-requires : tie.Need-fault-requires
-fault-requires c κs = ((c .before .before .before .before .before .before .pre .0), (c .before .before .before .before .before .before .pre .1))
+fault-requires c κs =
+    let start : tie.Start = search in
+    (start .pre .0, start .pre .1)
 
 same-length-2 : tie.Need-same-length-2
 same-length-2 c = search needs
 
 returns-2 : tie.Need-returns-2
 unfolding opening driveIn
-returns-2 c = did-first _ _ _ _ ((c .before .before .before .before .before .before .before .is-at-target .ensures)) (not-false _ ((c .before .before .before .before .before .before .if1 .left))) (did-first _ _ _ _ (sym (eq-eqb _ _ ((c .before .before .before .before .if2 .taken)))) refl ((c .before .before .fault .ensures)))
+returns-2 c =
+    let after-fault : tie.After-fault = search in
+    let then2 : tie.Then2 = search in
+    let else1 : tie.Else1 = search in
+    let after-is-at-target : tie.After-is-at-target = search in
+    did-first _ _ _ _ (after-is-at-target .is-at-target .ensures) (not-false _ (else1 .if1 .left)) (did-first _ _ _ _ (sym (eq-eqb _ _ (then2 .if2 .taken))) refl (after-fault .fault .ensures))
 
 go-to-target-requires : tie.Need-go-to-target-requires
 go-to-target-requires c κs = search needs
 
 open-requires-2 : tie.Need-open-requires-2
 unfolding driveIn
-open-requires-2 c κs = at-target-fit ((c .before .before .before .before .before .before .before .before .before .before .pre .0)) ((c .before .before .before .before .before .if2 .left)) ((c .before .before .before .go-to-target .ensures))
+open-requires-2 c κs =
+    let after-go-to-target : tie.After-go-to-target = search in
+    let else2 : tie.Else2 = search in
+    let start : tie.Start = search in
+    at-target-fit (start .pre .0) (else2 .if2 .left) (after-go-to-target .go-to-target .ensures)
 
 same-length-3 : tie.Need-same-length-3
 same-length-3 c = search needs
 
 returns-3 : tie.Need-returns-3
 unfolding opening driveIn
-returns-3 c = did-first _ _ _ _ ((c .before .before .before .before .before .before .before .before .before .before .before .is-at-target .ensures)) (not-false _ ((c .before .before .before .before .before .before .before .before .before .before .if1 .left))) (did-second _ _ _ _ (sym (ne-eqb _ _ ((c .before .before .before .before .before .before .before .before .if2 .left)))) refl (did-at-target _ ((c .before .before .before .before .before .before .before .before .before .before .before .before .before .pre .0)) ((c .before .before .before .before .before .before .go-to-target .ensures)) ((c .before .before .open2 .ensures))))
+returns-3 c =
+    let after-open2 : tie.After-open2 = search in
+    let after-go-to-target : tie.After-go-to-target = search in
+    let else2 : tie.Else2 = search in
+    let else1 : tie.Else1 = search in
+    let after-is-at-target : tie.After-is-at-target = search in
+    let start : tie.Start = search in
+    did-first _ _ _ _ (after-is-at-target .is-at-target .ensures) (not-false _ (else1 .if1 .left)) (did-second _ _ _ _ (sym (ne-eqb _ _ (else2 .if2 .left))) refl (did-at-target _ (start .pre .0) (after-go-to-target .go-to-target .ensures) (after-open2 .open2 .ensures)))
 
 pub open-there-spec : {M : Type 1} → statement M
 open-there-spec =

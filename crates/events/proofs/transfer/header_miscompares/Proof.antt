@@ -51,7 +51,9 @@ verifies-header-requires c κs = search needs
 
 returns-2 : tie.Need-returns-2
 unfolding miscompares driveIn
-returns-2 c = rw (← (c .before .verifies-header .ensures), not-true (c .before .verifies-header .result) (c .if2 .taken))
+returns-2 c =
+    let after-verifies-header : tie.After-verifies-header = search in
+    rw (← (after-verifies-header .verifies-header .ensures), not-true (after-verifies-header .verifies-header .result) (c .if2 .taken))
 
 setup-in-requires : tie.Need-setup-in-requires
 setup-in-requires c κs = search needs
@@ -60,19 +62,33 @@ place-in-requires : tie.Need-place-in-requires
 place-in-requires c κs = search needs
 
 sector-start-requires : tie.Need-sector-start-requires
-sector-start-requires c κs = placed (c .before .before .before .before .before .before .before .before .before .before .pre) _ _ (c .before .setup-in .ensures) (c .place-in .ensures)
+sector-start-requires c κs =
+    let after-setup-in : tie.After-setup-in = search in
+    let start : tie.Start = search in
+    placed (start .pre) _ _ (after-setup-in .setup-in .ensures) (c .place-in .ensures)
 
 same-words-requires : tie.Need-same-words-requires
 same-words-requires c κs =
-    let n = header-word _ _ _ (c .before .before .setup-in .ensures) (c .before .before .before .before .before .before .if1 .left) in
-    let r = has-room (c .before .before .before .before .before .before .before .before .before .before .before .pre) _ _ _ (c .before .before .setup-in .ensures) (c .before .place-in .ensures) (c .sector-start .ensures) in
+    let after-place-in : tie.After-place-in = search in
+    let after-setup-in : tie.After-setup-in = search in
+    let else1 : tie.Else1 = search in
+    let start : tie.Start = search in
+    let n = header-word _ _ _ (after-setup-in .setup-in .ensures) (else1 .if1 .left) in
+    let r = has-room (start .pre) _ _ _ (after-setup-in .setup-in .ensures) (after-place-in .place-in .ensures) (c .sector-start .ensures) in
     (omega (arith, n, r .stage), omega (arith, n, r .sector))
 
 returns-3 : tie.Need-returns-3
 returns-3 c =
-    let state = now (c .before .before .before .before .before .before .before .before .before .before .before .before .args .state) in
-    rw (← (c .before .before .before .setup-in .ensures), ← (c .before .before .place-in .ensures), ← (c .before .sector-start .ensures), c .same-words .ensures)
-    (sym (compared _ _ _ _ _ _ (verified state _ (c .before .before .before .before .before .verifies-header .ensures) (not-false _ (c .before .before .before .before .if2 .left))) (header-word state _ _ (c .before .before .before .setup-in .ensures) (c .before .before .before .before .before .before .before .if1 .left))))
+    let after-sector-start : tie.After-sector-start = search in
+    let after-place-in : tie.After-place-in = search in
+    let after-setup-in : tie.After-setup-in = search in
+    let else2 : tie.Else2 = search in
+    let after-verifies-header : tie.After-verifies-header = search in
+    let else1 : tie.Else1 = search in
+    let start : tie.Start = search in
+    let state = now (start .args .state) in
+    rw (← (after-setup-in .setup-in .ensures), ← (after-place-in .place-in .ensures), ← (after-sector-start .sector-start .ensures), c .same-words .ensures)
+    (sym (compared _ _ _ _ _ _ (verified state _ (after-verifies-header .verifies-header .ensures) (not-false _ (else2 .if2 .left))) (header-word state _ _ (after-setup-in .setup-in .ensures) (else1 .if1 .left))))
 
 pub header-miscompares-spec : {M : Type 1} → statement M
 header-miscompares-spec =

@@ -21,16 +21,30 @@ same-length : tie.Need-same-length
 same-length c = search needs
 
 returns : tie.Need-returns
-returns c = did-refused (Use TakeWord) _ _ _ _ (fit (c .before .before .before .before .before .before .before .pre)) (number-as _ (c .before .refusal .ensures) (c .before .before .before .none-at-all .ensures) (ap not (timely-told (fit (c .before .before .before .before .before .before .before .pre)) .read))) (c .if1 .taken)
+returns c =
+    let after-refusal : tie.After-refusal = search in
+    let after-none-at-all : tie.After-none-at-all = search in
+    let start : tie.Start = search in
+    did-refused (Use TakeWord) _ _ _ _ (fit (start .pre)) (number-as _ (after-refusal .refusal .ensures) (after-none-at-all .none-at-all .ensures) (ap not (timely-told (fit (start .pre)) .read))) (c .if1 .taken)
 
 take-requires : tie.Need-take-requires
-take-requires c κs = (c .before .before .before .before .before .before .before .before .pre, able-to-read (c .before .before .before .before .before .before .before .before .pre .passable) (on-time _ _ (c .before .before .refusal .ensures) (c .before .if1 .left) (timely-told (fit (c .before .before .before .before .before .before .before .before .pre)) .read)))
+take-requires c κs =
+    let else1 : tie.Else1 = search in
+    let after-refusal : tie.After-refusal = search in
+    let start : tie.Start = search in
+    (start .pre, able-to-read (start .pre .passable) (on-time _ _ (after-refusal .refusal .ensures) (else1 .if1 .left) (timely-told (fit (start .pre)) .read)))
 
 same-length-2 : tie.Need-same-length-2
 same-length-2 c = search needs
 
 returns-2 : tie.Need-returns-2
-returns-2 c = did-accepted (Use TakeWord) _ _ _ _ (number-as _ (c .before .before .before .before .before .refusal .ensures) (c .before .before .before .before .before .before .before .none-at-all .ensures) (ap not (timely-told (fit (c .before .before .before .before .before .before .before .before .before .before .before .pre)) .read))) (c .before .before .before .before .if1 .left) (c .before .before .take .ensures)
+returns-2 c =
+    let after-take : tie.After-take = search in
+    let else1 : tie.Else1 = search in
+    let after-refusal : tie.After-refusal = search in
+    let after-none-at-all : tie.After-none-at-all = search in
+    let start : tie.Start = search in
+    did-accepted (Use TakeWord) _ _ _ _ (number-as _ (after-refusal .refusal .ensures) (after-none-at-all .none-at-all .ensures) (ap not (timely-told (fit (start .pre)) .read))) (else1 .if1 .left) (after-take .take .ensures)
 
 pub on-take-word-spec : {M : Type 1} → statement M
 on-take-word-spec =

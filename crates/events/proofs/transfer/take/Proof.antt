@@ -71,12 +71,14 @@ shared-slice-read-word c =
 cast-if1 : tie.Need-cast-if1
 cast-if1 c =
     let start : tie.Start = search in
-    let m = moving (start .pre .1) in omega (arith, m .few)
+    let m = moving (start .pre .1) in
+    omega (arith, m .few)
 
 add-if1 : tie.Need-add-if1
 add-if1 c =
     let start : tie.Start = search in
-    let m = moving (start .pre .1) in omega (arith, m .few)
+    let m = moving (start .pre .1) in
+    omega (arith, m .few)
 
 words-to-come-requires : tie.Need-words-to-come-requires
 words-to-come-requires c κs = search needs
@@ -105,7 +107,8 @@ returns c =
 add-state : tie.Need-add-state
 add-state c =
     let start : tie.Start = search in
-    let m = moving (start .pre .1) in omega (arith, m .few)
+    let m = moving (start .pre .1) in
+    omega (arith, m .few)
 
 slice-write-state : tie.Need-slice-write-state
 slice-write-state c = search needs
