@@ -11,18 +11,19 @@ use lib.ListN.{length, take, drop, length-append, length-drop, take-append-drop}
 use lib.Seq.{length-take-le, drop-at}
 use Rattle.laws.specs.Octets.{AllOctets}
 use Rattle.laws.proofs.Octets.{number-of-octets, octets-of-number}
-use Rattle.capture.specs.Capture.{mark, sameOctets, trailerOf, distanceOf, hasMark}
+use Rattle.laws.specs.Lists.{sameList}
+use Rattle.capture.specs.Capture.{mark, trailerOf, distanceOf, hasMark}
 use Rattle.capture.specs.Encoding.{trailerFor, captureOctets, captureLength}
 use Rattle.laws.proofs.Tests.{and-l, and-r}
 use Rattle.laws.proofs.Runs.{run-read}
 use Rattle.laws.proofs.Octets.{octets-taken, octets-dropped}
 
-same-octets : (xs ys : List ℕ) → sameOctets xs ys ≡ true → xs ≡ ys
+same-octets : (xs ys : List ℕ) → sameList xs ys ≡ true → xs ≡ ys
 same-octets [] [] e = refl
 same-octets [] (y ∷ ys) e = absurd (false≢true e)
 same-octets (x ∷ xs) [] e = absurd (false≢true e)
 same-octets (x ∷ xs) (y ∷ ys) e =
-    ap₂ _∷_ (eqb-true x y (and-l (eqb x y) (sameOctets xs ys) e)) (same-octets xs ys (and-r (eqb x y) (sameOctets xs ys) e))
+    ap₂ _∷_ (eqb-true x y (and-l (eqb x y) (sameList xs ys) e)) (same-octets xs ys (and-r (eqb x y) (sameList xs ys) e))
 
 -- ---- taken apart
 

@@ -6,6 +6,7 @@ use mathlib.Core.List.{List, [], _∷_}
 use lib.Dec.{eqb, ltb}
 use lib.ListN.{length, take, drop}
 use Rattle.laws.specs.Rows.{Row, first, _when_, unlessRefused, Paper, refusedWith, tells, refusedOr}
+use Rattle.laws.specs.Lists.{sameList}
 use Rattle.laws.specs.Octets.{numberOf}
 use Rattle.capture.specs.declared.capture.CaptureRead.{CaptureRead}
 use Rattle.capture.specs.declared.capture.CaptureRead.the-variants.{Capture, Refused}
@@ -13,13 +14,6 @@ use Rattle.capture.specs.declared.capture.CaptureRead.the-variants.{Capt
 -- "49 50 49 32"
 abbrev pub mark : List ℕ
 mark = 0x49 ∷ 0x50 ∷ 0x49 ∷ 0x32 ∷ []
-
--- The two lists are the same, octet for octet.
-abbrev pub sameOctets : List ℕ → List ℕ → Bool
-sameOctets [] [] = true
-sameOctets [] (y ∷ ys) = false
-sameOctets (x ∷ xs) [] = false
-sameOctets (x ∷ xs) (y ∷ ys) = eqb x y && sameOctets xs ys
 
 -- "Then an 8-octet trailer"
 abbrev pub trailerOf : List ℕ → List ℕ
@@ -31,7 +25,7 @@ distanceOf octets = numberOf (take 4 (trailerOf octets))
 
 -- "and 49 50 49 32"
 abbrev pub hasMark : List ℕ → Bool
-hasMark octets = sameOctets (drop 4 (trailerOf octets)) mark
+hasMark octets = sameList (drop 4 (trailerOf octets)) mark
 
 -- "Capture decoding tests 12, 13, 14": "capture under 8 octets", "trailer mark wrong", "trailer distance no multiple of 8, or more
 -- than the length less 8".

@@ -4,7 +4,8 @@ ghost use mathlib.Core.List.{[], _∷_};
 ghost use mathlib.Core.Path.{_≡_};
 ghost use lib.ListN.{length, take, drop};
 ghost use Rattle.laws.specs.Octets.{numberOf};
-ghost use Rattle.capture.specs.Capture.{DecodedCapture, NotesGiven, RecordsGiven, mark, sameOctets};
+ghost use Rattle.laws.specs.Lists.{sameList};
+ghost use Rattle.capture.specs.Capture.{DecodedCapture, NotesGiven, RecordsGiven, mark};
 
 pub enum CaptureRead {
     // Where the first record starts, and how many records there are.
@@ -64,7 +65,7 @@ pub fn records(octets: &[u8]) -> &[u8]
 
 fn has_mark(trailer: &[u8]) -> bool
     requires { ⌜ length (now trailer) ≡ 8 ⌝ }
-    ensures { λ r. ⌜ r ≡ sameOctets (drop 4 (now (trailer .entry))) mark ⌝ }
+    ensures { λ r. ⌜ r ≡ sameList (drop 4 (now (trailer .entry))) mark ⌝ }
 {
     (trailer[4] == MARK[0])
         & (trailer[5] == MARK[1])

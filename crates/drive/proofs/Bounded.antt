@@ -23,7 +23,7 @@ use Rattle.parts.specs.declared.event.Event.{Event}
 use Rattle.parts.proofs.Bits.{bit-fits}
 use Rattle.drive.specs.State.{Result, pendingOn}
 use Rattle.drive.specs.Answer.{paper, refusalIn}
-use Rattle.drive.specs.AnswerWords.{answerWords, allWords, answerIn, answersIn}
+use Rattle.drive.specs.AnswerWords.{answerWords, wordsOfAnswers, answerIn, answersIn}
 use Rattle.drive.specs.Refusal.{rows, refusalOf}
 use Rattle.drive.specs.Frame.{AreOctets}
 use Rattle.drive.specs.Able.{Passable}
@@ -170,14 +170,14 @@ refusal-first (Word word) = refl
 refusal-first (LastWord word) = refl
 refusal-first (Response first second third) = refl
 
-all-told-back : (s : Setup) (told : List Answer) (rest : List ℕ) → withinLimits s ≡ true → AllBounded s told → answersIn (length told) (allWords told ++ rest) ≡ told
-unfolding answersIn allWords
+all-told-back : (s : Setup) (told : List Answer) (rest : List ℕ) → withinLimits s ≡ true → AllBounded s told → answersIn (length told) (wordsOfAnswers told ++ rest) ≡ told
+unfolding answersIn wordsOfAnswers
 all-told-back s [] rest l b = refl
 all-told-back s (answer ∷ told) rest l b =
     let ws = answerWords answer in
     let size = thirteen answer in
     let here : 0 < length ws = omega arith in
-    rw (append-assoc ws (allWords told) rest, List·getD-append ws (allWords told ++ rest) 0 0 here, take-at ws (allWords told ++ rest) 13 size, drop-at ws (allWords told ++ rest) 13 size, refusal-first answer, told-back s answer l (b .0), all-told-back s told rest l (b .1))
+    rw (append-assoc ws (wordsOfAnswers told) rest, List·getD-append ws (wordsOfAnswers told ++ rest) 0 0 here, take-at ws (wordsOfAnswers told ++ rest) 13 size, drop-at ws (wordsOfAnswers told ++ rest) 13 size, refusal-first answer, told-back s answer l (b .0), all-told-back s told rest l (b .1))
 
 pub answers-bounded : AnswersBounded
 answers-bounded = record { bounded = bounded; run = bounded-along; response = response-told; octets = octets-stay; told-back = told-back; all-told-back = all-told-back }

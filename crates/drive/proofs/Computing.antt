@@ -1,6 +1,7 @@
 -- The definitions that an event, a run and what is read off a run compute with: `unfolding computing` opens them all.
 -- Assumes nothing.
 use Rattle.laws.specs.Pick.{pick}
+use Rattle.laws.specs.Lists.{sameList}
 use Rattle.parts.specs.Setup.{withinLimits, allWords, sectorNumber, sectorStart, isPlace, isTarget, following}
 use Rattle.parts.specs.Control.{controlOf, headerPasses, wordsToCome, wordsRead}
 use Rattle.parts.specs.Holding.{holdSet, isBusy, grantedTo, released}
@@ -11,7 +12,7 @@ use Rattle.drive.specs.Request.{badRequest, opened, opening, dataControl
 use Rattle.parts.specs.Kind.{kindOf}
 use Rattle.drive.specs.Refusal.{row11, row10, refusalOf}
 use Rattle.parts.specs.Tests.{isOutsideLimits, isDisowned, isBrokenTransfer, hasStrayBit}
-use Rattle.drive.specs.Transfer.{sameWords, miscompares, committed, staged, wordStaged, wordTaken}
+use Rattle.drive.specs.Transfer.{miscompares, committed, staged, wordStaged, wordTaken}
 use Rattle.drive.specs.Event.{handled}
 use Rattle.drive.specs.Run.{answerTo, after, answers, final}
 use Rattle.drive.specs.Answer.{paper}
@@ -26,5 +27,5 @@ use Rattle.drive.specs.Accepted.{accepted}
 use Rattle.drive.specs.Power.{poweredUp, powerUpPaper}
 
 unfoldable pub computing : Unit {0}
-unfolding pick withinLimits allWords sectorNumber sectorStart isPlace isTarget following controlOf headerPasses wordsToCome wordsRead holdSet isBusy grantedTo released withBit noticed faulted octet0 pendingOn postedOn ownerNoticed selected deselected afterReset headStepped atItsTarget ended badRequest opened opening dataControl positioned targeted statusRead kindOf isOutsideLimits isDisowned isBrokenTransfer hasStrayBit row11 row10 refusalOf sameWords miscompares committed staged wordStaged wordTaken handled answerTo after answers final paper wordWritten pageAfter journalFrom lastWrite standsAfter standingFrom readAfter readFrom offsetOf accepted poweredUp powerUpPaper answerWords words.allWords eventOf eventsIn
+unfolding pick withinLimits allWords sectorNumber sectorStart isPlace isTarget following controlOf headerPasses wordsToCome wordsRead holdSet isBusy grantedTo released withBit noticed faulted octet0 pendingOn postedOn ownerNoticed selected deselected afterReset headStepped atItsTarget ended badRequest opened opening dataControl positioned targeted statusRead kindOf isOutsideLimits isDisowned isBrokenTransfer hasStrayBit row11 row10 refusalOf miscompares committed staged wordStaged wordTaken handled answerTo after answers final paper wordWritten pageAfter journalFrom lastWrite standsAfter standingFrom readAfter readFrom offsetOf accepted poweredUp powerUpPaper answerWords words.wordsOfAnswers eventOf eventsIn
 computing = tt

@@ -18,7 +18,7 @@ use Rattle.drive.specs.Refusal.{row11, row10}
 use Rattle.drive.specs.Event.{handled, refusedWith}
 use Rattle.drive.specs.Able.{Passable}
 use Rattle.drive.specs.Run.{Machine, machine, after, answerTo, answers, final}
-use Rattle.drive.specs.AnswerWords.{answerWords, allWords}
+use Rattle.drive.specs.AnswerWords.{answerWords, wordsOfAnswers}
 use Rattle.drive.specs.Batch.{eventOf, eventsIn, recordCount, judgement, batchRefusal, TurnTaken, Gone}
 use Rattle.drive.specs.declared.drive.Drive.{Drive}
 use Rattle.drive.specs.declared.answer.Answer.{Answer}
@@ -89,7 +89,7 @@ thirteen (Response octet0 octet1 octet2) = refl
 -- From the start to where the events `rest` are left: they end as all do, and their answers' words complete those of all.
 pub record Turned (start : Machine) (events : List Event) (out₀ : List ℕ) (m : Machine) (rest : List Event) (at : ℕ) (out : List ℕ) : Type 0 where
   pub end : final m rest ≡ final start events
-  pub written : take at out ++ allWords (answers m rest) ≡ allWords (answers start events)
+  pub written : take at out ++ wordsOfAnswers (answers m rest) ≡ wordsOfAnswers (answers start events)
   pub left : drop at out ≡ drop at out₀
 
 -- a run of words put at an index: up to its end, and from its end on
@@ -131,14 +131,14 @@ events-step count i records h =
 turned-by : {start : Machine} {events : List Event} {out₀ : List ℕ} {m m′ : Machine} {e : Event} {rest : List Event} {at : ℕ} {out part : List ℕ}
     → at ≤ length out → Turned start events out₀ m (e ∷ rest) at out → TurnTaken m e (drop at out) m′ part
     → Turned start events out₀ m′ rest (at + 13) (take at out ++ part)
-unfolding final answers allWords
+unfolding final answers wordsOfAnswers
 turned-by {start} {events} {out₀} {m} {m′} {e} {rest} {at} {out} {part} h t k =
     let ws = answerWords (answerTo m e) in
     let n = thirteen (answerTo m e) in
     let put = run-behind (take at out) ws out₀ out part at h refl (t .left) (k .out) in
     record {
       end = rw (k .machine) (t .end);
-      written = rw (k .machine, ← n, put .0, append-assoc (take at out) ws (allWords (answers (after m e) rest))) (t .written);
+      written = rw (k .machine, ← n, put .0, append-assoc (take at out) ws (wordsOfAnswers (answers (after m e) rest))) (t .written);
       left = rw (← n) (put .1);
     }
 
@@ -172,7 +172,7 @@ pub turned-through : (d : Drive) (sectors staging out₀ records : List ℕ) (co
     → i ≡ count → 13 * count ≤ length out
     → Turned (machine d sectors staging) (eventsIn count records) out₀ (machine d′ sectors′ staging′) (eventsIn (count - i) (drop (8 * i) records)) (13 * i) out
     → Gone d (eventsIn count records) sectors staging out₀ d′ sectors′ staging′ out
-unfolding final answers allWords eventsIn
+unfolding final answers wordsOfAnswers eventsIn
 turned-through d sectors staging out₀ records count i d′ sectors′ staging′ out e room t =
     let z : count - i ≡ 0 = omega arith in
     let u = rw z at t in

@@ -50,9 +50,9 @@ unfoldable pub answerWords : Answer → List ℕ
 answerWords answer = paperWords (paper answer)
 
 -- The words of answers one after another.
-unfoldable pub allWords : List Answer → List ℕ
-allWords [] = []
-allWords (answer ∷ answers) = answerWords answer ++ allWords answers
+unfoldable pub wordsOfAnswers : List Answer → List ℕ
+wordsOfAnswers [] = []
+wordsOfAnswers (answer ∷ answers) = answerWords answer ++ wordsOfAnswers answers
 
 -- ---- the answer that words tell
 

@@ -10,7 +10,7 @@ use Rattle.laws.specs.Lists.{writtenOver}
 use Rattle.parts.specs.declared.event.Event.{Event}
 use Rattle.drive.specs.Refusal.{row11, row10}
 use Rattle.drive.specs.Run.{Machine, machine, after, answerTo, answers, final}
-use Rattle.drive.specs.AnswerWords.{answerWords, allWords}
+use Rattle.drive.specs.AnswerWords.{answerWords, wordsOfAnswers}
 use Rattle.drive.specs.declared.drive.Drive.{Drive}
 
 -- "Records of 8 octets: tick (2, high first), port, kind, four argument octets". The tick is not the drive's.
@@ -57,4 +57,4 @@ pub record TurnTaken (m : Machine) (e : Event) (out₀ : List ℕ) (m′ : Machi
 -- After the events: the drive, the lent words, and the words of the answers at the front of a slice.
 pub record Gone (d : Drive) (events : List Event) (sectors₀ staging₀ out₀ : List ℕ) (r : Drive) (sectors₁ staging₁ out₁ : List ℕ) : Type 0 where
   pub end : machine r sectors₁ staging₁ ≡ final (machine d sectors₀ staging₀) events
-  pub out : out₁ ≡ writtenOver out₀ (allWords (answers (machine d sectors₀ staging₀) events))
+  pub out : out₁ ≡ writtenOver out₀ (wordsOfAnswers (answers (machine d sectors₀ staging₀) events))

@@ -15,7 +15,7 @@ use Rattle.parts.specs.declared.pending.Pending.{Pending}
 use Rattle.parts.specs.declared.event.Event.{Event}
 use Rattle.drive.specs.State.{pendingOn}
 use Rattle.drive.specs.Answer.{paper, refusalIn}
-use Rattle.drive.specs.AnswerWords.{answerWords, allWords, answerIn, answersIn}
+use Rattle.drive.specs.AnswerWords.{answerWords, wordsOfAnswers, answerIn, answersIn}
 use Rattle.drive.specs.EveryAnswer.{refusalNumbers}
 use Rattle.drive.specs.Frame.{AreOctets}
 use Rattle.drive.specs.Run.{Machine, answerTo, after, answers}
@@ -67,4 +67,4 @@ pub record AnswersBounded : Type 0 where
   -- The answer to an event is read back from its refusal and its 13 words, the answers of a run from their words.
   pub told-back : (s : Setup) (answer : Answer) → withinLimits s ≡ true → Bounded s answer → answerIn (refusalIn answer) (answerWords answer) ≡ answer
   pub all-told-back : (s : Setup) (told : List Answer) (rest : List ℕ) → withinLimits s ≡ true → AllBounded s told
-      → answersIn (length told) (allWords told ++ rest) ≡ told
+      → answersIn (length told) (wordsOfAnswers told ++ rest) ≡ told

@@ -6,6 +6,7 @@ use lib.Dec.{eqb}
 use lib.ListN.{take, drop, set, getD}
 use lib.Seq.{paste}
 use Rattle.laws.specs.Pick.{pick}
+use Rattle.laws.specs.Lists.{sameList}
 use Rattle.parts.specs.Setup.{sectorStart, sectorAt}
 use Rattle.parts.specs.Control.{verifiesHeader, movesHeader, namesField1, namesField2, part, wordsToCome, wordsRead}
 use Rattle.drive.specs.Answer.{normal, headerMiscompare}
@@ -19,17 +20,10 @@ use Rattle.drive.specs.declared.answer.Answer.the-variants.{Done, Status
 
 -- ---- a word from the host
 
--- Two runs of words are the same.
-unfoldable pub sameWords : List ℕ → List ℕ → Bool
-sameWords [] [] = true
-sameWords [] (y ∷ ys) = false
-sameWords (x ∷ xs) [] = false
-sameWords (x ∷ xs) (y ∷ ys) = eqb x y && sameWords xs ys
-
 -- "With verify, a header that differs ends the transfer at its last header word with 7": so many words are staged, just the header, and it differs.
 unfoldable pub miscompares : Setup → ℕ → ℕ → ℕ → List ℕ → List ℕ → Bool
 miscompares s c count start sectors staging =
-    verifiesHeader c && eqb count (s .header) && not (sameWords (take (s .header) staging) (take (s .header) (drop start sectors)))
+    verifiesHeader c && eqb count (s .header) && not (sameList (take (s .header) staging) (take (s .header) (drop start sectors)))
 
 -- "At the last word the named written fields go to the sector and nothing else does." A field's words were staged behind those that passed before it.
 unfoldable pub committed : Setup → ℕ → ℕ → List ℕ → List ℕ → List ℕ

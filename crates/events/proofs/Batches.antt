@@ -19,7 +19,7 @@ use Rattle.parts.specs.Setup.{sectorWords}
 use Rattle.parts.specs.declared.event.Event.{Event}
 use Rattle.drive.specs.Answer.{refusalIn}
 use Rattle.drive.specs.Refusal.{row11, row10}
-use Rattle.drive.specs.AnswerWords.{answerWords, allWords}
+use Rattle.drive.specs.AnswerWords.{answerWords, wordsOfAnswers}
 use Rattle.drive.specs.Run.{Machine, answerTo, after, answers, final}
 use Rattle.drive.specs.Batch.{eventOf, eventsIn, judgement, TurnTaken}
 use Rattle.drive.specs.declared.drive.Drive.{Drive}
@@ -156,7 +156,7 @@ going-ended telling count records state₀ sectors₀ staging₀ out₀ state se
 
 -- no event at all
 pub worked-none : (count : ℕ) (records state sectors staging out : List ℕ) → 18 ≤ length state → count ≡ 0 → Worked true count records state sectors staging out 0 state sectors staging out
-unfolding pick final answers allWords eventsIn
+unfolding pick final answers wordsOfAnswers eventsIn
 worked-none count records state sectors staging out h z = rw z (record { number = refl; state = sym (unmoved state h); sectors = refl; staging = refl; out = refl })
 
 -- ---- a state that rows 11 and 10 refuse
@@ -194,11 +194,11 @@ front-or-last n (suc count) =
 -- a machine that refuses every event stays, and tells so many refusals
 pub record AllRefused (m : Machine) (n count : ℕ) (records : List ℕ) : Type 0 where
   pub end : final m (eventsIn count records) ≡ m
-  pub words : allWords (answers m (eventsIn count records)) ≡ refusals n count
+  pub words : wordsOfAnswers (answers m (eventsIn count records)) ≡ refusals n count
 
 all-refused : (m : Machine) (n : ℕ) → ((e : Event) → answerTo m e ≡ Refused n) → ((e : Event) → after m e ≡ m) → (count : ℕ) (records : List ℕ)
     → AllRefused m n count records
-unfolding final answers allWords eventsIn refusals
+unfolding final answers wordsOfAnswers eventsIn refusals
 all-refused m n refuses stays zero records = record { end = refl; words = refl }
 all-refused m n refuses stays (suc count) records =
     let e = eventOf records in
@@ -207,7 +207,7 @@ all-refused m n refuses stays (suc count) records =
     let rest = all-refused m n refuses stays count (drop 8 records) in
     record {
       end = ap (λ (x : Machine). final x es) (stays e) ∙ rest .end;
-      words = ap (λ (a : Answer). answerWords a ++ allWords (answers (after m e) es)) (refuses e) ∙ ap (λ (x : Machine). ws ++ allWords (answers x es)) (stays e)
+      words = ap (λ (a : Answer). answerWords a ++ wordsOfAnswers (answers (after m e) es)) (refuses e) ∙ ap (λ (x : Machine). ws ++ wordsOfAnswers (answers x es)) (stays e)
           ∙ ap (λ (l : List ℕ). ws ++ l) (rest .words) ∙ sym (front-or-last n count);
     }
 

@@ -21,7 +21,7 @@ use Rattle.drive.specs.State.{Result}
 use Rattle.drive.specs.Refusal.{row11, row10, rows, refusalOf}
 use Rattle.drive.specs.Event.{refusedWith, handled}
 use Rattle.drive.specs.Run.{Machine, answerTo, after, answers, final}
-use Rattle.drive.specs.AnswerWords.{answerWords, allWords}
+use Rattle.drive.specs.AnswerWords.{answerWords, wordsOfAnswers}
 use Rattle.drive.specs.Batch.{eventOf, eventsIn, recordCount, batchRefusal}
 use Rattle.drive.specs.declared.answer.Answer.{Answer}
 use Rattle.drive.specs.declared.answer.Answer.the-variants.{Refused, Done, Status, Opened, Word, LastWord, Response}
@@ -102,7 +102,7 @@ left-by part m e (suc n) h = ap part (refused-changes-nothing m e (numbered-refu
 pub event-worked : (state : List ℕ) (e : Event) (sectors staging answer records : List ℕ) (r : ℕ) (state′ sectors′ staging′ answer′ : List ℕ)
     → 18 ≤ length state → 13 ≤ length answer → eventOf records ≡ e
     → Worked false 1 records state sectors staging answer r state′ sectors′ staging′ answer′ → EventOnWords state e sectors staging answer r state′ sectors′ staging′ answer′
-unfolding pick final answers allWords eventsIn
+unfolding pick final answers wordsOfAnswers eventsIn
 event-worked state e sectors staging answer records r state′ sectors′ staging′ answer′ long room z w =
     let m = machineIn state sectors staging in
     let k : r ≡ refusalIn (answerTo m e) = w .number ∙ ap (λ (x : Event). refusalIn (answerTo m x)) z in

@@ -7,7 +7,7 @@ use lib.ListN.{length}
 use Rattle.laws.specs.Rows.{Row, first, _when_, unlessRefused}
 use Rattle.laws.specs.Lists.{writtenOver}
 use Rattle.drive.specs.Run.{answers, final}
-use Rattle.drive.specs.AnswerWords.{allWords}
+use Rattle.drive.specs.AnswerWords.{wordsOfAnswers}
 use Rattle.drive.specs.Batch.{eventsOf, batchRows}
 use Rattle.events.specs.State.{stateAfter}
 use Rattle.events.specs.Event.{machineIn}
@@ -25,4 +25,4 @@ pub record RunOnWords (state₀ records sectors₀ staging₀ out₀ : List ℕ)
   pub state : state₁ ≡ unlessRefused r state₀ (stateAfter state₀ (final (machineIn state₀ sectors₀ staging₀) (eventsOf records) .drive))
   pub sectors : sectors₁ ≡ unlessRefused r sectors₀ (final (machineIn state₀ sectors₀ staging₀) (eventsOf records) .sectors)
   pub staging : staging₁ ≡ unlessRefused r staging₀ (final (machineIn state₀ sectors₀ staging₀) (eventsOf records) .staging)
-  pub out : out₁ ≡ unlessRefused r out₀ (writtenOver out₀ (allWords (answers (machineIn state₀ sectors₀ staging₀) (eventsOf records))))
+  pub out : out₁ ≡ unlessRefused r out₀ (writtenOver out₀ (wordsOfAnswers (answers (machineIn state₀ sectors₀ staging₀) (eventsOf records))))

@@ -12,7 +12,7 @@ use Rattle.drive.specs.Answer.{refusalIn}
 use Rattle.drive.specs.Refusal.{row11}
 use Rattle.drive.specs.Accepted.{isRefused}
 use Rattle.drive.specs.Run.{answerTo, after, answers, final}
-use Rattle.drive.specs.AnswerWords.{answerWords, allWords}
+use Rattle.drive.specs.AnswerWords.{answerWords, wordsOfAnswers}
 use Rattle.drive.specs.Batch.{eventOf, eventsIn}
 use Rattle.drive.specs.declared.answer.Answer.{Answer}
 use Rattle.drive.specs.declared.answer.Answer.the-variants.{Refused}
@@ -68,7 +68,7 @@ pub record Worked (telling : Bool) (count : ℕ) (records state₀ sectors₀ st
   pub state : state₁ ≡ stateAfter state₀ (final (machineIn state₀ sectors₀ staging₀) (eventsIn count records) .drive)
   pub sectors : sectors₁ ≡ final (machineIn state₀ sectors₀ staging₀) (eventsIn count records) .sectors
   pub staging : staging₁ ≡ final (machineIn state₀ sectors₀ staging₀) (eventsIn count records) .staging
-  pub out : out₁ ≡ unlessRefused r out₀ (writtenOver out₀ (allWords (answers (machineIn state₀ sectors₀ staging₀) (eventsIn count records))))
+  pub out : out₁ ≡ unlessRefused r out₀ (writtenOver out₀ (wordsOfAnswers (answers (machineIn state₀ sectors₀ staging₀) (eventsIn count records))))
 
 -- An event without room for its answer: 11, else 10, and nothing changed.
 pub record RefusedShort (state₀ sectors₀ : List ℕ) (r : ℕ) (state₁ sectors₁ : List ℕ) : Type 0 where

@@ -1,6 +1,6 @@
 -- Lists as tables and as lent slices.
 use Prim.Native.Nat.{ℕ, zero, suc, _+_}
-use mathlib.Core.Bool.{Bool, false, _||_}
+use mathlib.Core.Bool.{Bool, true, false, _&&_, _||_}
 use mathlib.Core.List.{List, [], _∷_, _++_}
 use lib.Dec.{eqb}
 use lib.ListN.{length, take, drop}
@@ -13,6 +13,13 @@ writtenOver list front = front ++ drop (length front) list
 -- The list with a part of it replaced, from an index on.
 abbrev pub writtenAt : {A : Type 0} → List A → ℕ → List A → List A
 writtenAt list at part = take at list ++ part ++ drop (at + length part) list
+
+-- Two lists are the same, element for element.
+abbrev pub sameList : List ℕ → List ℕ → Bool
+sameList [] [] = true
+sameList [] (y ∷ ys) = false
+sameList (x ∷ xs) [] = false
+sameList (x ∷ xs) (y ∷ ys) = eqb x y && sameList xs ys
 
 -- The values of a rule at `count` numbers one after another, from `start`.
 abbrev pub tableFrom : (ℕ → ℕ) → ℕ → ℕ → List ℕ

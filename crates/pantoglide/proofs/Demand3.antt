@@ -20,7 +20,7 @@ use Rattle.drive.specs.Refusal.{row10}
 use Rattle.drive.specs.Power.{atRest}
 use Rattle.drive.specs.Run.{Machine, machine, answerTo, after, answers, final}
 use Rattle.drive.specs.Accepted.{accepted}
-use Rattle.drive.specs.AnswerWords.{answerWords, allWords, answerIn, answersIn}
+use Rattle.drive.specs.AnswerWords.{answerWords, wordsOfAnswers, answerIn, answersIn}
 use Rattle.drive.specs.Batch.{eventsIn, eventsOf, recordCount}
 use Rattle.drive.specs.StaysSound.{IsSound}
 use Rattle.drive.specs.Bounded.{PendingOctets}
@@ -132,12 +132,12 @@ run-did {w} {w′} {records} {out} {out′} u call =
     let told = answers m events in
     let g = goes-along (w .state) (w .sectors) (w .staging) events (u .long) in
     let count = answer-count m events ∙ event-count (recordCount records) records in
-    let back = answers-bounded .all-told-back (m .drive .setup) told (drop (length (allWords told)) out) (limits-of w u) (answers-bounded .run m events (u .octets)) in
+    let back = answers-bounded .all-told-back (m .drive .setup) told (drop (length (wordsOfAnswers told)) out) (limits-of w u) (answers-bounded .run m events (u .octets)) in
     record {
       long = subst (λ (l : List ℕ). 18 ≤ length l) (sym (call .state)) (g .long);
       machine = λ i. machine ((ap driveIn (call .state) ∙ g .drive) i) (call .sectors i) (call .staging i);
       state = λ d. ap (λ (l : List ℕ). stateAfter l d) (call .state) ∙ g .again d;
-      answered = ap (answersIn (recordCount records)) (call .out) ∙ subst (λ (n : ℕ). answersIn n (allWords told ++ drop (length (allWords told)) out) ≡ told) count back;
+      answered = ap (answersIn (recordCount records)) (call .out) ∙ subst (λ (n : ℕ). answersIn n (wordsOfAnswers told ++ drop (length (wordsOfAnswers told)) out) ≡ told) count back;
     }
 
 -- ---- calls that are turned away leave all words

@@ -14,7 +14,7 @@ use Rattle.parts.specs.declared.event.Event.{Event}
 use Rattle.drive.specs.Answer.{refusalIn}
 use Rattle.drive.specs.Run.{Machine, machine, answerTo, after, answers, final}
 use Rattle.drive.specs.Batch.{eventsOf}
-use Rattle.drive.specs.AnswerWords.{answerWords, allWords}
+use Rattle.drive.specs.AnswerWords.{answerWords, wordsOfAnswers}
 use Rattle.drive.specs.declared.drive.Drive.{Drive}
 use Rattle.drive.proofs.Laws.{refused-changes-nothing}
 use Rattle.drive.proofs.Turns.{thirteen}
@@ -85,10 +85,10 @@ record Gone (w : Words) (events : List Event) (told₁ : List ℕ) (w′ : Words
   state : w′ .state ≡ stateAfter (w .state) (final (machineIn (w .state) (w .sectors) (w .staging)) events .drive)
   sectors : w′ .sectors ≡ final (machineIn (w .state) (w .sectors) (w .staging)) events .sectors
   staging : w′ .staging ≡ final (machineIn (w .state) (w .sectors) (w .staging)) events .staging
-  told : told₁ ≡ allWords (answers (machineIn (w .state) (w .sectors) (w .staging)) events)
+  told : told₁ ≡ wordsOfAnswers (answers (machineIn (w .state) (w .sectors) (w .staging)) events)
 
 gone : {w : Words} {events : List Event} {told : List ℕ} {w′ : Words} → 18 ≤ length (w .state) → Singles w events told w′ → Gone w events told w′
-unfolding final answers allWords
+unfolding final answers wordsOfAnswers
 gone {w} h none = record { state = sym (unmoved (w .state) h); sectors = refl; staging = refl; told = refl }
 gone h (one {r = r} {events = events} room call more) =
     let g = going r h room call in

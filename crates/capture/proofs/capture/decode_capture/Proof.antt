@@ -10,7 +10,8 @@ use borrow.Author.Tests.{lt-ltb, le-ltb, eq-eqb, ne-eqb}
 use Rattle.laws.specs.Pick.{pick}
 use Rattle.laws.specs.Rows.{first, _when_}
 use Rattle.laws.specs.Octets.{numberOf}
-use Rattle.capture.specs.Capture.{mark, sameOctets, hasMark, distanceOf, captureRefusal}
+use Rattle.laws.specs.Lists.{sameList}
+use Rattle.capture.specs.Capture.{mark, hasMark, distanceOf, captureRefusal}
 use Rattle.laws.proofs.Runs.{rest-whole}
 use borrow.Author.Needs.{needs}
 use Rattle.capture.proofs.Promised.{capture-decoded}
@@ -39,7 +40,7 @@ has-mark-requires c κs = search needs
 mark-read : (c : tie.After-has-mark) → c .has-mark .result ≡ hasMark (c .before .before .before .before .args .octets .now)
 mark-read c =
     let octets = c .before .before .before .before .args .octets .now in
-    c .has-mark .ensures ∙ ap (λ (trailer : List ℕ). sameOctets (drop 4 trailer) mark) (rest-whole octets (length octets - 8))
+    c .has-mark .ensures ∙ ap (λ (trailer : List ℕ). sameList (drop 4 trailer) mark) (rest-whole octets (length octets - 8))
 
 returns-2 : tie.Need-returns-2
 unfolding pick

@@ -9,7 +9,8 @@ use borrow.Author.Tests.{eq-eqb, ne-eqb, not-true, not-false}
 use lib.ListN.{getD, take, drop}
 use Rattle.parts.specs.Control.{verifiesHeader}
 use Rattle.parts.specs.declared.setup.Setup.{Setup}
-use Rattle.drive.specs.Transfer.{miscompares, sameWords}
+use Rattle.laws.specs.Lists.{sameList}
+use Rattle.drive.specs.Transfer.{miscompares}
 use Rattle.events.specs.State.{driveIn}
 use Rattle.events.proofs.Transfers.{has-room, placed}
 use denote.Ref.{now}
@@ -29,7 +30,7 @@ verified state b e t = sym e ∙ t
 
 -- with verify, at the last header word, the header decides
 compared : (s : Setup) (c count start : ℕ) (sectors staging : List ℕ) → verifiesHeader c ≡ true → count ≡ s .header
-    → miscompares s c count start sectors staging ≡ not (sameWords (take count staging) (take count (drop start sectors)))
+    → miscompares s c count start sectors staging ≡ not (sameList (take count staging) (take count (drop start sectors)))
 unfolding miscompares
 compared s c count start sectors staging v e = rw (v, ← e, eq-eqb count count refl)
 

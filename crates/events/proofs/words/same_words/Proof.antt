@@ -11,14 +11,13 @@ use denote.Ref.{now}
 use lib.Dec.{eqb}
 use lib.ListN.{length, take, drop, getD}
 use Rattle.laws.proofs.Windows.{cut}
-use Rattle.drive.specs.Transfer.{sameWords}
+use Rattle.laws.specs.Lists.{sameList}
 use Rattle.events.proofs.words.same_words.Statement.{statement}
 use Rattle.events.proofs.words.same_words.Tie as tie
 
 same-step : (a : List ℕ) (i : ℕ) (b : List ℕ) (k n j : ℕ) → j < n → i + n ≤ length a → k + n ≤ length b
-    → sameWords (take (n - j) (drop (i + j) a)) (take (n - j) (drop (k + j) b))
-    ≡ (eqb (getD a (i + j) 0) (getD b (k + j) 0) && sameWords (take (n - (j + 1)) (drop (i + (j + 1)) a)) (take (n - (j + 1)) (drop (k + (j + 1)) b)))
-unfolding sameWords
+    → sameList (take (n - j) (drop (i + j) a)) (take (n - j) (drop (k + j) b))
+    ≡ (eqb (getD a (i + j) 0) (getD b (k + j) 0) && sameList (take (n - (j + 1)) (drop (i + (j + 1)) a)) (take (n - (j + 1)) (drop (k + (j + 1)) b)))
 same-step a i b k n j h ha hb =
     let ea : i + (j + 1) ≡ i + j + 1 = omega arith in
     let eb : k + (j + 1) ≡ k + j + 1 = omega arith in
@@ -26,7 +25,7 @@ same-step a i b k n j h ha hb =
 
 abbrev Inv-loop : tie.InvT-loop
 Inv-loop a i b k n j₀ j =
-    (j ≤ n) × (sameWords (take n (drop i a)) (take n (drop k b)) ≡ sameWords (take (n - j) (drop (i + j) a)) (take (n - j) (drop (k + j) b)))
+    (j ≤ n) × (sameList (take n (drop i a)) (take n (drop k b)) ≡ sameList (take (n - j) (drop (i + j) a)) (take (n - j) (drop (k + j) b)))
 
 abbrev μ-loop : tie.MeasureT-loop
 μ-loop a i b k n j₀ j = n - j
@@ -78,7 +77,6 @@ loop-again c =
     (search needs, l .inv .1 ∙ s ∙ rw (eq-eqb _ _ (c .if1 .left)))
 
 returns-2 : tie.Need-returns-2 Inv-loop μ-loop
-unfolding sameWords
 returns-2 c =
     let l = c .before .loop in
     let a = c .before .before .args in
