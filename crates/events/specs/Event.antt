@@ -1,4 +1,4 @@
--- `pg_event`: one event on the words of a state. "A refused event changes nothing, the answer's words included."
+-- `answer_event`: one event on the words of a state. "A refused event changes nothing, the answer's words included."
 use Prim.Native.Nat.{ℕ}
 use mathlib.Core.Path.{_≡_}
 use mathlib.Core.Bool.{_||_}
@@ -35,7 +35,7 @@ eventRows state e sectors staging answer =
 abbrev pub eventRefusal : List ℕ → Event → List ℕ → List ℕ → List ℕ → ℕ
 eventRefusal state e sectors staging answer = first (eventRows state e sectors staging answer)
 
--- The promise of `pg_event`.
+-- The promise of `answer_event`.
 pub record EventOnWords (state₀ : List ℕ) (e : Event) (sectors₀ staging₀ answer₀ : List ℕ) (r : ℕ) (state₁ sectors₁ staging₁ answer₁ : List ℕ) : Type 0 where
   pub refusal : r ≡ eventRefusal state₀ e sectors₀ staging₀ answer₀
   pub state : state₁ ≡ unlessRefused r state₀ (stateAfter state₀ (after (machineIn state₀ sectors₀ staging₀) e .drive))

@@ -1,4 +1,4 @@
--- `power_up_words`: "0 and the state written, or 9, 10 and nothing changed".
+-- `power_up_words`: power-up on the words of a state.
 use Prim.Native.Nat.{ℕ}
 use mathlib.Core.Path.{_≡_}
 use mathlib.Core.Bool.{not}

@@ -1,4 +1,4 @@
--- The drive's state as 18 words of 16 bits.
+-- The drive's state as 18 words of 16 bits, in the order of `include/pantoglide.h`.
 use Prim.Native.Nat.{ℕ, _+_, _*_, _/_, _%_}
 use mathlib.Core.Bool.{Bool}
 use mathlib.Core.List.{List, [], _∷_, _++_}
@@ -16,7 +16,7 @@ use Rattle.drive.specs.State.{atPlace}
 use Rattle.drive.specs.Power.{setupOf}
 use Rattle.drive.specs.declared.drive.Drive.{Drive}
 
--- "9 hold (0 none, 1 plain, 2 strong)"
+-- Word 9: 0 none, 1 plain, 2 strong.
 unfoldable pub holdWord : Hold → ℕ
 holdWord None = 0
 holdWord Plain = 1
@@ -25,19 +25,18 @@ holdWord Strong = 2
 unfoldable pub holdOf : ℕ → Hold
 holdOf word = pick (eqb word 0) None (pick (eqb word 1) Plain Strong)
 
--- "16 pending of port 0 (octet 1 times 256 plus octet 2), 17 pending of port 1"
+-- Words 16 and 17, of port 0 and port 1: "response octet 1 times 256 plus octet 2".
 unfoldable pub pendingWord : Pending → ℕ
 pendingWord p = p .octet1 * 256 + p .octet2
 
 unfoldable pub pendingIn : ℕ → Pending
 pendingIn word = pendingOf (word / 256) (word % 256)
 
--- "0 cylinders, 1 heads, 2 sectors per track, 3 header, 4 field 1, 5 field 2, 6 address"
+-- Words 0 to 6.
 abbrev pub setupWords : Setup → List ℕ
 setupWords s = s .cylinders ∷ s .heads ∷ s .sectors ∷ s .header ∷ s .field1 ∷ s .field2 ∷ s .address ∷ []
 
--- "7 selected port (0, 1, 2 nobody), 8 owner (the same), 9 hold .., 10 cylinder, 11 head, 12 sector, 13 target, 14 control of the open transfer
--- (0 none), 15 words moved, 16 pending of port 0 .., 17 pending of port 1": the words that events change.
+-- Words 7 to 17, those that events change. Ports are 0, 1 and 2 for nobody; the control of no open transfer is 0.
 unfoldable pub movingWords : Drive → List ℕ
 movingWords d =
     d .holding .selected
@@ -77,7 +76,7 @@ driveIn state =
       pending1 = pendingIn (getD state 17 0);
     }
 
--- The state words with those that events change replaced, "State words beyond 18 .. are never changed."
+-- The state words with those that events change replaced; those beyond 18 stay.
 unfoldable pub movedTo : List ℕ → Drive → List ℕ
 movedTo state d = take 7 state ++ movingWords d ++ drop 18 state
 

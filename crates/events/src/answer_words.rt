@@ -14,7 +14,7 @@ pub(crate) const ANSWER_WORDS: usize = 13;
 
 const ABSENT: u16 = 0xFFFF;
 
-// The words of the answer. A refusal keeps quiet of itself unless it is to tell: then its number is handed back, and 0 in all other cases.
+// The words of the answer, and 0. A refusal that is not to tell writes nothing, and hands its number back.
 pub(crate) fn tell(answer: Answer, telling: bool, out: &mut [u16]) -> u8
     requires { ⌜ 13 ≤ length (now out) ⌝ }
     ensures { λ r. ⌜ Telling telling answer (now (out .entry)) r (now (out .exit)) ⌝ }
