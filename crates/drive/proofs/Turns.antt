@@ -16,10 +16,10 @@ use Rattle.parts.specs.declared.event.Event.{Event}
 use Rattle.drive.specs.Answer.{paper}
 use Rattle.drive.specs.Refusal.{row11, row10}
 use Rattle.drive.specs.Event.{handled, refusedWith}
-use Rattle.drive.specs.Able.{Passable}
+use Rattle.drive.specs.Able.{Passable, judgement, TurnTaken, Gone}
 use Rattle.drive.specs.Run.{Machine, machine, after, answerTo, answers, final}
 use Rattle.drive.specs.AnswerWords.{answerWords, wordsOfAnswers}
-use Rattle.drive.specs.Batch.{eventOf, eventsIn, recordCount, judgement, batchRefusal, TurnTaken, Gone}
+use Rattle.drive.specs.Batch.{eventOf, eventsIn, recordCount, batchRefusal}
 use Rattle.drive.specs.declared.drive.Drive.{Drive}
 use Rattle.drive.specs.declared.answer.Answer.{Answer}
 use Rattle.drive.specs.declared.answer.Answer.the-variants.{Refused, Done, Status, Opened, Word, LastWord, Response}

@@ -42,19 +42,3 @@ batchRows records out = 10 when ltb (length out) (13 * recordCount records) ∷ 
 
 abbrev pub batchRefusal : List ℕ → List ℕ → ℕ
 batchRefusal records out = first (batchRows records out)
-
--- ---- what a batch goes by
-
--- What rows 11 and 10 say of a state, 0 where both let it pass.
-unfoldable pub judgement : Drive → List ℕ → List ℕ → ℕ
-judgement d sectors staging = first (11 when row11 d ∷ 10 when row10 (d .setup) sectors staging ∷ [])
-
--- One of them: the machine after the event, and the words of its answer at the front of a slice.
-pub record TurnTaken (m : Machine) (e : Event) (out₀ : List ℕ) (m′ : Machine) (out₁ : List ℕ) : Type 0 where
-  pub machine : m′ ≡ after m e
-  pub out : out₁ ≡ writtenOver out₀ (answerWords (answerTo m e))
-
--- After the events: the drive, the lent words, and the words of the answers at the front of a slice.
-pub record Gone (d : Drive) (events : List Event) (sectors₀ staging₀ out₀ : List ℕ) (r : Drive) (sectors₁ staging₁ out₁ : List ℕ) : Type 0 where
-  pub end : machine r sectors₁ staging₁ ≡ final (machine d sectors₀ staging₀) events
-  pub out : out₁ ≡ writtenOver out₀ (wordsOfAnswers (answers (machine d sectors₀ staging₀) events))

@@ -10,7 +10,6 @@ pub mod Run
 pub mod AnswerWords
 pub mod Batch
 pub mod Cases
-pub mod Able
 pub mod EveryAnswer
 pub mod Exactly
 pub mod Accepted
@@ -30,3 +29,5 @@ pub mod Demand3Examples
 pub mod NeverDead
 pub mod WrongAnswers
 pub mod WrongRuns
+-- what the private functions of `events` go by: nothing that a reader of the rules needs
+pub mod Able

@@ -14,7 +14,7 @@ use Rattle.drive.specs.Refusal.{refusalOf}
 use Rattle.drive.specs.State.{Result}
 use Rattle.drive.specs.Event.{handled, refusedWith}
 use Rattle.drive.specs.Run.{Machine, answerTo, after}
-use Rattle.drive.specs.Batch.{judgement}
+use Rattle.drive.specs.Able.{judgement}
 use Rattle.drive.specs.declared.answer.Answer.{Answer}
 use Rattle.drive.specs.declared.answer.Answer.the-variants.{Refused}
 use Rattle.drive.proofs.Laws.{accepts, doneBy}

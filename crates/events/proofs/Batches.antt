@@ -21,7 +21,8 @@ use Rattle.drive.specs.Answer.{refusalIn}
 use Rattle.drive.specs.Refusal.{row11, row10}
 use Rattle.drive.specs.AnswerWords.{answerWords, wordsOfAnswers}
 use Rattle.drive.specs.Run.{Machine, answerTo, after, answers, final}
-use Rattle.drive.specs.Batch.{eventOf, eventsIn, judgement, TurnTaken}
+use Rattle.drive.specs.Batch.{eventOf, eventsIn}
+use Rattle.drive.specs.Able.{judgement, TurnTaken}
 use Rattle.drive.specs.declared.drive.Drive.{Drive}
 use Rattle.drive.specs.declared.answer.Answer.{Answer}
 use Rattle.drive.specs.declared.answer.Answer.the-variants.{Refused}

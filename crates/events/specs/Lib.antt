@@ -2,8 +2,9 @@ pub mod State
 pub mod Event
 pub mod Run
 pub mod Power
+pub mod Exactly
+pub mod WrongAnswers
+-- what the private functions go by: nothing that a reader of the rules needs
 pub mod Unsound
 pub mod Fit
 pub mod Turn
-pub mod Exactly
-pub mod WrongAnswers

@@ -1,4 +1,4 @@
--- `run_records`: "The records of a capture, one after another, without notes or trailer." 13 answer words each.
+-- `run_records`: "The records of a capture .. one after another, without notes or trailer." 13 answer words each.
 use Prim.Native.Nat.{ℕ}
 use mathlib.Core.Path.{_≡_}
 use mathlib.Core.List.{List, _∷_}

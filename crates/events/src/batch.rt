@@ -8,7 +8,8 @@ ghost use Prim.Native.Nat.{_*_, _≤_};
 ghost use mathlib.Core.Path.{_≡_};
 ghost use lib.ListN.{length};
 ghost use Rattle.laws.specs.Lists.{writtenOver};
-ghost use Rattle.drive.specs.Batch.{eventOf, judgement};
+ghost use Rattle.drive.specs.Batch.{eventOf};
+ghost use Rattle.drive.specs.Able.{judgement};
 ghost use Rattle.events.specs.State.{driveIn};
 ghost use Rattle.events.specs.Turn.{refusals, Lent, Worked};
 

@@ -7,7 +7,7 @@ ghost use Prim.Native.Nat.{_≤_};
 ghost use mathlib.Core.Path.{_≡_};
 ghost use lib.ListN.{length};
 ghost use Rattle.drive.specs.Refusal.{row11};
-ghost use Rattle.drive.specs.Batch.{judgement};
+ghost use Rattle.drive.specs.Able.{judgement};
 ghost use Rattle.events.specs.State.{driveIn};
 ghost use Rattle.events.specs.Unsound.{isMisheld, isMisopened, hasStray};
 

@@ -4,7 +4,7 @@ use mathlib.Core.Path.{sym, _∙_}
 use Rattle.laws.specs.Pick.{pick}
 use Rattle.parts.specs.Setup.{lacksRoom}
 use Rattle.drive.specs.Refusal.{row10}
-use Rattle.drive.specs.Batch.{judgement}
+use Rattle.drive.specs.Able.{judgement}
 use Rattle.drive.proofs.Sound.{sound}
 use borrow.Author.Needs.{needs}
 use Rattle.events.proofs.judge.judge.Statement.{statement}
