@@ -15,6 +15,7 @@ use Rattle.parts.specs.Control.{movesHeader, namesField1, namesField2, part}
 use Rattle.parts.specs.declared.setup.Setup.{Setup}
 use Rattle.drive.specs.Transfer.{committed}
 use Rattle.drive.specs.Able.{Room}
+use Rattle.events.specs.Copy as copy
 
 -- word k of those from `from` on goes behind the ones before it
 next-word : (d staging : List ℕ) (at from end k : ℕ) → from ≤ k → k < end → at + (end - from) ≤ length d → end ≤ length staging
@@ -27,13 +28,14 @@ next-word d staging at from end k f h room stage =
     ∙ ap (λ (n : ℕ). paste d at (drop from staging) n) next
 
 module _ (d staging : List ℕ) (start first header fields : ℕ) where
-  -- the header's words before k are in the sector, from the first that is written
   abbrev headed : ℕ → List ℕ
-  headed k = paste d (start + first) (drop first staging) (k - first)
+  headed k = copy.headed d staging start first k
 
-  -- and so many of the fields' from their place on
   abbrev fielded : ℕ → List ℕ
-  fielded n = paste (headed header) fields (drop header staging) n
+  fielded n = copy.fielded d staging start first header fields n
+
+  abbrev Within : ℕ → Type 0
+  Within count = copy.Within d staging start first header fields count
 
   -- Word k is the next, and this its place, but that the first word of the fields still has to go to theirs.
   abbrev pub Committing : ℕ → ℕ → List ℕ → Type 0
@@ -47,14 +49,6 @@ module _ (d staging : List ℕ) (start first header fields : ℕ) where
   -- a turn that goes to the fields' place, or not
   abbrev pub Turned : Type 0 → Type 0 → ℕ → ℕ → Type 0
   Turned Goes Not at at′ = ((g : Goes) × (at′ ≡ fields)) ⊎ ((n : Not) × (at′ ≡ at))
-
-  -- so many words are staged, and the sector has room for them
-  pub record Within (count : ℕ) : Type 0 where
-    pub sector : start + header ≤ length d
-    pub room : fields + (count - header) ≤ length d
-    pub stage : count ≤ length staging
-    pub from : first ≤ header
-    pub headers : header ≤ count
 
   pub place-within : {Goes Not : Type 0} (k at at′ count : ℕ) (l : List ℕ) → (Goes → k ≡ header) → (Not → k ≡ header → ⊥) → k < count → Committing k at l
       → Turned Goes Not at at′ → Within count → at′ < length d

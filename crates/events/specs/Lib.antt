@@ -8,3 +8,4 @@ pub mod WrongAnswers
 pub mod Unsound
 pub mod Fit
 pub mod Turn
+pub mod Copy

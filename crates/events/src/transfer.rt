@@ -10,7 +10,7 @@ use crate::words;
 use drive::Answer;
 use parts::Event;
 use parts::Setup;
-ghost use Prim.Native.Nat.{_<_};
+ghost use Prim.Native.Nat.{_-_, _<_};
 ghost use mathlib.Core.Path.{_≡_};
 ghost use mathlib.Core.Bool.{true};
 ghost use Rattle.parts.specs.Setup.{sectorStart};
@@ -20,6 +20,7 @@ ghost use Rattle.drive.specs.Transfer.{miscompares, committed, staged, wordStag
 ghost use Rattle.drive.specs.Able.{Able, Room, ReadsAt, unlessOwnRow, unlessOwnRowIn};
 ghost use Rattle.events.specs.State.{driveIn};
 ghost use Rattle.events.specs.Fit.{Fits, Did, DidIn};
+ghost use Rattle.events.specs.Copy.{fielded, Within};
 
 // ---- words from the host
 
@@ -87,7 +88,7 @@ fn header_miscompares(state: &[u16], count: usize, sectors: &[u16], staging: &[u
 }
 
 // The named written fields go from the staging words to the sector. They stand one behind the other in both, but that the sector has field 1 even
-// where it is not named. One loop: of a copy for each field the compiler makes vectors, and prepares them at every event.
+// where it is not named.
 fn commit(setup: Setup, control: u16, start: usize, sectors: &mut [u16], staging: &[u16])
     requires { ⌜ Room setup start (now sectors) (now staging) ⌝ }
     ensures { λ _. ⌜ now (sectors .exit) ≡ committed setup control start (now (sectors .entry)) (now (staging .entry)) ⌝ }
@@ -96,9 +97,34 @@ fn commit(setup: Setup, control: u16, start: usize, sectors: &mut [u16], staging
     let field1 = parts::part_of(parts::names_field1(control), setup.field1);
     let field2 = parts::part_of(parts::names_field2(control), setup.field2);
     let fields_at = start + header + setup.field1 as usize - field1;
-    let count = header + field1 + field2;
-    let mut k = header - parts::part_of(parts::moves_header(control), setup.header);
-    let mut at = start + k;
+    let first = header - parts::part_of(parts::moves_header(control), setup.header);
+    copy(
+        sectors,
+        staging,
+        start,
+        first,
+        header,
+        fields_at,
+        header + field1 + field2,
+    );
+}
+
+// Words from the first one on, those behind the header to the fields' place. One loop: of a copy for each field the compiler makes vectors, and
+// prepares them at every event.
+fn copy(
+    sectors: &mut [u16],
+    staging: &[u16],
+    start: usize,
+    first: usize,
+    header: usize,
+    fields_at: usize,
+    count: usize,
+)
+    requires { ⌜ Within (now sectors) (now staging) start first header «fields_at» count ⌝ }
+    ensures { λ _. ⌜ now (sectors .exit) ≡ fielded (now (sectors .entry)) (now (staging .entry)) start first header «fields_at» (count - header) ⌝ }
+{
+    let mut k = first;
+    let mut at = start + first;
     while k < count {
         if k == header {
             at = fields_at;
