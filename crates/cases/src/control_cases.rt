@@ -13,6 +13,7 @@ use crate::row::POSITION;
 use crate::row::READ_STATUS;
 use crate::row::REFUSED;
 use crate::row::RESPONSE;
+use crate::row::SECTOR;
 use crate::row::SELECT;
 use crate::row::STATUS;
 use crate::row::STORED;
@@ -43,10 +44,10 @@ the bits of octet 2 add up until read\n",
     )
 }
 
-const CASES: [u64; 194] = [
+const CASES: [u64; 196] = [
     // power-up: at rest
-    ENDS + 0x00_00_00,
-    OWNED_BY_NOBODY,
+    ENDS,
+    OWNED_BY_NOBODY + 0x0000_0000_0000,
     // 8C with target FFFF
     // "8C with target FFFF: 8, response 20 00 10."
     SELECT + 0x30_00_00_00,
@@ -55,8 +56,8 @@ const CASES: [u64; 194] = [
     STATUS + 8,
     READ_STATUS,
     RESPONSE + 0x20_00_10,
-    ENDS + 0x00_00_00,
-    OWNED_BY_0,
+    ENDS,
+    OWNED_BY_0 + 0x0000_0000_0000,
     // Step Head from head 1: head 0
     // "Step Head from head 1: head 0."
     SELECT + 0x30_00_00_00,
@@ -65,8 +66,8 @@ const CASES: [u64; 194] = [
     STATUS + 0,
     DATA_CONTROL + 0x90_00_00_00,
     STATUS + 0,
-    ENDS + 0x01_00_02,
-    OWNED_BY_0,
+    ENDS,
+    OWNED_BY_0 + 0x0001_0000_0002,
     // Position 2/0/0
     // "Position 2/0/0: 8, response 20 00 40."
     SELECT + 0x30_00_00_00,
@@ -75,8 +76,8 @@ const CASES: [u64; 194] = [
     STATUS + 8,
     READ_STATUS,
     RESPONSE + 0x20_00_40,
-    ENDS + 0x00_00_00,
-    OWNED_BY_0,
+    ENDS,
+    OWNED_BY_0 + 0x0000_0000_0000,
     // Step Head from head 0: head 1
     SELECT + 0x30_00_00_00,
     DONE,
@@ -84,8 +85,8 @@ const CASES: [u64; 194] = [
     STATUS + 0,
     DATA_CONTROL + 0x90_00_00_00,
     STATUS + 0,
-    ENDS + 0x01_01_02,
-    OWNED_BY_0,
+    ENDS,
+    OWNED_BY_0 + 0x0001_0001_0002,
     // Target 3, and back to FFFF
     // A target outside the drive leaves the one that was set.
     SELECT + 0x30_00_00_00,
@@ -104,8 +105,8 @@ const CASES: [u64; 194] = [
     STATUS + 0,
     DATA_CONTROL + 0xCC_00_00_00,
     STATUS + 8,
-    ENDS + 0x00_00_00,
-    OWNED_BY_0,
+    ENDS,
+    OWNED_BY_0 + 0x0000_0000_0000,
     // write at the target, twice
     // The target becomes the position, and stays the target.
     SELECT + 0x30_00_00_00,
@@ -126,12 +127,14 @@ const CASES: [u64; 194] = [
     OPENED + 0x01_00_00_02,
     WORD_FROM_HOST + 0x0009_0000,
     STATUS + 0,
-    EXPECTS + 2,
+    EXPECTS + SECTOR * 2,
     0x0009_00AA_00BB_00CC,
-    ENDS + 0x00_00_00,
-    OWNED_BY_0,
+    ENDS,
+    OWNED_BY_0 + 0x0000_0000_0000,
     // read at the target
-    STORED + 10,
+    STORED + SECTOR * 10,
+    0x0007_00AA_00BB_00CC,
+    EXPECTS + SECTOR * 10,
     0x0007_00AA_00BB_00CC,
     SELECT + 0x30_00_00_00,
     DONE,
@@ -149,8 +152,8 @@ const CASES: [u64; 194] = [
     WORD + 0x00BB,
     TAKE,
     LAST_WORD + 0x00CC,
-    ENDS + 0x01_01_02,
-    OWNED_BY_0,
+    ENDS,
+    OWNED_BY_0 + 0x0001_0001_0002,
     // C0, C4 and D4: no words to come
     // "No words to come: it ends at once, with status 0 alone", and the sector becomes the next.
     SELECT + 0x30_00_00_00,
@@ -167,8 +170,8 @@ const CASES: [u64; 194] = [
     STATUS + 0,
     DATA_CONTROL + 0xD4_00_00_00,
     STATUS + 0,
-    ENDS + 0x00_00_01,
-    OWNED_BY_0,
+    ENDS,
+    OWNED_BY_0 + 0x0000_0000_0001,
     // 9B and DB do what 8B and CB do
     // "bit 4 changes nothing except that 90 is Step Head .. and D0 is reserved"
     SELECT + 0x30_00_00_00,
@@ -195,10 +198,10 @@ const CASES: [u64; 194] = [
     WORD + 0x00BB,
     TAKE,
     LAST_WORD + 0x00CC,
-    EXPECTS + 0,
+    EXPECTS + SECTOR * 0,
     0x0007_00AA_00BB_00CC,
-    ENDS + 0x00_00_01,
-    OWNED_BY_0,
+    ENDS,
+    OWNED_BY_0 + 0x0000_0000_0001,
     // D0 and controls outside 80-9F and C0-DF
     // "D0 and controls outside 80–9F and C0–DF: bit 7."
     SELECT + 0x30_00_00_00,
@@ -223,8 +226,8 @@ const CASES: [u64; 194] = [
     RESPONSE + 0x20_00_80,
     READ_STATUS,
     RESPONSE + 0x00_00_00,
-    ENDS + 0x00_00_00,
-    OWNED_BY_0,
+    ENDS,
+    OWNED_BY_0 + 0x0000_0000_0000,
     // 80-83 and 91-93
     // "80–83 and 91–93: bit 5."
     SELECT + 0x30_00_00_00,
@@ -241,8 +244,8 @@ const CASES: [u64; 194] = [
     STATUS + 8,
     READ_STATUS,
     RESPONSE + 0x20_00_20,
-    ENDS + 0x00_00_00,
-    OWNED_BY_0,
+    ENDS,
+    OWNED_BY_0 + 0x0000_0000_0000,
     // the bits of octet 2 add up until read
     SELECT + 0x30_00_00_00,
     DONE,
@@ -258,6 +261,6 @@ const CASES: [u64; 194] = [
     STATUS + 8,
     READ_STATUS,
     RESPONSE + 0x20_00_F0,
-    ENDS + 0x00_00_00,
-    OWNED_BY_0,
+    ENDS,
+    OWNED_BY_0 + 0x0000_0000_0000,
 ];

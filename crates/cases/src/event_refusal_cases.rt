@@ -21,6 +21,7 @@ use crate::row::POSITION;
 use crate::row::READ_STATUS;
 use crate::row::REFUSED;
 use crate::row::RESET;
+use crate::row::SECTOR;
 use crate::row::SELECT;
 use crate::row::STATUS;
 use crate::row::TAKE;
@@ -57,8 +58,8 @@ const CASES: [u64; 160] = [
     REFUSED + 1,
     PORT_2 + KIND_0 + 0x01_01_01_01,
     REFUSED + 1,
-    ENDS + 0x00_00_00,
-    OWNED_BY_NOBODY,
+    ENDS,
+    OWNED_BY_NOBODY + 0x0000_0000_0000,
     // refusal 2: kinds 2 to 9, port not selected
     // Tested before 7, and after 8.
     SELECT + 0x30_00_00_00,
@@ -85,8 +86,8 @@ const CASES: [u64; 160] = [
     REFUSED + 8,
     TAKE,
     WORD + 0x0000,
-    ENDS + 0x00_00_00,
-    OWNED_BY_0,
+    ENDS,
+    OWNED_BY_0 + 0x0000_0000_0000,
     // refusal 3: already selected
     // Tested before 4 and 5.
     SELECT + 0x30_00_00_00,
@@ -97,8 +98,8 @@ const CASES: [u64; 160] = [
     REFUSED + 3,
     SELECT + 0xCC_00_00_00,
     REFUSED + 3,
-    ENDS + 0x00_00_00,
-    OWNED_BY_0,
+    ENDS,
+    OWNED_BY_0 + 0x0000_0000_0000,
     // refusal 4: another address
     // Tested before 5 and 6.
     SELECT + 0x40_00_00_00,
@@ -113,8 +114,8 @@ const CASES: [u64; 160] = [
     DONE,
     SELECT + 0x40_00_00_00,
     REFUSED + 4,
-    ENDS + 0x00_00_00,
-    OWNED_BY_1,
+    ENDS,
+    OWNED_BY_1 + 0x0000_0000_0000,
     // refusal 5: another mode
     // Tested before 6.
     SELECT + 0x38_00_00_00,
@@ -125,8 +126,8 @@ const CASES: [u64; 160] = [
     DONE,
     SELECT + 0x38_00_00_00,
     REFUSED + 5,
-    ENDS + 0x00_00_00,
-    OWNED_BY_1,
+    ENDS,
+    OWNED_BY_1 + 0x0000_0000_0000,
     // refusal 6: busy
     // "none, granted only with bit 0"
     SELECT + 0x30_00_00_00,
@@ -137,8 +138,8 @@ const CASES: [u64; 160] = [
     REFUSED + 6,
     PORT_1 + SELECT + 0x31_00_00_00,
     DONE,
-    ENDS + 0x00_00_00,
-    OWNED_BY_1,
+    ENDS,
+    OWNED_BY_1 + 0x0000_0000_0000,
     // refusal 7: no transfer open
     SELECT + 0x30_00_00_00,
     DONE,
@@ -148,8 +149,8 @@ const CASES: [u64; 160] = [
     REFUSED + 7,
     END,
     REFUSED + 7,
-    ENDS + 0x00_00_00,
-    OWNED_BY_0,
+    ENDS,
+    OWNED_BY_0 + 0x0000_0000_0000,
     // refusal 7: a write open
     // "2, 3, 7, 8 or 9 with one open"
     SELECT + 0x30_00_00_00,
@@ -170,10 +171,10 @@ const CASES: [u64; 160] = [
     REFUSED + 7,
     WORD_FROM_HOST + 0x0007_0000,
     STATUS + 0,
-    EXPECTS + 0,
+    EXPECTS + SECTOR * 0,
     0x0007_0000_0000_0000,
-    ENDS + 0x00_00_01,
-    OWNED_BY_0,
+    ENDS,
+    OWNED_BY_0 + 0x0000_0000_0001,
     // refusal 7: a read open
     // "2, 3, 7, 8 or 9 with one open"
     SELECT + 0x30_00_00_00,
@@ -194,8 +195,8 @@ const CASES: [u64; 160] = [
     REFUSED + 7,
     TAKE,
     LAST_WORD + 0x0000,
-    ENDS + 0x00_00_01,
-    OWNED_BY_0,
+    ENDS,
+    OWNED_BY_0 + 0x0000_0000_0001,
     // refusal 8: no such kind
     KIND_0,
     REFUSED + 8,
@@ -203,8 +204,8 @@ const CASES: [u64; 160] = [
     REFUSED + 8,
     KIND_255 + 0x30_00_00_00,
     REFUSED + 8,
-    ENDS + 0x00_00_00,
-    OWNED_BY_NOBODY,
+    ENDS,
+    OWNED_BY_NOBODY + 0x0000_0000_0000,
     // refusal 8: an unused argument octet
     // "kinds 1 and 3 use one, 4 and 8 two, 7 all four .., the others none"
     SELECT + 0x30_01_00_00,
@@ -227,6 +228,6 @@ const CASES: [u64; 160] = [
     REFUSED + 8,
     RESET + 0x01_00_00_00,
     REFUSED + 8,
-    ENDS + 0x00_00_00,
-    OWNED_BY_NOBODY,
+    ENDS,
+    OWNED_BY_NOBODY + 0x0000_0000_0000,
 ];

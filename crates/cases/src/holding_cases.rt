@@ -44,8 +44,8 @@ const CASES: [u64; 176] = [
     DONE,
     DESELECT,
     DONE,
-    ENDS + 0x00_00_00,
-    OWNED_BY_NOBODY,
+    ENDS,
+    OWNED_BY_NOBODY + 0x0000_0000_0000,
     // a plain hold stands against bit 0 or bit 1 alone
     SELECT + 0x32_00_00_00,
     DONE,
@@ -57,8 +57,8 @@ const CASES: [u64; 176] = [
     REFUSED + 6,
     PORT_1 + SELECT + 0x32_00_00_00,
     REFUSED + 6,
-    ENDS + 0x00_00_00,
-    OWNED_BY_0,
+    ENDS,
+    OWNED_BY_0 + 0x0000_0000_0000,
     // takeover of a plain hold with a write open
     // "its selection, hold and open transfer are gone"; "Takeover leaves the position."
     SELECT + 0x32_00_00_00,
@@ -83,8 +83,8 @@ const CASES: [u64; 176] = [
     DONE,
     SELECT + 0x33_00_00_00,
     REFUSED + 6,
-    ENDS + 0x01_01_01,
-    OWNED_BY_1,
+    ENDS,
+    OWNED_BY_1 + 0x0001_0001_0001,
     // a strong hold stands, and a plain one replaces it
     // "replacing an older hold by the same port"
     SELECT + 0x33_00_00_00,
@@ -103,8 +103,8 @@ const CASES: [u64; 176] = [
     REFUSED + 6,
     PORT_1 + SELECT + 0x33_00_00_00,
     DONE,
-    ENDS + 0x00_00_00,
-    OWNED_BY_1,
+    ENDS,
+    OWNED_BY_1 + 0x0000_0000_0000,
     // a selection without bit 1 gives the hold up
     SELECT + 0x33_00_00_00,
     DONE,
@@ -116,8 +116,8 @@ const CASES: [u64; 176] = [
     DONE,
     PORT_1 + SELECT + 0x30_00_00_00,
     DONE,
-    ENDS + 0x00_00_00,
-    OWNED_BY_1,
+    ENDS,
+    OWNED_BY_1 + 0x0000_0000_0000,
     // the loser's notice stays until it is read
     // "any pending bit in response octet 1 gives C and changes nothing"
     SELECT + 0x30_00_00_00,
@@ -144,8 +144,8 @@ const CASES: [u64; 176] = [
     RESPONSE + 0x40_40_00,
     DATA_CONTROL + 0xC1_00_00_00,
     OPENED + 0x02_00_00_00,
-    ENDS + 0x00_00_00,
-    OWNED_BY_0,
+    ENDS,
+    OWNED_BY_0 + 0x0000_0000_0000,
     // reset from the unselected port
     // "nobody selected, no hold, no transfer, position 0/0/0, target FFFF"
     SELECT + 0x33_00_00_00,
@@ -168,8 +168,8 @@ const CASES: [u64; 176] = [
     RESPONSE + 0x40_80_00,
     PORT_1 + DATA_CONTROL + 0x8C_00_00_00,
     STATUS + 8,
-    ENDS + 0x00_00_00,
-    OWNED_BY_1,
+    ENDS,
+    OWNED_BY_1 + 0x0000_0000_0000,
     // pending on both ports, read by each
     // "Read status answers 0 with the octets and clears that port's"
     RESET,
@@ -198,8 +198,8 @@ const CASES: [u64; 176] = [
     DONE,
     READ_STATUS,
     RESPONSE + 0x20_00_20,
-    ENDS + 0x00_00_00,
-    OWNED_BY_0,
+    ENDS,
+    OWNED_BY_0 + 0x0000_0000_0000,
     // a bad request and a takeover pending together
     // "Octet 0: bit 6 if octet 1 is not zero, bit 5 if octet 2 is not zero."
     PORT_1 + SELECT + 0x30_00_00_00,
@@ -214,8 +214,8 @@ const CASES: [u64; 176] = [
     DONE,
     PORT_1 + READ_STATUS,
     RESPONSE + 0x60_40_80,
-    ENDS + 0x00_00_00,
-    OWNED_BY_1,
+    ENDS,
+    OWNED_BY_1 + 0x0000_0000_0000,
     // after a reset exactly Reset Complete is pending
     SELECT + 0x30_00_00_00,
     DONE,
@@ -229,6 +229,6 @@ const CASES: [u64; 176] = [
     DONE,
     READ_STATUS,
     RESPONSE + 0x40_80_00,
-    ENDS + 0x00_00_00,
-    OWNED_BY_0,
+    ENDS,
+    OWNED_BY_0 + 0x0000_0000_0000,
 ];

@@ -11,10 +11,7 @@ use crate::watch::HAS_HISTORY;
 use crate::watch::IS_LOST;
 use crate::watch::LOST;
 use crate::watch::NOW_IDLE;
-use crate::watch::PAIR_LISTED;
-use crate::watch::PAIR_REFUSED;
-use crate::watch::PAIR_UNDEFINED;
-use crate::watch::REFUSED;
+use crate::watch::PAIR;
 use crate::watch::SAME;
 use crate::watch::UNDEFINED;
 
@@ -53,18 +50,19 @@ pub(crate) fn run(tally: Tally) -> Tally {
 a repeated setting keeps the history\n\
 lost until 0\n\
 refusal 8: a setting over 31\n\
-refusal 11: a follower no trace reaches\n",
+refusal 11: a follower no trace reaches\n\
+moves there, and not back\n",
         &CASES,
     )
 }
 
-const CASES: [u64; 72] = [
+const CASES: [u64; 78] = [
     // 25 to 24 is undefined
     SELECT + CONTROLLERS,
     SLAVACK + DRIVES,
     BUSCTL + CONTROLLERS,
     SLAVACK + UNDEFINED,
-    FROM * BUSCTL + SLAVACK + PAIR_UNDEFINED,
+    PAIR + FROM * BUSCTL + SLAVACK + UNDEFINED,
     ENDS,
     // 28 to 24 is undefined
     SELECT + CONTROLLERS,
@@ -75,13 +73,13 @@ const CASES: [u64; 72] = [
     SLAVACK + DRIVES,
     XFRRDY + CONTROLLERS,
     SLAVACK + UNDEFINED,
-    FROM * XFRRDY + SLAVACK + PAIR_UNDEFINED,
+    PAIR + FROM * XFRRDY + SLAVACK + UNDEFINED,
     ENDS,
     // 24 to 28 straight after selection: the pair is listed, only its history is missing.
     SELECT + CONTROLLERS,
     SLAVACK + DRIVES,
     XFRRDY + UNDEFINED,
-    FROM * SLAVACK + XFRRDY + PAIR_LISTED,
+    PAIR + FROM * SLAVACK + XFRRDY + CONTROLLERS,
     ENDS,
     // 16 to 0: one word passes, and SELECT comes from SLAVEND. IDLE from there is undefined, but the follower is IDLE.
     SELECT + CONTROLLERS,
@@ -121,22 +119,29 @@ const CASES: [u64; 72] = [
     IDLE + SAME,
     ENDS,
     // a setting over 31
-    32 + REFUSED + 8 * BY,
-    255 + REFUSED + 8 * BY,
+    32 + 8 * BY,
+    255 + 8 * BY,
     SELECT + CONTROLLERS,
     SLAVACK + DRIVES,
-    FROM * 32 + 0 + PAIR_REFUSED + 8 * BY,
-    FROM * 0 + 32 + PAIR_REFUSED + 8 * BY,
+    PAIR + FROM * 32 + 0 + 8 * BY,
+    PAIR + FROM * 0 + 32 + 8 * BY,
     ENDS,
     // a follower no trace reaches: 11 is tested before 8.
     HANDED + 2,
-    IDLE + REFUSED + 11 * BY,
-    32 + REFUSED + 11 * BY,
+    IDLE + 11 * BY,
+    32 + 11 * BY,
     HANDED + HAS_HISTORY + DESEL,
-    IDLE + REFUSED + 11 * BY,
-    32 + REFUSED + 11 * BY,
+    IDLE + 11 * BY,
+    32 + 11 * BY,
     HANDED + IS_LOST + 1,
-    IDLE + REFUSED + 11 * BY,
-    32 + REFUSED + 11 * BY,
+    IDLE + 11 * BY,
+    32 + 11 * BY,
+    ENDS,
+    // moves there, and not back
+    PAIR + FROM * SLAVACK + BUSCTL + CONTROLLERS,
+    PAIR + FROM * BUSCTL + SLAVACK + UNDEFINED,
+    PAIR + FROM * BUSCTL + BUSACK + DRIVES,
+    PAIR + FROM * BUSACK + BUSCTL + UNDEFINED,
+    PAIR + FROM * BUSACK + BUSACK + SAME,
     ENDS,
 ];

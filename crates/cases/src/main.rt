@@ -1,13 +1,15 @@
 // Runs the bench cases of document 01 that are not marked P, and further ones, through the public calls, and compares.
 mod bench;
+mod by_place;
+mod calls;
 mod capture_cases;
-mod compare;
 mod control_cases;
-mod decoders;
+mod event;
 mod event_refusal_cases;
-mod handed;
 mod holding_cases;
 mod line_cases;
+mod octets;
+mod power;
 mod row;
 mod setup_cases;
 mod state_cases;
@@ -15,6 +17,7 @@ mod status_cases;
 mod tally;
 mod transfer_cases;
 mod watch;
+mod words;
 
 use tally::Tally;
 
@@ -27,5 +30,6 @@ fn main() {
     let setups = setup_cases::run(event_refusals);
     let states = state_cases::run(setups);
     let statuses = status_cases::run(states);
-    capture_cases::run(statuses).told();
+    let captures = capture_cases::run(statuses);
+    by_place::run(captures).told();
 }

@@ -1,12 +1,11 @@
 // A row of a case is two numbers: what is done, and what must come of it.
-//   STORED + sector, the words        before the events, the sector holds header, field 1, field 2
-//   event, answer                     the event gets the answer
-//   HANDED_.. + part, SOUND/UNSOUND   the drive is now the one at rest, but for this part
-//   EXPECTS + sector, the words       after the events, the sector holds header, field 1, field 2
-//   ENDS + place, owner               where the drive is, and whose; this row ends the case
-use drive::Answer;
-use parts::Event;
-use parts::Place;
+//   event, answer                 the event gets the answer
+//   STORED + index, the words     four sector words from the index on are now these
+//   EXPECTS + index, the words    at the end, four sector words from the index on are these; those not named are zero
+//   STATE + index, the words      four words of the state from the index on are now these
+//   AT_REST, 0                    the state is that of the bench drive at rest
+//   POWER_UP, refusal             power-up with the first seven words of the state as its numbers; 0 for no refusal
+//   ENDS, owner + place           whose the drive is, and where it is; this row ends the case
 
 // An event: PORT + KIND + four argument octets, as in a record of a capture. Words stand high octet first.
 pub(crate) const PORT_1: u64 = 0x01_00_00000000;
@@ -42,29 +41,34 @@ pub(crate) const KIND_11: u64 = 0x0B_00000000;
 
 pub(crate) const KIND_255: u64 = 0xFF_00000000;
 
-// What is done, if not an event.
-pub(crate) const EVENT: u64 = 0;
-
+// What is done, if not an event: the second octet tells.
 pub(crate) const STORED: u64 = 0x01_00_00_00000000;
 
 pub(crate) const EXPECTS: u64 = 0x02_00_00_00000000;
 
-// Cylinder, head and sector, an octet each.
-pub(crate) const ENDS: u64 = 0x03_00_00_00000000;
+pub(crate) const STATE: u64 = 0x03_00_00_00000000;
 
-pub(crate) const HANDED_HEADS: u64 = 0x04_00_00_00000000;
+pub(crate) const AT_REST: u64 = 0x04_00_00_00000000;
 
-// Cylinder, head and sector, an octet each.
-pub(crate) const HANDED_PLACE: u64 = 0x05_00_00_00000000;
+pub(crate) const POWER_UP: u64 = 0x05_00_00_00000000;
 
-// A word.
-pub(crate) const HANDED_TARGET: u64 = 0x06_00_00_00000000;
+pub(crate) const ENDS: u64 = 0x06_00_00_00000000;
 
-// Selected, owner, hold (0, 1 plain, 2 strong), control and words moved, an octet each.
-pub(crate) const HANDED_HOLDING: u64 = 0x07_00_00_00000000;
+// Sectors of four words follow by sector, then head, then cylinder.
+pub(crate) const SECTOR: u64 = 4;
 
-// Octets 1 and 2, pending on port 1.
-pub(crate) const HANDED_PENDING: u64 = 0x08_00_00_00000000;
+// The same as octets.
+pub(crate) const IS_EVENT: u8 = 0;
+
+pub(crate) const IS_STORED: u8 = 1;
+
+pub(crate) const IS_EXPECTS: u8 = 2;
+
+pub(crate) const IS_STATE: u8 = 3;
+
+pub(crate) const IS_AT_REST: u8 = 4;
+
+pub(crate) const IS_POWER_UP: u8 = 5;
 
 // The answers.
 pub(crate) const DONE: u64 = 0;
@@ -87,83 +91,9 @@ pub(crate) const LAST_WORD: u64 = 0x05_00000000;
 // Octets 0, 1 and 2, with status 0.
 pub(crate) const RESPONSE: u64 = 0x06_00000000;
 
-// What must come of a handed drive: all events are refused, or it goes on.
-pub(crate) const UNSOUND: u64 = 11;
-
-pub(crate) const SOUND: u64 = 0;
-
-// The owners.
+// The owners, before a cylinder, a head and a sector, a word each.
 pub(crate) const OWNED_BY_0: u64 = 0;
 
-pub(crate) const OWNED_BY_1: u64 = 1;
+pub(crate) const OWNED_BY_1: u64 = 0x0001_0000_0000_0000;
 
-pub(crate) const OWNED_BY_NOBODY: u64 = 2;
-
-// What is done, without its numbers: EVENT, STORED, ..
-pub(crate) fn kind_of(done: u64) -> u64 {
-    done - done % 0x1_00_00_00000000
-}
-
-pub(crate) fn event_of(done: u64) -> Event {
-    let octets = octets(done);
-    Event {
-        port: octets[2],
-        kind: octets[3],
-        a0: octets[4],
-        a1: octets[5],
-        a2: octets[6],
-        a3: octets[7],
-    }
-}
-
-pub(crate) fn answer_of(answer: u64) -> Answer {
-    let parts = octets(answer);
-    let which = answer - answer % 0x1_00000000;
-    match which {
-        REFUSED => Answer::Refused(parts[7]),
-        STATUS => Answer::Status(parts[7]),
-        OPENED => Answer::Opened(wide(parts[4]), place_of(answer)),
-        WORD => Answer::Word(words(answer)[3]),
-        LAST_WORD => Answer::LastWord(words(answer)[3]),
-        RESPONSE => Answer::Response(parts[5], parts[6], parts[7]),
-        _ => Answer::Done,
-    }
-}
-
-// The last three octets: cylinder, head and sector.
-pub(crate) fn place_of(number: u64) -> Place {
-    let octets = octets(number);
-    Place {
-        cylinder: wide(octets[5]),
-        head: wide(octets[6]),
-        sector: wide(octets[7]),
-    }
-}
-
-// Highest first.
-pub(crate) fn octets(number: u64) -> [u8; 8] {
-    [
-        (number / 0x1_00000000_000000 % 256) as u8,
-        (number / 0x1_00000000_0000 % 256) as u8,
-        (number / 0x1_00000000_00 % 256) as u8,
-        (number / 0x1_00000000 % 256) as u8,
-        (number / 0x1_000000 % 256) as u8,
-        (number / 0x1_0000 % 256) as u8,
-        (number / 0x1_00 % 256) as u8,
-        (number % 256) as u8,
-    ]
-}
-
-// Highest first.
-pub(crate) fn words(number: u64) -> [u16; 4] {
-    [
-        (number / 0x1_0000_0000_0000 % 65536) as u16,
-        (number / 0x1_0000_0000 % 65536) as u16,
-        (number / 0x1_0000 % 65536) as u16,
-        (number % 65536) as u16,
-    ]
-}
-
-pub(crate) fn wide(octet: u8) -> u16 {
-    octet as u16
-}
+pub(crate) const OWNED_BY_NOBODY: u64 = 0x0002_0000_0000_0000;

@@ -1,138 +1,234 @@
 // Refusals 9 and 10 of power-up, and 10 of events: numbers outside their limits, short slices.
-use crate::compare;
-use crate::handed;
-use crate::row;
+use crate::bench;
+use crate::row::AT_REST;
+use crate::row::DATA_CONTROL;
+use crate::row::DONE;
+use crate::row::ENDS;
+use crate::row::EXPECTS;
+use crate::row::KIND_0;
+use crate::row::OPENED;
+use crate::row::OWNED_BY_1;
+use crate::row::OWNED_BY_NOBODY;
+use crate::row::PORT_1;
+use crate::row::PORT_2;
+use crate::row::POSITION;
+use crate::row::POWER_UP;
+use crate::row::REFUSED;
+use crate::row::SELECT;
+use crate::row::STATE;
+use crate::row::STATUS;
+use crate::row::WORD_FROM_HOST;
 use crate::tally::Tally;
-use drive::Answer;
-use drive::Drive;
-use drive::Powered;
 
 pub(crate) fn run(tally: Tally) -> Tally {
-    tally.all(
+    bench::runs(
+        tally,
         b"\
 refusal 9: power-up outside the limits\n\
 power-up at the limits\n\
 refusal 10: power-up with a short slice\n\
-refusal 10: an event with a short slice\n",
-        &[
-            all_answered(&OUTSIDE_LIMITS),
-            all_answered(&AT_THE_LIMITS),
-            power_up_short(),
-            event_short(),
-        ],
+refusal 10: an event with a short slice\n\
+a drive whose numbers all differ\n",
+        &CASES,
     )
 }
 
-// Cylinders, heads, sectors, header, a word each; then field 1, field 2, address and the refusal, 0 for none.
-// 9 is tested before 10: the slices are too short for most of these drives.
-const OUTSIDE_LIMITS: [u64; 22] = [
+const CASES: [u64; 186] = [
+    // refusal 9: power-up outside the limits
+    // 9 is tested before 10: the slices are too short for most of these drives.
+    STATE + 0,
     0x0000_0002_0003_0001,
-    0x0002_0001_0003_0009,
+    STATE + 4,
+    0x0002_0001_0003_0002,
+    POWER_UP,
+    9,
+    STATE + 0,
     0x1001_0002_0003_0001,
-    0x0002_0001_0003_0009,
+    STATE + 4,
+    0x0002_0001_0003_0002,
+    POWER_UP,
+    9,
+    STATE + 0,
     0x0002_0000_0003_0001,
-    0x0002_0001_0003_0009,
+    STATE + 4,
+    0x0002_0001_0003_0002,
+    POWER_UP,
+    9,
+    STATE + 0,
     0x0002_0021_0003_0001,
-    0x0002_0001_0003_0009,
+    STATE + 4,
+    0x0002_0001_0003_0002,
+    POWER_UP,
+    9,
+    STATE + 0,
     0x0002_0002_0000_0001,
-    0x0002_0001_0003_0009,
+    STATE + 4,
+    0x0002_0001_0003_0002,
+    POWER_UP,
+    9,
+    STATE + 0,
     0x0002_0002_0101_0001,
-    0x0002_0001_0003_0009,
+    STATE + 4,
+    0x0002_0001_0003_0002,
+    POWER_UP,
+    9,
+    STATE + 0,
     0x0002_0002_0003_0009,
-    0x0002_0001_0003_0009,
+    STATE + 4,
+    0x0002_0001_0003_0002,
+    POWER_UP,
+    9,
+    STATE + 0,
     0x0002_0002_0003_0001,
-    0x0000_0001_0003_0009,
+    STATE + 4,
+    0x0000_0001_0003_0002,
+    POWER_UP,
+    9,
+    STATE + 0,
     0x0002_0002_0003_0001,
-    0x0401_0001_0003_0009,
+    STATE + 4,
+    0x0401_0001_0003_0002,
+    POWER_UP,
+    9,
+    STATE + 0,
     0x0002_0002_0003_0001,
-    0x0002_0401_0003_0009,
+    STATE + 4,
+    0x0002_0401_0003_0002,
+    POWER_UP,
+    9,
+    STATE + 0,
     0x0002_0002_0003_0001,
-    0x0002_0001_0008_0009,
-];
-
-// The largest numbers are within the limits, so it is the slices that are too short.
-const AT_THE_LIMITS: [u64; 16] = [
+    STATE + 4,
+    0x0002_0001_0008_0002,
+    POWER_UP,
+    9,
+    AT_REST,
+    0,
+    ENDS,
+    OWNED_BY_NOBODY + 0x0000_0000_0000,
+    // power-up at the limits
+    // The largest numbers are within the limits, so it is the slices that are too short.
+    STATE + 0,
     0x0001_0001_0001_0000,
-    0x0001_0000_0000_0000,
+    STATE + 4,
+    0x0001_0000_0000_0002,
+    POWER_UP,
+    0,
+    STATE + 0,
     0x0002_0002_0003_0001,
-    0x0002_0001_0007_0000,
+    STATE + 4,
+    0x0002_0001_0007_0002,
+    POWER_UP,
+    0,
+    STATE + 0,
     0x1000_0002_0003_0001,
-    0x0002_0001_0003_000A,
+    STATE + 4,
+    0x0002_0001_0003_0002,
+    POWER_UP,
+    10,
+    STATE + 0,
     0x0002_0020_0003_0001,
-    0x0002_0001_0003_000A,
+    STATE + 4,
+    0x0002_0001_0003_0002,
+    POWER_UP,
+    10,
+    STATE + 0,
     0x0002_0002_0100_0001,
-    0x0002_0001_0003_000A,
+    STATE + 4,
+    0x0002_0001_0003_0002,
+    POWER_UP,
+    10,
+    STATE + 0,
     0x0002_0002_0003_0008,
-    0x0002_0001_0003_000A,
+    STATE + 4,
+    0x0002_0001_0003_0002,
+    POWER_UP,
+    10,
+    STATE + 0,
     0x0002_0002_0003_0001,
-    0x0400_0001_0003_000A,
+    STATE + 4,
+    0x0400_0001_0003_0002,
+    POWER_UP,
+    10,
+    STATE + 0,
     0x0002_0002_0003_0001,
-    0x0002_0400_0003_000A,
+    STATE + 4,
+    0x0002_0400_0003_0002,
+    POWER_UP,
+    10,
+    AT_REST,
+    0,
+    ENDS,
+    OWNED_BY_NOBODY + 0x0000_0000_0000,
+    // refusal 10: power-up with a short slice
+    // 181 sectors of one word; one sector of 5.
+    STATE + 0,
+    0x00B5_0001_0001_0000,
+    STATE + 4,
+    0x0001_0000_0003_0002,
+    POWER_UP,
+    10,
+    STATE + 0,
+    0x0001_0001_0001_0001,
+    STATE + 4,
+    0x0002_0002_0003_0002,
+    POWER_UP,
+    10,
+    AT_REST,
+    0,
+    ENDS,
+    OWNED_BY_NOBODY + 0x0000_0000_0000,
+    // refusal 10: an event with a short slice
+    // The same drives, then with a target of 1. Tested before 1 and 8, and after 11.
+    STATE + 0,
+    0x00B5_0001_0001_0000,
+    STATE + 4,
+    0x0001_0000_0003_0002,
+    PORT_2 + KIND_0,
+    REFUSED + 10,
+    STATE + 13,
+    0x0001_0000_0000_0000,
+    PORT_2 + KIND_0,
+    REFUSED + 11,
+    AT_REST,
+    0,
+    STATE + 0,
+    0x0001_0001_0001_0001,
+    STATE + 4,
+    0x0002_0002_0003_0002,
+    PORT_2 + KIND_0,
+    REFUSED + 10,
+    STATE + 13,
+    0x0001_0000_0000_0000,
+    PORT_2 + KIND_0,
+    REFUSED + 11,
+    AT_REST,
+    0,
+    ENDS,
+    OWNED_BY_NOBODY + 0x0000_0000_0000,
+    // a drive whose numbers all differ
+    // Its 180 words are all there are. Port, kind and the four octets of the position differ too.
+    STATE + 0,
+    0x0003_0004_0005_0000,
+    STATE + 4,
+    0x0001_0002_0006_0002,
+    POWER_UP,
+    0,
+    PORT_1 + SELECT + 0x60_00_00_00,
+    DONE,
+    PORT_1 + POSITION + 0x0002_03_04,
+    STATUS + 0,
+    PORT_1 + DATA_CONTROL + 0x8B_00_00_00,
+    OPENED + 0x03_02_03_04,
+    PORT_1 + WORD_FROM_HOST + 0x0102_0000,
+    DONE,
+    PORT_1 + WORD_FROM_HOST + 0x0304_0000,
+    DONE,
+    PORT_1 + WORD_FROM_HOST + 0x0506_0000,
+    STATUS + 0,
+    // The last sector's words begin with word 177, the second of these four.
+    EXPECTS + 176,
+    0x0000_0102_0304_0506,
+    ENDS,
+    OWNED_BY_1 + 0x0002_0003_0000,
 ];
-
-fn all_answered(rows: &[u64]) -> bool {
-    let mut same = true;
-    let mut at = 0;
-    while 1 < rows.len() - at {
-        same = same & is_answered(row::words(rows[at]), row::words(rows[at + 1]));
-        at += 2;
-    }
-    same
-}
-
-fn is_answered(first: [u16; 4], second: [u16; 4]) -> bool {
-    let sectors = [0u16; 48];
-    let staging = [0u16; 4];
-    let powered = drive::power_up(
-        first[0],
-        first[1],
-        first[2],
-        first[3],
-        second[0],
-        second[1],
-        second[2],
-        &sectors,
-        &staging,
-    );
-    row::wide(refusal_in(powered)) == second[3]
-}
-
-// 0 where it is not refused.
-fn refusal_in(powered: Powered) -> u8 {
-    match powered {
-        Powered::Up(_) => 0,
-        Powered::Refused(n) => n,
-    }
-}
-
-fn power_up_short() -> bool {
-    let sectors = [0u16; 48];
-    let staging = [0u16; 4];
-    let short_sectors = [0u16; 47];
-    let short_staging = [0u16; 3];
-    let first = drive::power_up(2, 2, 3, 1, 2, 1, 3, &short_sectors, &staging);
-    let second = drive::power_up(2, 2, 3, 1, 2, 1, 3, &sectors, &short_staging);
-    (refusal_in(first) == 10) & (refusal_in(second) == 10)
-}
-
-// Tested before 1 and 8, and after 11.
-fn event_short() -> bool {
-    short_gets(handed::at_rest(), 10) & short_gets(handed::with_target(3), 11)
-}
-
-// A malformed event of no port, on slices that are each too short.
-fn short_gets(drive: Drive, number: u8) -> bool {
-    let mut sectors = [0u16; 48];
-    let mut staging = [0u16; 4];
-    let mut short_sectors = [0u16; 47];
-    let mut short_staging = [0u16; 3];
-    let malformed = row::event_of(row::PORT_2 + row::KIND_0);
-    let first = events::handle(drive, malformed, &mut short_sectors, &mut staging);
-    let second = events::handle(drive, malformed, &mut sectors, &mut short_staging);
-    let first_answer = first.answer;
-    let second_answer = second.answer;
-    compare::same_answer(first_answer, Answer::Refused(number))
-        & compare::same_answer(second_answer, Answer::Refused(number))
-        & compare::same_drive(first.drive, drive)
-        & compare::same_drive(second.drive, drive)
-}

@@ -19,13 +19,7 @@ impl Tally {
 
     // A case, and whether all of it came out as document 01 says.
     fn case(self, name: &[u8], same: bool) -> Tally {
-        if same {
-            io::write_all(STDOUT_FILENO, b"ok ");
-        } else {
-            io::write_all(STDOUT_FILENO, b"DIFFERS ");
-        }
-        io::write_all(STDOUT_FILENO, name);
-        io::write_all(STDOUT_FILENO, b"\n");
+        write_line(name, same);
         let differs = if same { 0 } else { 1 };
         Tally {
             cases: std::num::wrapping_add_u64(self.cases, 1),
@@ -48,17 +42,6 @@ impl Tally {
         self.case(b"a case without a name", false)
     }
 
-    // The cases of a topic, each with the next of the names.
-    pub(crate) fn all(self, names: &[u8], same: &[bool]) -> Tally {
-        let mut told = self.topic();
-        let mut at = 0;
-        while at < same.len() {
-            told = told.next(names, same[at]);
-            at += 1;
-        }
-        told
-    }
-
     // The names of another topic come next.
     pub(crate) fn topic(mut self) -> Tally {
         self.name = 0;
@@ -71,6 +54,16 @@ impl Tally {
         io::print_decimal(STDOUT_FILENO, self.cases);
         io::write_all(STDOUT_FILENO, b" cases differ\n");
     }
+}
+
+fn write_line(name: &[u8], same: bool) {
+    if same {
+        io::write_all(STDOUT_FILENO, b"ok ");
+    } else {
+        io::write_all(STDOUT_FILENO, b"DIFFERS ");
+    }
+    io::write_all(STDOUT_FILENO, name);
+    io::write_all(STDOUT_FILENO, b"\n");
 }
 
 fn line_end(names: &[u8], from: usize) -> usize {

@@ -13,6 +13,7 @@ use crate::row::OWNED_BY_1;
 use crate::row::PORT_1;
 use crate::row::POSITION;
 use crate::row::REFUSED;
+use crate::row::SECTOR;
 use crate::row::SELECT;
 use crate::row::STATUS;
 use crate::row::STORED;
@@ -41,9 +42,9 @@ port 1 reads what port 0 wrote\n",
     )
 }
 
-const CASES: [u64; 206] = [
+const CASES: [u64; 218] = [
     // 87 with a matching header
-    STORED + 0,
+    STORED + SECTOR * 0,
     0x0007_0000_0000_0000,
     SELECT + 0x30_00_00_00,
     DONE,
@@ -57,13 +58,15 @@ const CASES: [u64; 206] = [
     DONE,
     WORD_FROM_HOST + 0x00CC_0000,
     STATUS + 0,
-    EXPECTS + 0,
+    EXPECTS + SECTOR * 0,
     0x0007_00AA_00BB_00CC,
-    ENDS + 0x00_00_01,
-    OWNED_BY_0,
+    ENDS,
+    OWNED_BY_0 + 0x0000_0000_0001,
     // 87 with a differing header
     // "a header that differs ends the transfer at its last header word with 7, writing nothing"
-    STORED + 0,
+    STORED + SECTOR * 0,
+    0x0007_0000_0000_0000,
+    EXPECTS + SECTOR * 0,
     0x0007_0000_0000_0000,
     SELECT + 0x30_00_00_00,
     DONE,
@@ -73,11 +76,13 @@ const CASES: [u64; 206] = [
     STATUS + 7,
     WORD_FROM_HOST + 0x00AA_0000,
     REFUSED + 7,
-    ENDS + 0x00_00_01,
-    OWNED_BY_0,
+    ENDS,
+    OWNED_BY_0 + 0x0000_0000_0001,
     // 84 compares the header and writes nothing
     // The last header word is the last word of all.
-    STORED + 0,
+    STORED + SECTOR * 0,
+    0x0007_0000_0000_0000,
+    EXPECTS + SECTOR * 0,
     0x0007_0000_0000_0000,
     SELECT + 0x30_00_00_00,
     DONE,
@@ -91,10 +96,10 @@ const CASES: [u64; 206] = [
     OPENED + 0x01_00_00_00,
     WORD_FROM_HOST + 0x0008_0000,
     STATUS + 7,
-    ENDS + 0x00_00_01,
-    OWNED_BY_0,
+    ENDS,
+    OWNED_BY_0 + 0x0000_0000_0001,
     // 86: field 2 follows the header
-    STORED + 0,
+    STORED + SECTOR * 0,
     0x0007_0000_0000_0000,
     SELECT + 0x30_00_00_00,
     DONE,
@@ -104,12 +109,12 @@ const CASES: [u64; 206] = [
     DONE,
     WORD_FROM_HOST + 0x00CC_0000,
     STATUS + 0,
-    EXPECTS + 0,
+    EXPECTS + SECTOR * 0,
     0x0007_0000_0000_00CC,
-    ENDS + 0x00_00_01,
-    OWNED_BY_0,
+    ENDS,
+    OWNED_BY_0 + 0x0000_0000_0001,
     // 88 writes the header alone
-    STORED + 0,
+    STORED + SECTOR * 0,
     0x0007_0000_0000_0000,
     SELECT + 0x30_00_00_00,
     DONE,
@@ -117,10 +122,10 @@ const CASES: [u64; 206] = [
     OPENED + 0x01_00_00_00,
     WORD_FROM_HOST + 0xFFFF_0000,
     STATUS + 0,
-    EXPECTS + 0,
+    EXPECTS + SECTOR * 0,
     0xFFFF_0000_0000_0000,
-    ENDS + 0x00_00_01,
-    OWNED_BY_0,
+    ENDS,
+    OWNED_BY_0 + 0x0000_0000_0001,
     // 8B writes the sector at 1/0/1 and no other
     // "sectors follow by sector, then head, then cylinder": 1/0/1 is sector 7 of all, 4 words each.
     SELECT + 0x30_00_00_00,
@@ -137,12 +142,14 @@ const CASES: [u64; 206] = [
     DONE,
     WORD_FROM_HOST + 0x00CC_0000,
     STATUS + 0,
-    EXPECTS + 7,
+    EXPECTS + SECTOR * 7,
     0x0007_00AA_00BB_00CC,
-    ENDS + 0x01_00_02,
-    OWNED_BY_0,
+    ENDS,
+    OWNED_BY_0 + 0x0001_0000_0002,
     // CB taken to the last word
-    STORED + 0,
+    STORED + SECTOR * 0,
+    0x0007_00AA_00BB_00CC,
+    EXPECTS + SECTOR * 0,
     0x0007_00AA_00BB_00CC,
     SELECT + 0x30_00_00_00,
     DONE,
@@ -158,11 +165,13 @@ const CASES: [u64; 206] = [
     LAST_WORD + 0x00CC,
     TAKE,
     REFUSED + 7,
-    ENDS + 0x00_00_01,
-    OWNED_BY_0,
+    ENDS,
+    OWNED_BY_0 + 0x0000_0000_0001,
     // reads that skip the header
     // "on reads, 00 or 01 skip it"
-    STORED + 0,
+    STORED + SECTOR * 0,
+    0x0007_00AA_00BB_00CC,
+    EXPECTS + SECTOR * 0,
     0x0007_00AA_00BB_00CC,
     SELECT + 0x30_00_00_00,
     DONE,
@@ -188,8 +197,8 @@ const CASES: [u64; 206] = [
     WORD + 0x00BB,
     TAKE,
     LAST_WORD + 0x00CC,
-    ENDS + 0x00_00_01,
-    OWNED_BY_0,
+    ENDS,
+    OWNED_BY_0 + 0x0000_0000_0001,
     // the next sector after the last is 0
     SELECT + 0x30_00_00_00,
     DONE,
@@ -201,10 +210,12 @@ const CASES: [u64; 206] = [
     WORD + 0x0000,
     TAKE,
     LAST_WORD + 0x0000,
-    ENDS + 0x01_01_00,
-    OWNED_BY_0,
+    ENDS,
+    OWNED_BY_0 + 0x0001_0001_0000,
     // End in the middle of a write
-    STORED + 0,
+    STORED + SECTOR * 0,
+    0x0007_0000_0000_0000,
+    EXPECTS + SECTOR * 0,
     0x0007_0000_0000_0000,
     SELECT + 0x30_00_00_00,
     DONE,
@@ -218,10 +229,12 @@ const CASES: [u64; 206] = [
     STATUS + 0,
     END,
     REFUSED + 7,
-    ENDS + 0x00_00_01,
-    OWNED_BY_0,
+    ENDS,
+    OWNED_BY_0 + 0x0000_0000_0001,
     // End in the middle of a read
-    STORED + 0,
+    STORED + SECTOR * 0,
+    0x0007_00AA_00BB_00CC,
+    EXPECTS + SECTOR * 0,
     0x0007_00AA_00BB_00CC,
     SELECT + 0x30_00_00_00,
     DONE,
@@ -233,8 +246,8 @@ const CASES: [u64; 206] = [
     STATUS + 0,
     TAKE,
     REFUSED + 7,
-    ENDS + 0x00_00_01,
-    OWNED_BY_0,
+    ENDS,
+    OWNED_BY_0 + 0x0000_0000_0001,
     // port 1 reads what port 0 wrote
     SELECT + 0x30_00_00_00,
     DONE,
@@ -260,8 +273,8 @@ const CASES: [u64; 206] = [
     WORD + 0x00AA,
     PORT_1 + TAKE,
     LAST_WORD + 0x00BB,
-    EXPECTS + 0,
+    EXPECTS + SECTOR * 0,
     0x0007_00AA_00BB_0000,
-    ENDS + 0x00_00_01,
-    OWNED_BY_1,
+    ENDS,
+    OWNED_BY_1 + 0x0000_0000_0001,
 ];

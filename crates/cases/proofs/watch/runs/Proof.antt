@@ -1,22 +1,19 @@
 -- `watch::runs` is safe and ends: the index stays within the rows, and what is left of them falls.
 -- Assumes nothing.
 use Prim.Native.Nat.{_≤_, _-_}
-use borrow.Author.Needs.{needs}
 use lib.ListN.{length}
+use borrow.Author.Needs.{needs}
 use Rattle.cases.proofs.watch.runs.Statement.{statement}
 use Rattle.cases.proofs.watch.runs.Tie as tie
 
 abbrev Inv-loop : tie.InvT-loop
-Inv-loop names rows told₀ watch₀ at₀ told watch at = at ≤ length rows
+Inv-loop names rows told₀ follower₀ same₀ at₀ told follower same at = at ≤ length rows
 
 abbrev μ-loop : tie.MeasureT-loop
-μ-loop names rows told₀ watch₀ at₀ told watch at = length rows - at
+μ-loop names rows told₀ follower₀ same₀ at₀ told follower same at = length rows - at
 
 topic-requires : tie.Need-topic-requires Inv-loop μ-loop
 topic-requires c κs = search needs
-
-start-requires : tie.Need-start-requires Inv-loop μ-loop
-start-requires c κs = search needs
 
 loop-holds : tie.Need-loop-holds Inv-loop μ-loop
 loop-holds c = search needs
@@ -27,23 +24,26 @@ mul-row c = search needs
 shared-slice-read-row : tie.Need-shared-slice-read-row Inv-loop μ-loop
 shared-slice-read-row c = search needs
 
-row-requires : tie.Need-row-requires Inv-loop μ-loop
-row-requires c κs = search needs
+add-at : tie.Need-add-at Inv-loop μ-loop
+add-at c = search needs
 
 next-requires : tie.Need-next-requires Inv-loop μ-loop
 next-requires c κs = search needs
-
-start-requires-2 : tie.Need-start-requires-2 Inv-loop μ-loop
-start-requires-2 c κs = search needs
-
-add-at : tie.Need-add-at Inv-loop μ-loop
-add-at c = search needs
 
 loop-less : tie.Need-loop-less Inv-loop μ-loop
 loop-less c = search needs
 
 loop-again : tie.Need-loop-again Inv-loop μ-loop
 loop-again c = search needs
+
+answered-requires : tie.Need-answered-requires Inv-loop μ-loop
+answered-requires c κs = search needs
+
+loop-less-2 : tie.Need-loop-less-2 Inv-loop μ-loop
+loop-less-2 c = search needs
+
+loop-again-2 : tie.Need-loop-again-2 Inv-loop μ-loop
+loop-again-2 c = search needs
 
 returns : tie.Need-returns Inv-loop μ-loop
 returns c = search needs
@@ -55,14 +55,14 @@ runs-spec =
     Inv-loop
     μ-loop
     topic-requires
-    start-requires
     loop-holds
     mul-row
     shared-slice-read-row
-    row-requires
-    next-requires
-    start-requires-2
     add-at
+    next-requires
     loop-less
     loop-again
+    answered-requires
+    loop-less-2
+    loop-again-2
     returns)

@@ -1,10 +1,10 @@
--- `same_words` is safe and ends: the index stays within both slices, and what is left of them falls.
+-- `words::same` is safe and ends: the index stays within both slices, and what is left of them falls.
 -- Assumes nothing.
 use Prim.Native.Nat.{_≤_, _-_}
 use borrow.Author.Needs.{needs}
 use lib.ListN.{length}
-use Rattle.cases.proofs.compare.same_words.Statement.{statement}
-use Rattle.cases.proofs.compare.same_words.Tie as tie
+use Rattle.cases.proofs.words.same.Statement.{statement}
+use Rattle.cases.proofs.words.same.Tie as tie
 
 abbrev Inv-loop : tie.InvT-loop
 Inv-loop a b i₀ i = i ≤ length a
@@ -45,8 +45,8 @@ loop-again c = search needs
 returns-3 : tie.Need-returns-3 Inv-loop μ-loop
 returns-3 c = search needs
 
-pub same-words-spec : {M : Type 1} → statement M
-same-words-spec =
+pub same-spec : {M : Type 1} → statement M
+same-spec =
     tie.close
     (tie.spec
     Inv-loop
