@@ -24,7 +24,8 @@ const CAPTURE_AT: u8 = 5;
 // Given how many octets the notes have, the notes and the records, writes the capture of them.
 const CAPTURE_OF: u8 = 6;
 
-// Given nothing, writes a header miscompare, a missing target, or a record of which all parts differ.
+// Given nothing, writes a header miscompare; the response to a missing target; and for any other call a record of which all
+// parts differ. So it is known which part stands where, and that what is read has its parts there follows from writing it again.
 const MISCOMPARE: u8 = 7;
 
 const NO_TARGET: u8 = 8;
@@ -88,7 +89,12 @@ fn capture_at(given: &[u8]) -> u8 {
     let read = capture::decode_capture(given);
     match read {
         CaptureRead::Refused(n) => n,
-        CaptureRead::Capture { first, count } => { (128 + first % 8 * 16 + count % 16) as u8 }
+        CaptureRead::Capture { first, count } => {
+            if (7 < first) | (15 < count) {
+                return NOT_AS_TOLD;
+            }
+            (128 + first % 8 * 16 + count % 16) as u8
+        }
     }
 }
 

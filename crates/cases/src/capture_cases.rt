@@ -20,6 +20,8 @@ notes and records of 8 octets each\n",
     )
 }
 
+// The rows are those of `octets`, and the calls those of `calls`: a line for what is called, one for the octets given, and one for
+// those that must stand in the room, where there are any. A line of one 00 ends a case.
 const CASES: [u8; 517] = *b"\
     \x03\x00\x08\x09\
     \x00\x05\x01\x01\x30\x00\x00\x00\

@@ -16,6 +16,8 @@ refusal 10: a response of 7 octets\n",
     )
 }
 
+// The rows are those of `octets`, and the calls those of `calls`: a line for what is called, one for the octets given, and one for
+// those that must stand in the room, where there are any. A line of one 00 ends a case.
 const CASES: [u8; 321] = *b"\
     \x01\x00\x01\x01\
     \x00\
