@@ -6,6 +6,7 @@ pub mod Size
 pub mod Captured
 pub mod Fits
 pub mod Cases
+pub mod Promised
 pub mod Only
 pub mod Exactly
 pub mod WrongAnswers

@@ -5,7 +5,7 @@ use mathlib.Core.List.{List, [], _∷_}
 use lib.Dec.{ltb}
 use lib.ListN.{length}
 use Rattle.laws.specs.Pick.{pick}
-use Rattle.laws.specs.Rows.{Row, first, _when_, unlessRefused}
+use Rattle.laws.specs.Rows.{Row, first, _when_, unlessRefused, Paper, refusedWith, tells, refusedOr}
 use Rattle.laws.specs.Lists.{writtenOver}
 use Rattle.capture.specs.Capture.{captureRefusal, recordsOf}
 use Rattle.bench.specs.Text.{numberedLine}
@@ -37,9 +37,18 @@ replayRows octets slice = 10 when ltb (length slice) (length (reportOf octets)) 
 abbrev pub replayRefusal : List ℕ → List ℕ → ℕ
 replayRefusal octets slice = first (replayRows octets slice)
 
+-- The answer on paper: the number of the refusal, or how many octets the report has.
+abbrev pub paper : Replayed → Paper ℕ
+paper (Text size) = tells size
+paper (Refused n) = refusedWith n
+
+abbrev pub replayedAs : List ℕ → List ℕ → Replayed
+replayedAs octets slice = unlessRefused (replayRefusal octets slice) (Refused (replayRefusal octets slice)) (Text (length (reportOf octets)))
+
 -- The promise of `replay`: the answer, and all octets of the slice.
 pub record Reported (octets before after : List ℕ) (r : Replayed) : Type 0 where
-  pub answer : r ≡ unlessRefused (replayRefusal octets before) (Refused (replayRefusal octets before)) (Text (length (reportOf octets)))
+  pub answer : r ≡ replayedAs octets before
+  pub on-paper : paper r ≡ refusedOr (replayRows octets before) (length (reportOf octets))
   pub slice : after ≡ unlessRefused (replayRefusal octets before) before (writtenOver before (reportOf octets))
 
 -- The number that an answer refuses with, 0 where it refuses nothing.

@@ -50,8 +50,9 @@ move-refusal : (old new : ℕ) → pairs.refusalIn (moveOf old new) ≡ first (m
 unfolding moveOf
 move-refusal old new = reported pairs.refusalIn moves.Refused (λ n. refl) (first (moveRows old new)) (saidBy (entryOf old new)) (said-unrefused _)
 
-pub move-of-exactly : (old new n : ℕ) → pairs.refusalIn (moveOf old new) ≡ suc n ↔ Given (suc n) (moveRows old new)
-move-of-exactly old new n = rw (move-refusal old new) (first-is-exact n (moveRows old new))
+-- whatever meets the promise
+pub move-of-exactly : {old new : ℕ} {r : Move} → MoveSaid old new r → (n : ℕ) → pairs.refusalIn r ≡ suc n ↔ Given (suc n) (moveRows old new)
+move-of-exactly {old} {new} h n = rw (h .answer, move-refusal old new) (first-is-exact n (moveRows old new))
 
 abbrev Accepted : Followed → Type 0
 Accepted d = follower.refusalIn (d .answer) ≡ 0
@@ -67,5 +68,5 @@ unfolding stepOf
 step-refusal f new =
     reported (λ (d : Followed). follower.refusalIn (d .answer)) (λ n. told (answer.Refused n) f) (λ n. refl) (first (stepRows f new)) _ (taken-accepted f new)
 
-pub step-exactly : (f : Follower) (new n : ℕ) → follower.refusalIn ((stepOf f new) .answer) ≡ suc n ↔ Given (suc n) (stepRows f new)
-step-exactly f new n = rw (step-refusal f new) (first-is-exact n (stepRows f new))
+pub step-exactly : {f : Follower} {new : ℕ} {r : Followed} → Stepped f new r → (n : ℕ) → follower.refusalIn (r .answer) ≡ suc n ↔ Given (suc n) (stepRows f new)
+step-exactly {f} {new} h n = rw (h .answer, step-refusal f new) (first-is-exact n (stepRows f new))

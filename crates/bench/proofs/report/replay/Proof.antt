@@ -8,6 +8,7 @@ use borrow.Author.Tests.{lt-ltb, le-ltb}
 use lib.ListN.{length, take}
 use Rattle.laws.specs.Pick.{pick}
 use Rattle.bench.specs.Report.{reportOf}
+use Rattle.bench.proofs.Promised.{reported}
 use Rattle.bench.proofs.Pieces.{put-over, put-front}
 use borrow.Author.Needs.{needs}
 use Rattle.bench.proofs.report.replay.Statement.{statement}
@@ -24,7 +25,7 @@ unfolding pick
 returns c =
     let made = c .before .before in
     let short : length (made .before .before .before .before .args .text .now) < length (reportOf (made .before .before .before .before .args .octets .now)) = omega (arith, c .if1 .taken, made .put-report .ensures .behind) in
-    record { answer = rw (lt-ltb _ _ short); slice = rw (lt-ltb _ _ short) }
+    reported (rw (lt-ltb _ _ short)) (rw (lt-ltb _ _ short))
 
 array-share-prefix-report : tie.Need-array-share-prefix-report
 array-share-prefix-report c = search needs
@@ -46,10 +47,8 @@ unfolding pick
 returns-2 c =
     let made = c .before .before .before .before .before .before .before in
     let room : length (reportOf (made .before .before .before .before .args .octets .now)) ≤ length (made .before .before .before .before .args .text .now) = omega (arith, c .before .before .before .before .before .if1 .left, made .put-report .ensures .behind) in
-    record {
-      answer = rw (le-ltb _ _ room, made .put-report .ensures .behind, zero-add);
-      slice = rw (le-ltb _ _ room) (put-over (rw (put-front (made .put-report .ensures)) at (c .before .before .put .ensures)));
-    }
+    reported (rw (le-ltb _ _ room, made .put-report .ensures .behind, zero-add))
+    (rw (le-ltb _ _ room) (put-over (rw (put-front (made .put-report .ensures)) at (c .before .before .put .ensures))))
 
 pub replay-spec : {M : Type 1} → statement M
 replay-spec =
