@@ -30,7 +30,7 @@ captureReport octets =
 unfoldable pub reportOf : List ℕ → List ℕ
 reportOf octets = pick (ltb 65536 (length octets)) tooLong (captureReport octets)
 
--- "10: a lent slice too short"
+-- 10: "a lent slice too short"
 abbrev pub replayRows : List ℕ → List ℕ → List Row
 replayRows octets slice = 10 when ltb (length slice) (length (reportOf octets)) ∷ []
 

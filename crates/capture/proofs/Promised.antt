@@ -1,6 +1,6 @@
 -- From what a call answers to its promise: the answer on paper goes with it.
 -- Assumes nothing.
-use Prim.Native.Nat.{ℕ, _/_}
+use Prim.Native.Nat.{ℕ}
 use mathlib.Core.Path.{_≡_, refl, ap, _∙_}
 use mathlib.Core.List.{List}
 use Rattle.laws.specs.Rows.{unlessRefused}

@@ -13,6 +13,7 @@ use lib.Seq.{take-at, drop-at}
 use Rattle.laws.specs.Pick.{pick}
 use Rattle.laws.specs.Lists.{oneOf}
 use Rattle.laws.proofs.Rows.{first-among}
+use Rattle.laws.proofs.Differ.{absent}
 use Rattle.laws.proofs.Lists.{each-one-of}
 use Rattle.parts.specs.Setup.{withinLimits, sectorWords}
 use Rattle.parts.specs.Control.{wordsToCome}
@@ -40,7 +41,7 @@ use Rattle.drive.proofs.EveryAnswer.{OfTheTable, numbers}
 use Rattle.drive.proofs.SoundPlace.{pending-stray}
 use Rattle.drive.proofs.Posted.{on-either, kept-on-both}
 use Rattle.drive.proofs.Standing.{sought-setup}
-use Rattle.drive.proofs.FromPowerUp.{never, sought-inside}
+use Rattle.drive.proofs.FromPowerUp.{sought-inside}
 use Rattle.drive.proofs.StaysSound.{same-size}
 use Rattle.drive.proofs.Turns.{thirteen}
 use Rattle.drive.proofs.Outcomes
@@ -115,25 +116,25 @@ bounded-along m (e ∷ events) f =
 work-response : {d : Drive} {e : Event} {sectors : List ℕ} {work : Work} {o : Outcome} (octets : List ℕ) → Outcomes.Told d e sectors work o
     → paper (o .answer) .response ≡ some octets → octets ≡ responseTo (pendingOn d (e .port))
 unfolding paper
-work-response octets (Outcomes.anOpening q) h = never refl h
-work-response octets (Outcomes.aWord w p r) h = never r h
+work-response octets (Outcomes.anOpening q) h = absent refl h
+work-response octets (Outcomes.aWord w p r) h = absent r h
 work-response {d} {e} octets Outcomes.aResponse h = cc
-work-response octets (Outcomes.nothing w p r) h = never r h
+work-response octets (Outcomes.nothing w p r) h = absent r h
 
 kind-response : (k : Kind) (m : Machine) (e : Event) (octets : List ℕ) → paper ((doneBy k m e) .outcome .answer) .response ≡ some octets
     → octets ≡ responseTo (pendingOn (m .drive) (e .port))
 unfolding paper
-kind-response Select m e octets h = never refl h
-kind-response Deselect m e octets h = never refl h
-kind-response Reset m e octets h = never refl h
-kind-response Unknown m e octets h = never refl h
+kind-response Select m e octets h = absent refl h
+kind-response Deselect m e octets h = absent refl h
+kind-response Reset m e octets h = absent refl h
+kind-response Unknown m e octets h = absent refl h
 kind-response (Use work) m e octets h = work-response octets (Outcomes.work-told (Outcomes.work-done (m .drive) e (m .sectors) (m .staging) work)) h
 
 response-told : (m : Machine) (e : Event) (octets : List ℕ) → paper (answerTo m e) .response ≡ some octets → octets ≡ responseTo (pendingOn (m .drive) (e .port))
 unfolding paper
 response-told m e octets =
     by-cases (λ answer next. paper answer .response ≡ some octets → octets ≡ responseTo (pendingOn (m .drive) (e .port))) m e
-    (λ n z h. never refl h) (λ k z p h. kind-response k m e octets h)
+    (λ n z h. absent refl h) (λ k z p h. kind-response k m e octets h)
 
 -- ---- an answer, read back
 

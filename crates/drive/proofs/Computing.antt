@@ -1,7 +1,6 @@
 -- The definitions that an event, a run and what is read off a run compute with: `unfolding computing` opens them all.
 -- Assumes nothing.
 use Rattle.laws.specs.Pick.{pick}
-use Rattle.laws.specs.Lists.{sameList}
 use Rattle.parts.specs.Setup.{withinLimits, allWords, sectorNumber, sectorStart, isPlace, isTarget, following}
 use Rattle.parts.specs.Control.{controlOf, headerPasses, wordsToCome, wordsRead}
 use Rattle.parts.specs.Holding.{holdSet, isBusy, grantedTo, released}

@@ -10,6 +10,7 @@ use borrow.Author.Tests.{not-false, ltb-true, ltb-false}
 use lib.Dec.{ltb}
 use lib.ListN.{length, getD}
 use Rattle.laws.proofs.Pick.{cases}
+use Rattle.laws.proofs.Differ.{absent}
 use Rattle.parts.specs.Setup.{isPlace}
 use Rattle.parts.specs.Control.{headerPasses, namesField1, part, wordsToCome}
 use Rattle.parts.specs.Kind.{Kind, Select, Deselect, Use, Reset, Unknown, Work}
@@ -39,9 +40,6 @@ use Rattle.drive.proofs.Standing.{standingOf, sought-there, sought-setu
 use Rattle.drive.proofs.WordsRead.{openRead, none-open, one-open, no-read, reads-there}
 use Rattle.drive.proofs.Outcomes
 
-pub never : {A : Type 0} {B : Type 0} {x : Option B} {b : B} → x ≡ none → x ≡ some b → A
-never {x = x} {b = b} p q = let z : _≡_ {A = ℕ} 0 1 = cc in absurd (omega arith)
-
 -- ---- an opening
 
 pub sought-inside : {d at : Drive} {c : ℕ} {sectors staging : List ℕ} → Passable d sectors staging → Outcomes.Sought d c at → isPlace (d .setup) (at .place) ≡ true
@@ -60,17 +58,17 @@ opening-told {d} {e} p (Outcomes.anOpening {at = at} q) place h =
       inside = subst (λ (x : Place). isPlace (d .setup) x ≡ true) there (sought-inside p q);
       count = ap (λ (s : Setup). some (wordsToCome s (e .a0))) (sought-setup q);
     }
-opening-told p (Outcomes.aWord w n r) place h = never n h
-opening-told p Outcomes.aResponse place h = never refl h
-opening-told p (Outcomes.nothing w n r) place h = never n h
+opening-told p (Outcomes.aWord w n r) place h = absent n h
+opening-told p Outcomes.aResponse place h = absent refl h
+opening-told p (Outcomes.nothing w n r) place h = absent n h
 
 opening-by : (k : Kind) (m : Machine) (e : Event) → AllPassed k m e → (place : Place) → paper ((doneBy k m e) .outcome .answer) .place ≡ some place
     → OpeningTold (m .drive .setup) (e .a0) (standingOf (m .drive)) (paper ((doneBy k m e) .outcome .answer)) place
 unfolding paper
-opening-by Select m e p place h = never refl h
-opening-by Deselect m e p place h = never refl h
-opening-by Reset m e p place h = never refl h
-opening-by Unknown m e p place h = never refl h
+opening-by Select m e p place h = absent refl h
+opening-by Deselect m e p place h = absent refl h
+opening-by Reset m e p place h = absent refl h
+opening-by Unknown m e p place h = absent refl h
 opening-by (Use work) m e p place h =
     opening-told (record { sound = p .sound; room = p .room }) (Outcomes.work-told (Outcomes.work-done (m .drive) e (m .sectors) (m .staging) work)) place h
 
@@ -79,7 +77,7 @@ opening-follows : (m : Machine) (e : Event) (place : Place) → paper (answerTo 
 unfolding paper
 opening-follows m e place =
     by-cases (λ answer next. paper answer .place ≡ some place → OpeningTold (m .drive .setup) (e .a0) (standingOf (m .drive)) (paper answer) place) m e
-    (λ n z h. never refl h) (λ k z p h. opening-by k m e p place h)
+    (λ n z h. absent refl h) (λ k z p h. opening-by k m e p place h)
 
 -- ---- a word that is taken
 
@@ -114,24 +112,24 @@ word-at {d} {sectors} {staging} word p t e =
 word-told : {d : Drive} {e : Event} {sectors staging : List ℕ} {work : Work} {o : Outcome} → Passable d sectors staging → row7 work d ≡ false
     → Outcomes.Told d e sectors work o → (word : ℕ) → paper (o .answer) .word ≡ some word → Taken (machine d sectors staging) word
 unfolding paper
-word-told p t (Outcomes.anOpening q) word h = never refl h
+word-told p t (Outcomes.anOpening q) word h = absent refl h
 word-told {d} {sectors = sectors} p t (Outcomes.aWord w n r) word h = let it : word ≡ Outcomes.wordAt d sectors = cc in word-at word p t it
-word-told p t Outcomes.aResponse word h = never refl h
-word-told p t (Outcomes.nothing w n r) word h = never w h
+word-told p t Outcomes.aResponse word h = absent refl h
+word-told p t (Outcomes.nothing w n r) word h = absent w h
 
 word-by : (k : Kind) (m : Machine) (e : Event) → AllPassed k m e → (word : ℕ) → paper ((doneBy k m e) .outcome .answer) .word ≡ some word → Taken m word
 unfolding paper
-word-by Select m e p word h = never refl h
-word-by Deselect m e p word h = never refl h
-word-by Reset m e p word h = never refl h
-word-by Unknown m e p word h = never refl h
+word-by Select m e p word h = absent refl h
+word-by Deselect m e p word h = absent refl h
+word-by Reset m e p word h = absent refl h
+word-by Unknown m e p word h = absent refl h
 word-by (Use work) m e p word h =
     word-told (record { sound = p .sound; room = p .room }) (p .own .1 .0)
     (Outcomes.work-told (Outcomes.work-done (m .drive) e (m .sectors) (m .staging) work)) word h
 
 word-taken : (m : Machine) (e : Event) (word : ℕ) → paper (answerTo m e) .word ≡ some word → Taken m word
 unfolding paper
-word-taken m e word = by-cases (λ answer next. paper answer .word ≡ some word → Taken m word) m e (λ n z h. never refl h) (λ k z p h. word-by k m e p word h)
+word-taken m e word = by-cases (λ answer next. paper answer .word ≡ some word → Taken m word) m e (λ n z h. absent refl h) (λ k z p h. word-by k m e p word h)
 
 -- ---- from power-up
 

@@ -11,7 +11,7 @@ use borrow.Author.Tests.{eq-eqb}
 use lib.Dec.{eqb}
 use lib.ListN.{getD}
 use Rattle.laws.specs.Pick.{pick}
-use Rattle.laws.proofs.Differ.{told-apart}
+use Rattle.laws.proofs.Differ.{told-apart, absent}
 use Rattle.parts.specs.Holding.{nobody}
 use Rattle.parts.specs.Kind.{Kind, Select, Deselect, Use, Reset, Unknown, kindOf}
 use Rattle.parts.specs.declared.setup.Place.{Place}
@@ -33,7 +33,6 @@ use Rattle.drive.specs.WrongRuns.{powerUp, WrongRuns}
 use Rattle.drive.specs.declared.answer.Answer.{Answer}
 use Rattle.drive.specs.declared.answer.Answer.the-variants.{Refused, Done}
 use Rattle.drive.proofs.StaysSound.{stays-sound}
-use Rattle.drive.proofs.FromPowerUp.{never}
 use Rattle.drive.proofs.Demand3.{demand-3}
 use Rattle.drive.proofs.Calls.{demand-3-of-calls}
 use Rattle.drive.proofs.NeverDead.{never-dead}
@@ -115,8 +114,8 @@ idle events =
       whole-sessions = rw (none-accepted events events) sessions.nothing;
       last-write = record { size = refl; word = λ address h. rw none };
       whole-writes = rw none tt;
-      words-read = behind _ (λ before told e word p. never refl p) [] [] events;
-      openings = behind _ (λ before told e place p. never refl p) [] [] events;
+      words-read = behind _ (λ before told e word p. absent refl p) [] [] events;
+      openings = behind _ (λ before told e place p. absent refl p) [] [] events;
       cut-short = λ stretch same.
           demand-3 .met (powerUp .drive .setup) (powerUp .sectors) (powerUp .staging) refl refl [] .cut-short stretch
           (sym (journal-behind events stretch (answers powerUp stretch)) ∙ same ∙ none);

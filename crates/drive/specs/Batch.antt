@@ -1,17 +1,11 @@
 -- A batch: the events of a capture's records one after another, each on what the last one left, and the words of each answer.
 use Prim.Native.Nat.{ℕ, zero, suc, _*_, _/_, _%_}
-use mathlib.Core.Path.{_≡_}
 use mathlib.Core.Bool.{not}
 use mathlib.Core.List.{List, [], _∷_}
 use lib.Dec.{eqb, ltb}
 use lib.ListN.{length, getD, drop}
 use Rattle.laws.specs.Rows.{Row, first, _when_}
-use Rattle.laws.specs.Lists.{writtenOver}
 use Rattle.parts.specs.declared.event.Event.{Event}
-use Rattle.drive.specs.Refusal.{row11, row10}
-use Rattle.drive.specs.Run.{Machine, machine, after, answerTo, answers, final}
-use Rattle.drive.specs.AnswerWords.{answerWords, wordsOfAnswers}
-use Rattle.drive.specs.declared.drive.Drive.{Drive}
 
 -- "Records of 8 octets: tick (2, high first), port, kind, four argument octets". The tick is not the drive's.
 unfoldable pub eventOf : List ℕ → Event

@@ -1,7 +1,7 @@
 -- "Data controls": the words of an open transfer, from the host and to it.
 use Prim.Native.Nat.{ℕ, _+_}
-use mathlib.Core.Bool.{Bool, true, false, not, _&&_}
-use mathlib.Core.List.{List, [], _∷_}
+use mathlib.Core.Bool.{Bool, not, _&&_}
+use mathlib.Core.List.{List, []}
 use lib.Dec.{eqb}
 use lib.ListN.{take, drop, set, getD}
 use lib.Seq.{paste}

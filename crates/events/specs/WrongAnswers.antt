@@ -61,6 +61,10 @@ PowersUp s state r state′ = PoweredUpOnWords s (disk zeros) zeros state r stat
 abbrev Answers : List ℕ → Event → ℕ → List ℕ → List ℕ → Type 0
 Answers state e r state′ answer = EventOnWords state e (disk zeros) zeros (replicate 13 0) r state′ (disk zeros) zeros answer
 
+-- The same with no room for the answer, and nothing changed.
+abbrev Unanswered : List ℕ → Event → ℕ → Type 0
+Unanswered state e r = EventOnWords state e (disk zeros) zeros [] r state (disk zeros) zeros []
+
 -- The records, and room for so many answers; the number, and the state's and the answers' words after a run from rest.
 abbrev Runs : List ℕ → ℕ → ℕ → List ℕ → List ℕ → Type 0
 Runs records count r state out = RunOnWords (stateWords (atRest bench)) records (disk zeros) zeros (replicate (13 * count) 0) r state (disk zeros) zeros out
@@ -103,6 +107,10 @@ pub record WrongAnswers : Type 0 where
   pub refusalAnswered : Answers (stateWords (atRest bench)) (sent 0 1 0x40 0) 4 (stateWords (atRest bench)) (answerWords (Refused 4)) → ⊥
   -- A hold of 3 is taken for a strong one: the other port is told 6.
   pub holdOf3Taken : Answers (set (stateWords (selectedBy 0 Strong)) 9 3) (sent 1 1 0x33 0) 6 (set (stateWords (selectedBy 0 Strong)) 9 3) (replicate 13 0) → ⊥
+  -- 10 for a state that is not sound, since the answer's slice is too short: 11 is tested first.
+  pub tenBeforeEleven : Unanswered (set (stateWords (atRest bench)) 9 3) (sent 0 1 0x30 0) 10 → ⊥
+  -- 1 for port 2, where there is no room for the answer: 10 is tested first.
+  pub oneBeforeTen : Unanswered (stateWords (atRest bench)) (sent 2 1 0x30 0) 1 → ⊥
   -- ---- `run_records`
   -- 10 for records that are not whole.
   pub tenForTornRecords : Runs (replicate 7 0) 0 10 (stateWords (atRest bench)) [] → ⊥

@@ -4,6 +4,7 @@ use Prim.Native.Nat.{ℕ}
 use mathlib.Core.Path.{_≡_, sym, ap, _∙_}
 use mathlib.Core.Bool.{false, true≢false}
 use mathlib.Core.List.{List}
+use mathlib.Core.Option.{Option, some, none}
 use native.Mathlib.Omega.{arith}
 use borrow.Author.Tests.{eq-eqb}
 use lib.Dec.{eqb}
@@ -18,6 +19,10 @@ told-apart wrong right = differ
 
 pub differ-at : (i : ℕ) {xs ys : List ℕ} → eqb (getD xs i 0) (getD ys i 0) ≡ false → xs ≡ ys → ⊥
 differ-at i {xs} {ys} e h = differ e (ap (λ (list : List ℕ). getD list i 0) h)
+
+-- what is absent is not there
+pub absent : {A : Type 0} {B : Type 0} {x : Option B} {b : B} → x ≡ none → x ≡ some b → A
+absent {x = x} {b = b} p q = let z : _≡_ {A = ℕ} 0 1 = cc in absurd (omega arith)
 
 -- two cases of an enum are never equal: `cc` proves this of them
 pub never : _≡_ {A = ℕ} 0 1 → ⊥

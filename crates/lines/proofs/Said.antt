@@ -5,7 +5,7 @@ use mathlib.Core.Path.{_≡_, refl}
 use mathlib.Core.Bool.{Bool, true, false, _&&_}
 use lib.Dec.{eqb}
 use Rattle.laws.specs.Pick.{pick}
-use Rattle.laws.specs.Rows.{first, tells}
+use Rattle.laws.specs.Rows.{tells}
 use Rattle.laws.proofs.Pick.{either}
 use Rattle.laws.proofs.Rows.{seen-on-paper}
 use Rattle.lines.specs.Moves as pairs

@@ -11,6 +11,7 @@ use Rattle.laws.specs.Pick.{pick}
 use Rattle.laws.specs.Octets.{bit}
 use Rattle.laws.specs.Lists.{oneOf}
 use Rattle.laws.proofs.Pick.{pick-not}
+use Rattle.laws.proofs.Differ.{absent}
 use Rattle.laws.proofs.Tests.{or-l, or-r}
 use Rattle.laws.proofs.Lists.{everyBelow, every-below, each-one-of}
 use Rattle.parts.specs.Pending.{pendingOf, octet0}
@@ -32,7 +33,6 @@ use Rattle.drive.specs.Run.{Machine, answerTo}
 use Rattle.drive.specs.declared.answer.Answer.{Answer}
 use Rattle.drive.specs.declared.answer.Answer.the-variants.{Refused, Done, Status, Opened, Word, LastWord, Response}
 use Rattle.drive.proofs.Posted.{on-either}
-use Rattle.drive.proofs.FromPowerUp.{never}
 use Rattle.drive.proofs.Bounded.{answers-bounded}
 use Rattle.pantoglide.specs.OneStatus.{StatusTaken, ResponseTaken, OneStatus}
 
@@ -44,11 +44,11 @@ known-status octet h = each-one-of (λ n. isDriveStatus n ≡ true) statuses oct
 
 status-in : (s : Setup) (answer : Answer) → Bounded s answer → (octet : ℕ) → paper answer .status ≡ some octet → oneOf statuses octet ≡ true
 unfolding paper
-status-in s (Refused n) b octet h = never refl h
-status-in s Done b octet h = never refl h
+status-in s (Refused n) b octet h = absent refl h
+status-in s Done b octet h = absent refl h
 status-in s (Status status) b octet h = let same : status ≡ octet = cc in rw same at b
-status-in s (Opened words place) b octet h = never refl h
-status-in s (Word word) b octet h = never refl h
+status-in s (Opened words place) b octet h = absent refl h
+status-in s (Word word) b octet h = absent refl h
 status-in s (LastWord word) b octet h = let same : 0 ≡ octet = cc in rw (← same)
 status-in s (Response first second third) b octet h = let same : 0 ≡ octet = cc in rw (← same)
 
@@ -114,12 +114,12 @@ response-in s (Response first second third) p b h =
     let one : second ≡ p .octet1 = cc in
     let two : third ≡ p .octet2 = cc in
     subst (λ (q : Pending). hasStrayBit q ≡ false) (λ i. record { octet1 = one i; octet2 = two i }) (b .known)
-response-in s (Refused n) p b h = never refl h
-response-in s Done p b h = never refl h
-response-in s (Status status) p b h = never refl h
-response-in s (Opened words place) p b h = never refl h
-response-in s (Word word) p b h = never refl h
-response-in s (LastWord word) p b h = never refl h
+response-in s (Refused n) p b h = absent refl h
+response-in s Done p b h = absent refl h
+response-in s (Status status) p b h = absent refl h
+response-in s (Opened words place) p b h = absent refl h
+response-in s (Word word) p b h = absent refl h
+response-in s (LastWord word) p b h = absent refl h
 
 pub one-status : OneStatus
 one-status =
