@@ -2,7 +2,8 @@
 -- Assumes nothing.
 use Prim.Native.Nat.{ℕ, zero, suc, _+_, _*_, _/_, _%_, _<_, _≤_}
 use mathlib.Core.Path.{_≡_, refl, sym, subst}
-use mathlib.Core.Bool.{true, false, true≢false}
+use mathlib.Core.Bool.{Bool, true, false, true≢false}
+use mathlib.Core.Logic.{_⊎_, inl, inr}
 use mathlib.Core.List.{List, [], _∷_, _++_, append-assoc}
 use mathlib.Core.Option.{some}
 use native.Mathlib.Omega.{arith}
@@ -16,7 +17,7 @@ use Rattle.laws.proofs.Rows.{first-among}
 use Rattle.laws.proofs.Differ.{absent}
 use Rattle.laws.proofs.Lists.{each-one-of}
 use Rattle.parts.specs.Setup.{withinLimits, sectorWords}
-use Rattle.parts.specs.Control.{wordsToCome}
+use Rattle.parts.specs.Control.{isData, wordsToCome}
 use Rattle.parts.specs.Pending.{bit6, noticed, faulted}
 use Rattle.parts.specs.Kind.{Kind, Select, Deselect, Use, Reset, Unknown, Work, kindOf}
 use Rattle.parts.specs.declared.setup.Setup.{Setup}
@@ -34,7 +35,7 @@ use Rattle.drive.specs.declared.drive.Drive.{Drive}
 use Rattle.drive.specs.declared.answer.Answer.{Answer}
 use Rattle.drive.specs.declared.answer.Answer.the-variants.{Refused, Done, Status, Opened, Word, LastWord, Response}
 use Rattle.drive.specs.declared.answer.Outcome.{Outcome}
-use Rattle.parts.proofs.Bounds.{limits, words-within, sector-words-few}
+use Rattle.parts.proofs.Bounds.{Limits, limits, words-within, code-words-few, sector-words-few}
 use Rattle.drive.proofs.Sound.{sound}
 use Rattle.drive.proofs.Laws.{by-cases, doneBy, AllPassed}
 use Rattle.drive.proofs.EveryAnswer.{OfTheTable, numbers}
@@ -48,10 +49,20 @@ use Rattle.drive.proofs.Outcomes
 
 -- ---- bounds
 
+words-or-few : (s : Setup) (c : ℕ) → (wordsToCome s c ≤ sectorWords s) ⊎ (wordsToCome s c ≤ 5)
+words-or-few s c = by-bit (isData c) refl
+  where
+    by-bit : (high : Bool) → isData c ≡ high → (wordsToCome s c ≤ sectorWords s) ⊎ (wordsToCome s c ≤ 5)
+    by-bit true h = inl (words-within s c h)
+    by-bit false h = inr (code-words-few s c h)
+
 opened-within : {d at : Drive} {c : ℕ} {sectors staging : List ℕ} → Passable d sectors staging → Outcomes.Sought d c at
     → Bounded (d .setup) (Opened (wordsToCome (at .setup) c) (at .place))
 opened-within {d} {c = c} p q =
-    record { count = subst (λ (s : Setup). wordsToCome s c ≤ sectorWords (d .setup)) (sym (sought-setup q)) (words-within (d .setup) c); inside = sought-inside p q }
+    record {
+      count = subst (λ (s : Setup). (wordsToCome s c ≤ sectorWords (d .setup)) ⊎ (wordsToCome s c ≤ 5)) (sym (sought-setup q)) (words-or-few (d .setup) c);
+      inside = sought-inside p q;
+    }
 
 quiet-bounded : {d : Drive} {e : Event} {sectors staging : List ℕ} {work : Work} {o : Outcome} → Passable d sectors staging
     → (AreOctets (d .pending0) × AreOctets (d .pending1)) → Outcomes.Quiet d e sectors work o → Bounded (d .setup) (o .answer)
@@ -60,9 +71,15 @@ quiet-bounded p f (Outcomes.bad q b) = refl
 quiet-bounded p f (Outcomes.stepped k) = refl
 quiet-bounded p f (Outcomes.nothingToCome q w) = refl
 quiet-bounded p f (Outcomes.opens q o z) = opened-within p q
-quiet-bounded p f Outcomes.takenLast = tt
-quiet-bounded p f (Outcomes.taken z) = tt
-quiet-bounded p f Outcomes.ends = refl
+quiet-bounded p f (Outcomes.takenLast high) = tt
+quiet-bounded p f (Outcomes.taken high z) = tt
+quiet-bounded p f (Outcomes.ends high) = refl
+quiet-bounded p f (Outcomes.exchanged low (Outcomes.kept z)) = tt
+quiet-bounded p f (Outcomes.exchanged low (Outcomes.obeys h)) = refl
+quiet-bounded p f (Outcomes.exchanged low (Outcomes.disobeys b)) = refl
+quiet-bounded p f (Outcomes.exchanged low (Outcomes.tells z)) = tt
+quiet-bounded p f (Outcomes.exchanged low (Outcomes.tellsLast z)) = tt
+quiet-bounded p f (Outcomes.exchanged low Outcomes.cut) = refl
 quiet-bounded p f (Outcomes.placed h) = refl
 quiet-bounded p f (Outcomes.aimed h) = refl
 quiet-bounded {d} {e} p f Outcomes.statusTold =
@@ -71,9 +88,9 @@ quiet-bounded {d} {e} p f Outcomes.statusTold =
 work-bounded : {d : Drive} {e : Event} {sectors staging : List ℕ} {work : Work} {r : Result} → Passable d sectors staging
     → (AreOctets (d .pending0) × AreOctets (d .pending1)) → Outcomes.WorkDone d e sectors staging work r → Bounded (d .setup) (r .outcome .answer)
 work-bounded p f (Outcomes.quiet q) = quiet-bounded p f q
-work-bounded p f Outcomes.miscompared = refl
-work-bounded p f (Outcomes.completed z) = refl
-work-bounded p f (Outcomes.more z) = tt
+work-bounded p f (Outcomes.miscompared high) = refl
+work-bounded p f (Outcomes.completed high z) = refl
+work-bounded p f (Outcomes.more high z) = tt
 
 kind-bounded : (k : Kind) (m : Machine) (e : Event) → PendingOctets m → AllPassed k m e → Bounded (m .drive .setup) ((doneBy k m e) .outcome .answer)
 kind-bounded Select m e f p = tt
@@ -117,7 +134,8 @@ work-response : {d : Drive} {e : Event} {sectors : List ℕ} {work : Work} {o : 
     → paper (o .answer) .response ≡ some octets → octets ≡ responseTo (pendingOn d (e .port))
 unfolding paper
 work-response octets (Outcomes.anOpening q) h = absent refl h
-work-response octets (Outcomes.aWord w p r) h = absent r h
+work-response octets (Outcomes.aWord high w p r) h = absent r h
+work-response octets (Outcomes.aResponseWord low w p r) h = absent r h
 work-response {d} {e} octets Outcomes.aResponse h = cc
 work-response octets (Outcomes.nothing w p r) h = absent r h
 
@@ -142,6 +160,10 @@ response-told m e octets =
 there : (n : ℕ) → n < 0xFFFF → eqb n 0xFFFF ≡ false
 there n h = ne-eqb n 0xFFFF (λ e. omega arith)
 
+few-words : (s : Setup) (words : ℕ) → Limits s → (words ≤ sectorWords s) ⊎ (words ≤ 5) → words < 0xFFFF
+few-words s words l (inl h) = omega (arith, sector-words-few s l)
+few-words s words l (inr h) = omega arith
+
 status-there : (status : ℕ) → oneOf statuses status ≡ true → eqb status 0xFFFF ≡ false
 status-there status b = each-one-of (λ n. eqb n 0xFFFF ≡ false) statuses status b (refl, (refl, (refl, (refl, tt))))
 
@@ -151,7 +173,7 @@ told-back s (Refused zero) l b = absurd (true≢false (sym b))
 told-back s (Refused (suc n)) l b = refl
 told-back s Done l b = refl
 told-back s (Status status) l b = rw (status-there status b)
-told-back s (Opened words place) l b = rw (there words (omega (arith, sector-words-few s (limits s l), b .count)))
+told-back s (Opened words place) l b = rw (there words (few-words s words (limits s l) (b .count)))
 told-back s (Word word) l b = refl
 told-back s (LastWord word) l b = refl
 told-back s (Response first second third) l b =

@@ -8,13 +8,14 @@ use mathlib.Core.Option.{some, none}
 use native.Mathlib.Omega.{arith}
 use borrow.Author.Tests.{not-false, eqb-true}
 use Rattle.laws.proofs.Pick.{either, cases}
-use Rattle.parts.specs.Control.{wordsToCome}
+use Rattle.parts.specs.Control.{isData, wordsToCome}
 use Rattle.parts.specs.Kind.{Kind, Select, Deselect, Use, Reset, Unknown, Work, WordFromHost, End, kindOf}
-use Rattle.parts.specs.Tests.{isWriteOpen}
+use Rattle.parts.specs.Tests.{isTaking}
 use Rattle.parts.specs.declared.setup.Place.{Place}
 use Rattle.parts.specs.declared.event.Event.{Event}
 use Rattle.drive.specs.State.{Result, postedOn}
-use Rattle.drive.specs.Drive.{selected, deselected, afterReset, headStepped, ended}
+use Rattle.drive.specs.Drive.{selected, deselected, afterReset, headStepped, closed, ended}
+use Rattle.drive.specs.Command.{parameterSent, wordFromHost, endedEarly}
 use Rattle.drive.specs.Answer.{paper}
 use Rattle.drive.specs.Transfer.{wordStaged, staged}
 use Rattle.drive.specs.Refusal.{row7}
@@ -27,7 +28,7 @@ use Rattle.drive.specs.declared.answer.Answer.{Answer}
 use Rattle.drive.specs.declared.answer.Answer.the-variants.{Opened}
 use Rattle.drive.specs.declared.answer.Outcome.{Outcome}
 use Rattle.drive.proofs.Laws.{by-cases, accepted-by, refused-changes-nothing, doneBy, left, AllPassed}
-use Rattle.drive.proofs.Journal.{no-write}
+use Rattle.drive.proofs.Journal.{isWriteOpen, no-write, write-open, exchange-closed}
 use Rattle.drive.proofs.Outcomes
 
 -- ---- the words of a write
@@ -57,7 +58,8 @@ opened-coming : {d : Drive} {e : Event} {sectors : List ℕ} {work : Work} {o : 
     → o .answer ≡ Opened n place → Coming n 0 (o .drive)
 unfolding paper
 opened-coming (Outcomes.anOpening q) h = record { moved = refl; words = cc }
-opened-coming (Outcomes.aWord w p r) h = absurd (not-opened p h)
+opened-coming (Outcomes.aWord high w p r) h = absurd (not-opened p h)
+opened-coming (Outcomes.aResponseWord low w p r) h = absurd (not-opened p h)
 opened-coming Outcomes.aResponse h = absurd (not-opened refl h)
 opened-coming (Outcomes.nothing w p r) h = absurd (not-opened p h)
 
@@ -65,9 +67,9 @@ opened-quietly : {d : Drive} {e : Event} {sectors staging : List ℕ} {work : Wo
     → r .outcome .answer ≡ Opened n place → r .sectors ≡ sectors
 unfolding paper
 opened-quietly (Outcomes.quiet q) h = refl
-opened-quietly Outcomes.miscompared h = refl
-opened-quietly (Outcomes.completed z) h = absurd (not-opened refl h)
-opened-quietly (Outcomes.more z) h = refl
+opened-quietly (Outcomes.miscompared high) h = refl
+opened-quietly (Outcomes.completed high z) h = absurd (not-opened refl h)
+opened-quietly (Outcomes.more high z) h = refl
 
 opened-by : (k : Kind) (m : Machine) (e : Event) {n : ℕ} {place : Place} → (doneBy k m e) .outcome .answer ≡ Opened n place
     → Unfinished n 0 (m .sectors) (left (doneBy k m e))
@@ -85,15 +87,34 @@ unfolding paper
 opened m e {n} {place} =
     by-cases (λ answer next. answer ≡ Opened n place → Unfinished n 0 (m .sectors) next) m e (λ r z h. absurd (not-opened refl h)) (λ k z p h. opened-by k m e h)
 
--- one more word, of a write that has another to come behind it
+-- one more word, of a write or a command that has another to come behind it
 staged-on : {n j : ℕ} {sectors : List ℕ} (m : Machine) (e : Event) → suc j < n → Coming n j (m .drive) → m .sectors ≡ sectors
     → Unfinished n (suc j) sectors (left (doneBy (Use WordFromHost) m e))
-unfolding wordStaged staged ended
+unfolding wordFromHost parameterSent wordStaged staged ended
 staged-on {n} {j} {sectors} m e more c s =
-    either (λ (r : Result). Unfinished n (suc j) sectors (left r)) _ (over no-write s)
+    either (λ (r : Result). Unfinished n (suc j) sectors (left r)) (isData (m .drive .transfer .control))
+    (either (λ (r : Result). Unfinished n (suc j) sectors (left r)) _ (over no-write s)
     (cases (λ (r : Result). Unfinished n (suc j) sectors (left r)) _
     (λ z. absurd (omega (arith, eqb-true (m .drive .transfer .moved + 1) (wordsToCome (m .drive .setup) (m .drive .transfer .control)) z)))
+    (λ z. going (record { moved = omega arith; words = c .words }) s)))
+    (cases (λ (o : Outcome). Unfinished n (suc j) sectors (machine (o .drive) (m .sectors) (m .staging))) _
+    (λ z. absurd (omega (arith, eqb-true (m .drive .transfer .moved + 1) (wordsToCome (m .drive .setup) (m .drive .transfer .control)) z)))
     (λ z. going (record { moved = omega arith; words = c .words }) s))
+
+-- a word of data is not accepted where no write is open
+never-sent : {A : Type 0} (d : Drive) → isWriteOpen (d .transfer) ≡ false → isData (d .transfer .control) ≡ true → not (isTaking (d .transfer)) ≡ false → A
+never-sent d c high t = absurd (false≢true (sym c ∙ write-open (d .transfer) high t))
+
+-- the write is over: what comes is a command's word
+over-on : {n j : ℕ} {sectors : List ℕ} (m : Machine) (e : Event) → isWriteOpen (m .drive .transfer) ≡ false → m .sectors ≡ sectors
+    → row7 WordFromHost (m .drive) ≡ false → Unfinished n j sectors (left (doneBy (Use WordFromHost) m e))
+over-on {n} {j} {sectors} m e w s t = by-outcome (Outcomes.work-done (m .drive) e (m .sectors) (m .staging) WordFromHost)
+  where
+    by-outcome : {r : Result} → Outcomes.WorkDone (m .drive) e (m .sectors) (m .staging) WordFromHost r → Unfinished n j sectors (left r)
+    by-outcome (Outcomes.quiet (Outcomes.exchanged low x)) = over (exchange-closed low x) s
+    by-outcome (Outcomes.miscompared high) = never-sent (m .drive) w high t
+    by-outcome (Outcomes.completed high z) = never-sent (m .drive) w high t
+    by-outcome (Outcomes.more high z) = never-sent (m .drive) w high t
 
 one-word : {n j : ℕ} {sectors : List ℕ} (m : Machine) (e : Event) → suc j < n → Unfinished n j sectors m → isRefused (answerTo m e) ≡ false
     → kindOf (e .kind) ≡ Use WordFromHost → Unfinished n (suc j) sectors (after m e)
@@ -101,7 +122,7 @@ one-word {n} {j} {sectors} m e more u a z =
     accepted-by (λ answer next. Unfinished n (suc j) sectors next) (Use WordFromHost) m e z a (λ p. by-word u (p .own .1 .0))
   where
     by-word : Unfinished n j sectors m → row7 WordFromHost (m .drive) ≡ false → Unfinished n (suc j) sectors (left (doneBy (Use WordFromHost) m e))
-    by-word (over w s) t = absurd (false≢true (sym w ∙ not-false (isWriteOpen (m .drive .transfer)) t))
+    by-word (over w s) t = over-on m e w s t
     by-word (going c s) t = staged-on m e more c s
 
 words-sent : {n j k : ℕ} {sectors : List ℕ} {m : Machine} {events : List Event} → Unfinished n j sectors m → Words m events k → j + k < n
@@ -124,8 +145,10 @@ record Left (m n : Machine) : Type 0 where
 
 -- what cuts a write leaves none
 cut-by : (m : Machine) (e : Event) → Cuts m e → Left m (after m e)
-unfolding selected afterReset ended
-cut-by m e (byEnd z a) = accepted-by (λ answer next. Left m next) (Use End) m e z a (λ p. record { sectors = refl; closed = no-write })
+unfolding selected afterReset ended closed endedEarly
+cut-by m e (byEnd z a) =
+    accepted-by (λ answer next. Left m next) (Use End) m e z a
+    (λ p. record { sectors = refl; closed = either (λ (d : Drive). isWriteOpen (d .transfer) ≡ false) _ no-write no-write })
 cut-by m e (byTakeover z a) = accepted-by (λ answer next. Left m next) Select m e z a (λ p. record { sectors = refl; closed = no-write })
 cut-by m e (byReset z a) = accepted-by (λ answer next. Left m next) Reset m e z a (λ p. record { sectors = refl; closed = no-write })
 
@@ -137,23 +160,20 @@ quiet-closed c (Outcomes.bad q b) n = c
 quiet-closed c (Outcomes.stepped k) n = c
 quiet-closed c (Outcomes.nothingToCome q w) n = no-write
 quiet-closed c (Outcomes.opens q o z) n = n
-quiet-closed c Outcomes.takenLast n = no-write
-quiet-closed c (Outcomes.taken z) n = c
-quiet-closed c Outcomes.ends n = no-write
+quiet-closed c (Outcomes.takenLast high) n = no-write
+quiet-closed c (Outcomes.taken high z) n = c
+quiet-closed c (Outcomes.ends high) n = no-write
+quiet-closed c (Outcomes.exchanged low x) n = exchange-closed low x
 quiet-closed c (Outcomes.placed h) n = c
 quiet-closed c (Outcomes.aimed h) n = c
 quiet-closed c Outcomes.statusTold n = c
 
--- a word from the host is not accepted where no write is open
-never-sent : {A : Type 0} (d : Drive) → isWriteOpen (d .transfer) ≡ false → not (isWriteOpen (d .transfer)) ≡ false → A
-never-sent d c t = absurd (false≢true (sym c ∙ not-false (isWriteOpen (d .transfer)) t))
-
 work-closed : {d : Drive} {e : Event} {sectors staging : List ℕ} {work : Work} {r : Result} → isWriteOpen (d .transfer) ≡ false → row7 work d ≡ false
     → Outcomes.WorkDone d e sectors staging work r → opensWrite e (r .outcome .answer) ≡ false → Left (machine d sectors staging) (left r)
 work-closed c t (Outcomes.quiet q) n = record { sectors = refl; closed = quiet-closed c q n }
-work-closed {d} c t Outcomes.miscompared n = never-sent d c t
-work-closed {d} c t (Outcomes.completed z) n = never-sent d c t
-work-closed {d} c t (Outcomes.more z) n = never-sent d c t
+work-closed {d} c t (Outcomes.miscompared high) n = never-sent d c high t
+work-closed {d} c t (Outcomes.completed high z) n = never-sent d c high t
+work-closed {d} c t (Outcomes.more high z) n = never-sent d c high t
 
 kind-closed : (k : Kind) (m : Machine) (e : Event) → isWriteOpen (m .drive .transfer) ≡ false → AllPassed k m e
     → opensWrite e ((doneBy k m e) .outcome .answer) ≡ false → Left m (left (doneBy k m e))

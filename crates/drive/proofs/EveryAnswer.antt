@@ -4,75 +4,66 @@ use Prim.Native.Nat.{ℕ, zero, suc}
 use mathlib.Core.Path.{_≡_, refl}
 use mathlib.Core.Bool.{true, true≢false}
 use mathlib.Core.List.{List}
-use lib.Dec.{eqb}
 use Rattle.laws.specs.Lists.{oneOf}
 use mathlib.Core.Logic.{_↔_}
 use Rattle.laws.specs.Rows.{first, Given, unlessRefused}
-use Rattle.laws.proofs.Pick.{either}
 use Rattle.laws.proofs.Rows.{first-among, EachNumber, exactly, row-off, rows-rest}
-use Rattle.parts.specs.Setup.{noTarget}
-use Rattle.parts.specs.Control.{controlOf, isAtTarget, wordsToCome}
-use Rattle.parts.specs.Kind.{Kind, Select, Deselect, Use, Reset, Unknown, Work, DataControl, WordFromHost, TakeWord, End, Position, Target, ReadStatus, kindOf}
-use Rattle.parts.specs.declared.control.Control.{Control}
-use Rattle.parts.specs.declared.control.Control.the-variants as control
+use Rattle.parts.specs.Kind.{Kind, Select, Deselect, Use, Reset, Unknown, Work, kindOf}
 use Rattle.parts.specs.declared.event.Event.{Event}
 use Rattle.drive.specs.Answer.{refusalIn}
 use Rattle.drive.specs.State.{Result}
 use Rattle.drive.specs.Refusal.{rows, rowsOf, row8, row1, row10, row11, refusalOf}
-use Rattle.drive.specs.Request.{badRequest, opened, opening, controlled, dataControl, positioned, targeted, statusRead}
-use Rattle.drive.specs.Transfer.{wordStaged, staged, wordTaken}
 use Rattle.drive.specs.Event.{act, refusedWith, handled}
 use Rattle.drive.specs.Power.{atRest, powerUpRows}
 use Rattle.drive.specs.Power as power
 use Rattle.drive.specs.EveryAnswer as every
-use Rattle.drive.specs.EveryAnswer.{Accepted, Listed, refusalNumbers, EveryAnswer}
+use Rattle.drive.specs.EveryAnswer.{requestStatuses, Accepted, Listed, refusalNumbers, EveryAnswer}
 use Rattle.drive.specs.Exactly.{Exactly}
 use Rattle.drive.specs.declared.drive.Drive.{Drive}
 use Rattle.drive.specs.declared.answer.Outcome.{Outcome}
 use Rattle.drive.specs.declared.answer.Answer.{Answer}
-use Rattle.drive.specs.declared.answer.Answer.the-variants.{Refused}
+use Rattle.drive.specs.declared.answer.Answer.the-variants.{Status}
 use Rattle.drive.specs.declared.power.Powered.the-variants as powered
+use Rattle.drive.proofs.Outcomes
 
 -- ---- what each kind answers
 
-abbrev Controlled : Outcome → Type 0
-Controlled o = Accepted (Use DataControl) (o .answer)
+request-answers : {work : Work} {status : ℕ} → Outcomes.Request work → oneOf requestStatuses status ≡ true → Accepted (Use work) (Status status)
+request-answers Outcomes.control h = every.controlled h
+request-answers Outcomes.position h = every.positioned h
+request-answers Outcomes.target h = every.targeted h
 
-opened-answers : (d : Drive) (c : ℕ) → Controlled (opened d c)
-unfolding opened
-opened-answers d c = either Controlled (eqb (wordsToCome (d .setup) c) 0) (every.controlled refl) every.opened
+exchange-answers : {d : Drive} {e : Event} {work : Work} {o : Outcome} → Outcomes.Exchanged d e work o → Accepted (Use work) (o .answer)
+exchange-answers (Outcomes.kept z) = every.more
+exchange-answers (Outcomes.obeys h) = every.finished
+exchange-answers (Outcomes.disobeys b) = every.disobeyed
+exchange-answers (Outcomes.tells z) = every.taken
+exchange-answers (Outcomes.tellsLast z) = every.lastTaken
+exchange-answers Outcomes.cut = every.ended
 
-opening-answers : (d : Drive) (port c : ℕ) → Controlled (opening d port c)
-unfolding opening badRequest
-opening-answers d port c =
-    either Controlled (isAtTarget c) (either Controlled (eqb (d .target) noTarget) (every.controlled refl) (opened-answers _ c)) (opened-answers d c)
+quiet-answers : {d : Drive} {e : Event} {sectors : List ℕ} {work : Work} {o : Outcome} → Outcomes.Quiet d e sectors work o → Accepted (Use work) (o .answer)
+quiet-answers (Outcomes.unsolicited q) = request-answers q refl
+quiet-answers (Outcomes.bad q b) = request-answers q refl
+quiet-answers (Outcomes.stepped k) = every.controlled refl
+quiet-answers (Outcomes.nothingToCome q w) = every.controlled refl
+quiet-answers (Outcomes.opens q o z) = every.opened
+quiet-answers (Outcomes.takenLast high) = every.lastTaken
+quiet-answers (Outcomes.taken high z) = every.taken
+quiet-answers (Outcomes.ends high) = every.ended
+quiet-answers (Outcomes.exchanged low x) = exchange-answers x
+quiet-answers (Outcomes.placed h) = every.positioned refl
+quiet-answers (Outcomes.aimed h) = every.targeted refl
+quiet-answers Outcomes.statusTold = every.statusRead
 
-control-answers : (k : Control) (d : Drive) (port c : ℕ) → Controlled (controlled k d port c)
-unfolding badRequest
-control-answers control.Write d port c = opening-answers d port c
-control-answers control.Read d port c = opening-answers d port c
-control-answers control.StepHead d port c = every.controlled refl
-control-answers control.Reserved d port c = every.controlled refl
-control-answers control.Unsupported d port c = every.controlled refl
-control-answers control.Invalid d port c = every.controlled refl
+done-answers : {d : Drive} {e : Event} {sectors staging : List ℕ} {work : Work} {r : Result} → Outcomes.WorkDone d e sectors staging work r
+    → Accepted (Use work) (r .outcome .answer)
+done-answers (Outcomes.quiet q) = quiet-answers q
+done-answers (Outcomes.miscompared high) = every.miscompared
+done-answers (Outcomes.completed high z) = every.finished
+done-answers (Outcomes.more high z) = every.more
 
 work-answers : (w : Work) (d : Drive) (e : Event) (sectors staging : List ℕ) → Accepted (Use w) ((act (Use w) d e sectors staging) .outcome .answer)
-unfolding dataControl wordStaged staged wordTaken positioned targeted statusRead badRequest
-work-answers DataControl d e sectors staging = either Controlled _ (control-answers (controlOf (e .a0)) d (e .port) (e .a0)) (every.controlled refl)
-work-answers WordFromHost d e sectors staging =
-    either Staged _ every.miscompared (either Staged _ every.finished every.more)
-  where
-    Staged : Result → Type 0
-    Staged r = Accepted (Use WordFromHost) (r .outcome .answer)
-work-answers TakeWord d e sectors staging = either (λ (o : Outcome). Accepted (Use TakeWord) (o .answer)) _ every.lastTaken every.taken
-work-answers End d e sectors staging = every.ended
-work-answers Position d e sectors staging =
-    either (λ (o : Outcome). Accepted (Use Position) (o .answer)) _
-    (either (λ (o : Outcome). Accepted (Use Position) (o .answer)) _ (every.positioned refl) (every.positioned refl)) (every.positioned refl)
-work-answers Target d e sectors staging =
-    either (λ (o : Outcome). Accepted (Use Target) (o .answer)) _
-    (either (λ (o : Outcome). Accepted (Use Target) (o .answer)) _ (every.targeted refl) (every.targeted refl)) (every.targeted refl)
-work-answers ReadStatus d e sectors staging = every.statusRead
+work-answers w d e sectors staging = done-answers (Outcomes.work-done d e sectors staging w)
 
 -- ---- refusals
 
@@ -123,6 +114,7 @@ unrefused (every.controlled p) = refl
 unrefused every.more = refl
 unrefused every.finished = refl
 unrefused every.miscompared = refl
+unrefused every.disobeyed = refl
 unrefused every.taken = refl
 unrefused every.lastTaken = refl
 unrefused every.ended = refl

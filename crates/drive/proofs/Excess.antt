@@ -2,7 +2,7 @@
 -- Assumes nothing.
 use Prim.Native.Nat.{ℕ, _+_, _≤_}
 use mathlib.Core.Path.{_≡_, refl, sym, _∙_}
-use mathlib.Core.Bool.{Bool, false, _&&_, and-false}
+use mathlib.Core.Bool.{true, Bool, false, _&&_, and-false}
 use mathlib.Core.List.{List, [], _∷_}
 use native.Mathlib.Omega.{arith}
 use borrow.Author.Tests.{le-ltb, not-false}
@@ -10,9 +10,9 @@ use lib.ListN.{getD, drop, set, length-drop}
 use lib.Seq.{drop-set-lt, getD-drop, ext-getD}
 use Rattle.laws.specs.Pick.{pick}
 use Rattle.parts.specs.Setup.{sectorWords, allWords, sectorStart}
-use Rattle.parts.specs.Control.{movesHeader, namesField1, namesField2}
+use Rattle.parts.specs.Control.{isData, movesHeader, namesField1, namesField2}
 use Rattle.parts.specs.Kind.{Kind, Select, Deselect, Use, Reset, Unknown, Work, WordFromHost, wordOf}
-use Rattle.parts.specs.Tests.{isWriteOpen}
+use Rattle.parts.specs.Tests.{isTaking}
 use Rattle.parts.specs.declared.setup.Setup.{Setup}
 use Rattle.parts.specs.declared.event.Event.{Event}
 use Rattle.drive.specs.State.{Result}
@@ -56,24 +56,24 @@ commit-behind s c start sectors staging from r h =
 -- ---- kinds 3 to 9
 
 -- the word that came, staged within the sector
-staged-behind : {d : Drive} {sectors staging : List ℕ} (word : ℕ) → Passable d sectors staging → row7 WordFromHost d ≡ false
+staged-behind : {d : Drive} {sectors staging : List ℕ} (word : ℕ) → Passable d sectors staging → isData (d .transfer .control) ≡ true → row7 WordFromHost d ≡ false
     → drop (sectorWords (d .setup)) (set staging (d .transfer .moved) word) ≡ drop (sectorWords (d .setup)) staging
-staged-behind {d} {staging = staging} word p t =
-    let a = able-to-write p (not-false (isWriteOpen (d .transfer)) t) in
-    drop-set-lt (sectorWords (d .setup)) staging (d .transfer .moved) word (omega (arith, words-within (d .setup) (d .transfer .control)))
+staged-behind {d} {staging = staging} word p high t =
+    let a = able-to-write p (not-false (isTaking (d .transfer)) t) in
+    drop-set-lt (sectorWords (d .setup)) staging (d .transfer .moved) word (omega (arith, words-within (d .setup) (d .transfer .control) high))
 
 work-excess : {d : Drive} {e : Event} {sectors staging : List ℕ} {work : Work} {r : Result} → Passable d sectors staging → row7 work d ≡ false
     → Outcomes.WorkDone d e sectors staging work r → SameExcess (machine d sectors staging) (left r)
 work-excess p t (Outcomes.quiet q) = record { sectors = refl; staging = refl }
-work-excess {e = e} p t Outcomes.miscompared = record { sectors = refl; staging = staged-behind (wordOf e) p t }
-work-excess {d} {e} {sectors} {staging} p t (Outcomes.completed z) =
+work-excess {e = e} p t (Outcomes.miscompared high) = record { sectors = refl; staging = staged-behind (wordOf e) p high t }
+work-excess {d} {e} {sectors} {staging} p t (Outcomes.completed high z) =
     let within = sector-in-room (d .setup) (d .place) (inside (d .setup) (d .place) (sound d (p .sound) .place)) in
     record {
       sectors = commit-behind (d .setup) (d .transfer .control) (sectorStart (d .setup) (d .place)) sectors _ (allWords (d .setup))
           (staged-room (d .transfer .moved) (wordOf e) (room d sectors staging (p .sound) (p .room))) within;
-      staging = staged-behind (wordOf e) p t;
+      staging = staged-behind (wordOf e) p high t;
     }
-work-excess {e = e} p t (Outcomes.more z) = record { sectors = refl; staging = staged-behind (wordOf e) p t }
+work-excess {e = e} p t (Outcomes.more high z) = record { sectors = refl; staging = staged-behind (wordOf e) p high t }
 
 -- ---- every kind
 

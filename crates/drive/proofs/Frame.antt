@@ -2,11 +2,11 @@
 -- Assumes nothing.
 use Prim.Native.Nat.{ℕ, _+_, _-_, _≤_}
 use mathlib.Core.Path.{_≡_, refl, sym, ap, _∙_}
-use mathlib.Core.Bool.{Bool, true, false, _&&_}
+use mathlib.Core.Bool.{Bool, true, false, not, _&&_}
 use mathlib.Core.List.{List}
 use native.Mathlib.Nat.{zero-add}
 use native.Mathlib.Omega.{arith}
-use borrow.Author.Tests.{leb-true, ltb-true}
+use borrow.Author.Tests.{leb-true, ltb-true, not-false}
 use lib.Dec.{leb, ltb}
 use lib.ListN.{length, getD, drop, set, length-drop, length-set}
 use lib.Seq.{paste, paste-zero, length-paste, getD-drop}
@@ -14,16 +14,19 @@ use Rattle.laws.specs.Pick.{pick}
 use Rattle.laws.proofs.Pick.{pick-le, picks-apart}
 use Rattle.laws.proofs.Tests.{and-l, and-r}
 use Rattle.laws.proofs.Windows.{paste-at}
-use Rattle.parts.specs.Control.{movesHeader, namesField1, namesField2, part}
+use Rattle.parts.specs.Tests.{isTaking}
+use Rattle.parts.specs.Control.{controlOf, isWrite, isData, movesHeader, namesField1, namesField2, part}
 use Rattle.parts.specs.Kind.{Kind, Select, Deselect, Use, Reset, Unknown, Work, kindOf}
 use Rattle.drive.specs.State.{Result, pendingOn}
 use Rattle.drive.specs.Transfer.{committed}
+use Rattle.drive.specs.Refusal.{row7}
 use Rattle.drive.specs.Able.{Room}
 use Rattle.drive.specs.Frame.{isIn, wordWritten, CommitFrame, StagingFrame, asItWas, oneWord, PendingFrame, kept, Frame}
 use Rattle.drive.specs.Run.{Machine}
 use Rattle.parts.specs.declared.setup.Setup.{Setup}
 use Rattle.parts.specs.declared.event.Event.{Event}
-use Rattle.drive.proofs.Laws.{by-cases, doneBy}
+use Rattle.parts.proofs.ByBits.{writes-take}
+use Rattle.drive.proofs.Laws.{by-cases, doneBy, AllPassed}
 use Rattle.drive.proofs.Outcomes
 use Rattle.drive.proofs.Pendings.{pending-by}
 
@@ -90,25 +93,29 @@ module _ (s : Setup) (c start : ℕ) (sectors staging : List ℕ) (r : Room s st
 pub staged-room : {s : Setup} {start : ℕ} {sectors staging : List ℕ} (i word : ℕ) → Room s start sectors staging → Room s start sectors (set staging i word)
 staged-room {staging = staging} i word r = record { sector = r .sector; stage = rw (length-set staging i word) (r .stage) }
 
-worked-on : (m : Machine) (e : Event) {work : Work} {r : Result} → kindOf (e .kind) ≡ Use work → Outcomes.WorkDone (m .drive) e (m .sectors) (m .staging) work r
-    → StagingFrame m e (r .staging)
-worked-on m e z (Outcomes.quiet q) = asItWas refl
-worked-on m e z Outcomes.miscompared = oneWord z refl
-worked-on m e z (Outcomes.completed h) = oneWord z refl
-worked-on m e z (Outcomes.more h) = oneWord z refl
+a-write : (m : Machine) → isData (m .drive .transfer .control) ≡ true → not (isTaking (m .drive .transfer)) ≡ false
+    → isWrite (controlOf (m .drive .transfer .control)) ≡ true
+a-write m high t = writes-take (m .drive .transfer .control) ∙ rw (not-false (isTaking (m .drive .transfer)) t, high)
 
-staging-by : (k : Kind) (m : Machine) (e : Event) → kindOf (e .kind) ≡ k → StagingFrame m e ((doneBy k m e) .staging)
-staging-by Select m e z = asItWas refl
-staging-by Deselect m e z = asItWas refl
-staging-by Reset m e z = asItWas refl
-staging-by Unknown m e z = asItWas refl
-staging-by (Use work) m e z = worked-on m e z (Outcomes.work-done (m .drive) e (m .sectors) (m .staging) work)
+worked-on : (m : Machine) (e : Event) {work : Work} {r : Result} → kindOf (e .kind) ≡ Use work → row7 work (m .drive) ≡ false → Outcomes.WorkDone (m .drive) e (m .sectors) (m .staging) work r
+    → StagingFrame m e (r .staging)
+worked-on m e z t (Outcomes.quiet q) = asItWas refl
+worked-on m e z t (Outcomes.miscompared high) = oneWord z (a-write m high t) refl
+worked-on m e z t (Outcomes.completed high h) = oneWord z (a-write m high t) refl
+worked-on m e z t (Outcomes.more high h) = oneWord z (a-write m high t) refl
+
+staging-by : (k : Kind) (m : Machine) (e : Event) → kindOf (e .kind) ≡ k → AllPassed k m e → StagingFrame m e ((doneBy k m e) .staging)
+staging-by Select m e z p = asItWas refl
+staging-by Deselect m e z p = asItWas refl
+staging-by Reset m e z p = asItWas refl
+staging-by Unknown m e z p = asItWas refl
+staging-by (Use work) m e z p = worked-on m e z (p .own .1 .0) (Outcomes.work-done (m .drive) e (m .sectors) (m .staging) work)
 
 pub frame : Frame
 frame =
     record {
       commit = commit-frame;
-      staging = λ m e. by-cases (λ answer next. StagingFrame m e (next .staging)) m e (λ n z. asItWas refl) (λ k z p. staging-by k m e z);
+      staging = λ m e. by-cases (λ answer next. StagingFrame m e (next .staging)) m e (λ n z. asItWas refl) (λ k z p. staging-by k m e z p);
       pending = λ m e port real octets.
           by-cases (λ answer next. PendingFrame m e port (pendingOn (next .drive) port)) m e (λ n z. kept (λ bit o s. s) (λ bit o s. s)) (λ k z p. pending-by m e port real octets k z p);
     }

@@ -4,17 +4,21 @@ use Prim.Native.Nat.{ℕ, _+_, _<_}
 use mathlib.Core.Path.{_≡_, refl, sym, ap, subst, _∙_}
 use mathlib.Core.Bool.{true, false, not}
 use mathlib.Core.List.{List}
-use mathlib.Core.Option.{Option, some, none}
+use mathlib.Core.Option.{some}
 use native.Mathlib.Omega.{arith}
 use borrow.Author.Tests.{not-false, ltb-true, ltb-false}
 use lib.Dec.{ltb}
 use lib.ListN.{length, getD}
+use Rattle.laws.specs.Pick.{pick}
 use Rattle.laws.proofs.Pick.{cases}
 use Rattle.laws.proofs.Differ.{absent}
 use Rattle.parts.specs.Setup.{isPlace}
-use Rattle.parts.specs.Control.{headerPasses, namesField1, part, wordsToCome}
+use Rattle.parts.specs.Control.{controlOf, isRead, isData, headerPasses, namesField1, part, dataWords, wordsToCome}
+use Rattle.parts.specs.declared.control.Control.the-variants.{Response}
+use Rattle.parts.proofs.ByBits.{reads-give, low-responds}
+use Rattle.parts.proofs.Bounds.{data-words}
 use Rattle.parts.specs.Kind.{Kind, Select, Deselect, Use, Reset, Unknown, Work}
-use Rattle.parts.specs.Tests.{isReadOpen}
+use Rattle.parts.specs.Tests.{isGiving}
 use Rattle.parts.specs.declared.setup.Setup.{Setup}
 use Rattle.parts.specs.declared.setup.Place.{Place}
 use Rattle.parts.specs.declared.event.Event.{Event}
@@ -26,7 +30,8 @@ use Rattle.drive.specs.Able.{Passable, ReadsAt}
 use Rattle.drive.specs.Run.{Machine, machine, answerTo, answers, final}
 use Rattle.drive.specs.Journal.{journal, lastWrite, AllWhole}
 use Rattle.drive.specs.Standing.{Standing, OpeningTold, OpeningFollows}
-use Rattle.drive.specs.Reading.{Reading, readFrom, offsetOf, nextAddress, WordFollows}
+use Rattle.drive.specs.Command.{wordsTold}
+use Rattle.drive.specs.Reading.{offsetOf, nextAddress, WordTold, ofRead, ofResponse, WordFollows}
 use Rattle.drive.specs.declared.drive.Drive.{Drive}
 use Rattle.drive.specs.declared.answer.Outcome.{Outcome}
 use Rattle.drive.proofs.Sound.{sound, room}
@@ -37,7 +42,6 @@ use Rattle.drive.proofs.Laws.{by-cases, doneBy, AllPassed}
 use Rattle.drive.proofs.Along.{same-size-along}
 use Rattle.drive.proofs.Journal.{none-going, no-write, as-journalled, whole-from}
 use Rattle.drive.proofs.Standing.{standingOf, sought-there, sought-setup, stands-there}
-use Rattle.drive.proofs.WordsRead.{openRead, none-open, one-open, no-read, reads-there}
 use Rattle.drive.proofs.Outcomes
 
 -- ---- an opening
@@ -58,7 +62,8 @@ opening-told {d} {e} p (Outcomes.anOpening {at = at} q) place h =
       inside = subst (λ (x : Place). isPlace (d .setup) x ≡ true) there (sought-inside p q);
       count = ap (λ (s : Setup). some (wordsToCome s (e .a0))) (sought-setup q);
     }
-opening-told p (Outcomes.aWord w n r) place h = absent n h
+opening-told p (Outcomes.aWord high w n r) place h = absent n h
+opening-told p (Outcomes.aResponseWord low w n r) place h = absent n h
 opening-told p Outcomes.aResponse place h = absent refl h
 opening-told p (Outcomes.nothing w n r) place h = absent n h
 
@@ -81,7 +86,7 @@ opening-follows m e place =
 
 -- ---- a word that is taken
 
-word-stands : (s : Setup) (c k : ℕ) → k < wordsToCome s c → ReadsAt s c k (offsetOf s c k)
+word-stands : (s : Setup) (c k : ℕ) → k < dataWords s c → ReadsAt s c k (offsetOf s c k)
 unfolding offsetOf
 word-stands s c k h =
     let header = part (headerPasses c) (s .header) in
@@ -91,33 +96,36 @@ word-stands s c k h =
     (λ u. at-field1 s c k (ltb-false k header t) (ltb-true k (header + field1) u))
     (λ u. at-field2 s c k (ltb-false k (header + field1) u) h))
 
--- the word that a Take answers, as the drive has it
-record Taken (m : Machine) (word : ℕ) : Type 0 where
-  reading : isReadOpen (m .drive .transfer) ≡ true
-  held : word ≡ getD (m .sectors) (nextAddress (m .drive .setup) (openRead (m .drive))) 0
-  there : nextAddress (m .drive .setup) (openRead (m .drive)) < length (m .sectors)
+-- the word that a Take answers, as the drive has it: of the sector or of a response
+data Taken (m : Machine) (port word : ℕ) : Type 0 where
+  ofSector : isRead (controlOf (m .drive .transfer .control)) ≡ true
+      → word ≡ getD (m .sectors) (nextAddress (m .drive .setup) (standingOf (m .drive))) 0
+      → nextAddress (m .drive .setup) (standingOf (m .drive)) < length (m .sectors) → Taken m port word
+  ofStanding : controlOf (m .drive .transfer .control) ≡ Response → word ≡ Outcomes.responseAt (m .drive) port → Taken m port word
 
-word-at : {d : Drive} {sectors staging : List ℕ} (word : ℕ) → Passable d sectors staging → not (isReadOpen (d .transfer)) ≡ false → word ≡ Outcomes.wordAt d sectors
-    → Taken (machine d sectors staging) word
-word-at {d} {sectors} {staging} word p t e =
-    let being-read = not-false (isReadOpen (d .transfer)) t in
+word-at : {d : Drive} {sectors staging : List ℕ} (port word : ℕ) → Passable d sectors staging → isData (d .transfer .control) ≡ true
+    → not (isGiving (d .transfer)) ≡ false → word ≡ Outcomes.wordAt d sectors → Taken (machine d sectors staging) port word
+word-at {d} {sectors} {staging} port word p high t e =
+    let c = d .transfer .control in
+    let giving = not-false (isGiving (d .transfer)) t in
     let r = room d sectors staging (p .sound) (p .room) in
-    let at = word-stands (d .setup) (d .transfer .control) (d .transfer .moved) (able-to-read p being-read .moved) in
-    record {
-      reading = being-read;
-      held = e ∙ read-in-place (d .setup) (d .place) (d .transfer .control) (d .transfer .moved) _ sectors (r .sector) at;
-      there = omega (arith, at .inside, r .sector);
-    }
+    let fewer : d .transfer .moved < dataWords (d .setup) c = rw (data-words (d .setup) c high) at (able-to-read p giving .moved) in
+    let at = word-stands (d .setup) c (d .transfer .moved) fewer in
+    ofSector (reads-give c ∙ rw (giving, high)) (e ∙ read-in-place (d .setup) (d .place) c (d .transfer .moved) _ sectors (r .sector) at)
+    (omega (arith, at .inside, r .sector))
 
 word-told : {d : Drive} {e : Event} {sectors staging : List ℕ} {work : Work} {o : Outcome} → Passable d sectors staging → row7 work d ≡ false
-    → Outcomes.Told d e sectors work o → (word : ℕ) → paper (o .answer) .word ≡ some word → Taken (machine d sectors staging) word
+    → Outcomes.Told d e sectors work o → (word : ℕ) → paper (o .answer) .word ≡ some word → Taken (machine d sectors staging) (e .port) word
 unfolding paper
 word-told p t (Outcomes.anOpening q) word h = absent refl h
-word-told {d} {sectors = sectors} p t (Outcomes.aWord w n r) word h = let it : word ≡ Outcomes.wordAt d sectors = cc in word-at word p t it
+word-told {d} {e} {sectors} p t (Outcomes.aWord high w n r) word h = let it : word ≡ Outcomes.wordAt d sectors = cc in word-at (e .port) word p high t it
+word-told {d} {e} p t (Outcomes.aResponseWord low w n r) word h =
+    let it : word ≡ Outcomes.responseAt d (e .port) = cc in
+    ofStanding (low-responds (d .transfer .control) low (not-false (isGiving (d .transfer)) t)) it
 word-told p t Outcomes.aResponse word h = absent refl h
 word-told p t (Outcomes.nothing w n r) word h = absent w h
 
-word-by : (k : Kind) (m : Machine) (e : Event) → AllPassed k m e → (word : ℕ) → paper ((doneBy k m e) .outcome .answer) .word ≡ some word → Taken m word
+word-by : (k : Kind) (m : Machine) (e : Event) → AllPassed k m e → (word : ℕ) → paper ((doneBy k m e) .outcome .answer) .word ≡ some word → Taken m (e .port) word
 unfolding paper
 word-by Select m e p word h = absent refl h
 word-by Deselect m e p word h = absent refl h
@@ -127,9 +135,9 @@ word-by (Use work) m e p word h =
     word-told (record { sound = p .sound; room = p .room }) (p .own .1 .0)
     (Outcomes.work-told (Outcomes.work-done (m .drive) e (m .sectors) (m .staging) work)) word h
 
-word-taken : (m : Machine) (e : Event) (word : ℕ) → paper (answerTo m e) .word ≡ some word → Taken m word
+word-taken : (m : Machine) (e : Event) (word : ℕ) → paper (answerTo m e) .word ≡ some word → Taken m (e .port) word
 unfolding paper
-word-taken m e word = by-cases (λ answer next. paper answer .word ≡ some word → Taken m word) m e (λ n z h. absent refl h) (λ k z p h. word-by k m e p word h)
+word-taken m e word = by-cases (λ answer next. paper answer .word ≡ some word → Taken m (e .port) word) m e (λ n z h. absent refl h) (λ k z p h. word-by k m e p word h)
 
 -- ---- from power-up
 
@@ -150,18 +158,25 @@ module _ (s : Setup) (sectors staging : List ℕ) where
       subst (λ (w : Standing). OpeningTold s (e .a0) w (paper (answerTo m e)) place) (sym (stands-there start before))
       (subst (λ (x : Setup). OpeningTold x (e .a0) (standingOf (m .drive)) (paper (answerTo m e)) place) (same-size-along start before .setup) (opening-follows m e place h))
 
+  -- 46 and 47 do not look at what is pending
+  told-of-standing : (before : List Event) (e : Event) (word : ℕ) → let start = machine (atRest s) sectors staging in
+      Taken (final start before) (e .port) word → WordTold start (journal before (answers start before)) (standingOf ((final start before) .drive)) word
+  unfolding wordsTold pick
+  told-of-standing before e word (ofSector r held there) =
+      let start = machine (atRest s) sectors staging in
+      let m = final start before in
+      let w = standingOf (m .drive) in
+      let same = same-size-along start before in
+      ofRead (record {
+        reading = r;
+        there = subst (λ (x : Setup). nextAddress x w < length sectors) (same .setup) (subst (λ (n : ℕ). nextAddress (m .drive .setup) w < n) (same .sectors) there);
+        written = held ∙ ap (λ (x : Setup). getD (m .sectors) (nextAddress x w) 0) (same .setup) ∙ every-word before (nextAddress s w);
+      })
+  told-of-standing before e word (ofStanding r it) = ofResponse (record { responding = r; told = λ z. it ∙ rw z })
+
   pub hosts-read-what-was-written : (before : List Event) (e : Event) → let start = machine (atRest s) sectors staging in
       WordFollows start before (answers start before) e (answerTo (final start before) e)
   hosts-read-what-was-written before e word h =
       let start = machine (atRest s) sectors staging in
-      let m = final start before in
-      let t = word-taken m e word h in
-      let same = same-size-along start before in
-      let read = openRead (m .drive) in
-      record {
-        read = read;
-        going = ap (λ (going : Option Reading). readFrom going before (answers start before)) (sym (none-open (atRest s) no-read))
-            ∙ reads-there start before ∙ one-open (m .drive) (t .reading);
-        there = subst (λ (x : Setup). nextAddress x read < length sectors) (same .setup) (subst (λ (n : ℕ). nextAddress (m .drive .setup) read < n) (same .sectors) (t .there));
-        written = t .held ∙ ap (λ (x : Setup). getD (m .sectors) (nextAddress x read) 0) (same .setup) ∙ every-word before (nextAddress s read);
-      }
+      subst (λ (w : Standing). WordTold start (journal before (answers start before)) w word) (sym (stands-there start before))
+      (told-of-standing before e word (word-taken (final start before) e word h))

@@ -3,7 +3,7 @@
 -- Assumes nothing.
 use Prim.Native.Nat.{ℕ, _+_, _-_, _<_, _≤_}
 use mathlib.Core.Path.{_≡_, refl, sym, ap, subst, _∙_}
-use mathlib.Core.Bool.{Bool, true, false, not, _&&_, _||_, true≢false, false≢true}
+use mathlib.Core.Bool.{Bool, true, false, not, _&&_, _||_, and-false, true≢false, false≢true}
 use mathlib.Core.List.{List, [], _∷_, _++_}
 use mathlib.Core.Option.{Option, some, none}
 use native.Mathlib.Numerals.{add-one}
@@ -13,15 +13,17 @@ use lib.Dec.{eqb, leb, ltb}
 use lib.ListN.{length, getD, take, set, length-append}
 use lib.Seq.{length-take-le, take-suc-set, getD-take}
 use Rattle.laws.specs.Pick.{pick}
-use Rattle.laws.proofs.Pick.{pick-alike, pick-le}
+use Rattle.laws.proofs.Pick.{either, pick-alike, pick-le}
 use Rattle.laws.proofs.Tests.{and-l, and-r, or-l}
 use Rattle.parts.specs.Setup.{sectorStart}
-use Rattle.parts.specs.Control.{controlOf, isWrite, isRead, movesHeader, namesField1, namesField2, part, wordsToCome}
+use Rattle.parts.specs.Command.{codeOf}
+use Rattle.parts.specs.Control.{controlOf, isWrite, givesWords, isData, movesHeader, namesField1, namesField2, part, wordsToCome}
 use Rattle.drive.specs.Answer.{Paper, paper}
 use Rattle.parts.specs.Kind.{Kind, Select, Deselect, Use, Reset, Unknown, Work, kindOf, wordOf, placeOf}
 use Rattle.drive.specs.State.{Result, withPlace, withTransfer, postedOn}
-use Rattle.parts.specs.Tests.{transferring, noTransfer, isWriteOpen, isReadOpen}
-use Rattle.drive.specs.Drive.{selected, deselected, afterReset, headStepped, ended}
+use Rattle.parts.specs.Tests.{movedOn, noTransfer, isTaking, isGiving}
+use Rattle.drive.specs.Drive.{selected, deselected, afterReset, reserved, unreserved, priorityReserved, headStepped, closed, ended}
+use Rattle.drive.specs.Command.{statusCleared}
 use Rattle.drive.specs.Transfer.{committed}
 use Rattle.drive.specs.Refusal.{row7}
 use Rattle.drive.specs.Able.{Passable}
@@ -29,12 +31,15 @@ use Rattle.drive.specs.Run.{Machine, machine, answerTo, after, answers, 
 use Rattle.drive.specs.Accepted.{isRefused}
 use Rattle.drive.specs.Frame.{isIn, wordWritten}
 use Rattle.drive.specs.Journal.{Write, withWord, Page, page, noted, pageAfter, journalFrom, lastWrite, Whole, AllWhole}
+use Rattle.parts.specs.declared.command.Function.{Function}
 use Rattle.parts.specs.declared.control.Control.{Control}
+use Rattle.parts.specs.declared.transfer.Transfer.{Transfer}
 use Rattle.parts.specs.declared.setup.Setup.{Setup}
 use Rattle.drive.specs.declared.drive.Drive.{Drive}
 use Rattle.parts.specs.declared.event.Event.{Event}
 use Rattle.drive.specs.declared.answer.Answer.{Answer}
 use Rattle.drive.specs.declared.answer.Outcome.{Outcome}
+use Rattle.parts.proofs.ByBits.{writes-take, write-is-data}
 use Rattle.parts.proofs.Bounds.{words-within, write-words}
 use Rattle.drive.proofs.Sound.{sound, room}
 use Rattle.drive.proofs.Own.{able-to-write}
@@ -44,6 +49,9 @@ use Rattle.drive.proofs.StaysSound.{same-size}
 use Rattle.drive.proofs.Outcomes
 
 -- ---- the write that the drive has open
+
+abbrev pub isWriteOpen : Transfer → Bool
+isWriteOpen t = isWrite (controlOf (t .control))
 
 abbrev openWrite : Drive → List ℕ → Write
 openWrite d staging = record { control = d .transfer .control; place = d .place; words = take (d .transfer .moved) staging }
@@ -61,28 +69,32 @@ one-going d staging h = rw h
 
 -- no write is open without a transfer
 pub no-write : isWriteOpen noTransfer ≡ false
-unfolding controlOf pick
+unfolding controlOf codeOf pick
 no-write = refl
 
 none-after : (d : Drive) (staging : List ℕ) → goingOn (ended d) staging ≡ none
 unfolding ended
 none-after d staging = none-going (ended d) staging no-write
 
-read-not-write : (k : Control) → isRead k ≡ true → isWrite k ≡ false
-read-not-write Control.Write h = absurd (false≢true h)
-read-not-write Control.Read h = refl
-read-not-write Control.StepHead h = refl
-read-not-write Control.Reserved h = refl
-read-not-write Control.Unsupported h = refl
-read-not-write Control.Invalid h = refl
+giving-not-write : (k : Control) → givesWords k ≡ true → isWrite k ≡ false
+giving-not-write Control.Write h = absurd (false≢true h)
+giving-not-write Control.Read h = refl
+giving-not-write Control.Command h = refl
+giving-not-write Control.Response h = refl
+giving-not-write Control.StepHead h = refl
+giving-not-write Control.Reserved h = refl
+giving-not-write Control.Unsupported h = refl
+giving-not-write Control.Invalid h = refl
 
-pub write-not-read : (k : Control) → isWrite k ≡ true → isRead k ≡ false
-write-not-read Control.Write h = refl
-write-not-read Control.Read h = absurd (false≢true h)
-write-not-read Control.StepHead h = refl
-write-not-read Control.Reserved h = refl
-write-not-read Control.Unsupported h = refl
-write-not-read Control.Invalid h = refl
+-- a transfer that takes words is a write if it is of data, else a command
+pub write-open : (t : Transfer) → isData (t .control) ≡ true → not (isTaking t) ≡ false → isWriteOpen t ≡ true
+write-open t high h = writes-take (t .control) ∙ rw (not-false (isTaking t) h, high)
+
+write-takes : (t : Transfer) → isWriteOpen t ≡ true → isTaking t ≡ true
+write-takes t w = and-l (isTaking t) (isData (t .control)) (sym (writes-take (t .control)) ∙ w)
+
+pub low-not-write : (t : Transfer) → isData (t .control) ≡ false → isWriteOpen t ≡ false
+low-not-write t low = writes-take (t .control) ∙ rw low (and-false (isTaking t))
 
 -- ---- kinds 3 to 9
 
@@ -97,11 +109,45 @@ still-none : (d d′ : Drive) (staging : List ℕ) → isWriteOpen (d .transfer)
     → page (goingOn d staging) [] ≡ page (goingOn d′ staging) []
 still-none d d′ staging h h′ = rw (none-going d staging h, none-going d′ staging h′)
 
-not-written : (d : Drive) → (isWriteOpen (d .transfer) || isReadOpen (d .transfer)) ≡ false → isWriteOpen (d .transfer) ≡ false
-not-written d h = or-l (isWriteOpen (d .transfer)) (isReadOpen (d .transfer)) h
+not-written : (d : Drive) → (isTaking (d .transfer) || isGiving (d .transfer)) ≡ false → isWriteOpen (d .transfer) ≡ false
+not-written d h = writes-take (d .transfer .control) ∙ rw (or-l (isTaking (d .transfer)) (isGiving (d .transfer)) h)
 
-being-read : (d : Drive) → not (isReadOpen (d .transfer)) ≡ false → isWriteOpen (d .transfer) ≡ false
-being-read d h = read-not-write (controlOf (d .transfer .control)) (not-false (isReadOpen (d .transfer)) h)
+being-read : (d : Drive) → not (isGiving (d .transfer)) ≡ false → isWriteOpen (d .transfer) ≡ false
+being-read d h = giving-not-write (controlOf (d .transfer .control)) (not-false (isGiving (d .transfer)) h)
+
+-- a command or response leaves no write open
+function-closed : {d at : Drive} {f : Function} → Outcomes.FunctionDone d f at → isWriteOpen (d .transfer) ≡ false → isWriteOpen (at .transfer) ≡ false
+unfolding reserved unreserved priorityReserved
+function-closed Outcomes.prioritised h = h
+function-closed Outcomes.reserves h = h
+function-closed Outcomes.releases h = h
+function-closed Outcomes.idles h = h
+function-closed Outcomes.recalibrates h = h
+
+pub exchange-closed : {d : Drive} {e : Event} {work : Work} {o : Outcome} → isData (d .transfer .control) ≡ false → Outcomes.Exchanged d e work o
+    → isWriteOpen (o .drive .transfer) ≡ false
+unfolding closed postedOn statusCleared
+exchange-closed {d} low (Outcomes.kept z) = low-not-write (d .transfer) low
+exchange-closed low (Outcomes.obeys (Outcomes.byFunction z q f)) = function-closed f no-write
+exchange-closed low (Outcomes.obeys (Outcomes.bySeek z i j)) = no-write
+exchange-closed low (Outcomes.disobeys b) = no-write
+exchange-closed {d} low (Outcomes.tells z) = low-not-write (d .transfer) low
+exchange-closed low (Outcomes.tellsLast z) = either (λ (at : Drive). isWriteOpen (at .transfer) ≡ false) _ no-write no-write
+exchange-closed low Outcomes.cut = no-write
+
+-- the journal notes nothing of one
+nothing-noted : {d : Drive} {e : Event} {work : Work} {o : Outcome} → Outcomes.Exchanged d e work o → (told : Paper) → noted (Use work) e told none ≡ page none []
+nothing-noted (Outcomes.kept z) told = refl
+nothing-noted (Outcomes.obeys h) told = refl
+nothing-noted (Outcomes.disobeys b) told = refl
+nothing-noted (Outcomes.tells z) told = refl
+nothing-noted (Outcomes.tellsLast z) told = refl
+nothing-noted Outcomes.cut told = refl
+
+exchange-noted : {d : Drive} {e : Event} {work : Work} {o : Outcome} (staging : List ℕ) → isData (d .transfer .control) ≡ false → Outcomes.Exchanged d e work o
+    → noted (Use work) e (paper (o .answer)) (goingOn d staging) ≡ page (goingOn (o .drive) staging) []
+exchange-noted {d} {o = o} staging low x =
+    rw (none-going d staging (low-not-write (d .transfer) low), none-going (o .drive) staging (exchange-closed low x)) (nothing-noted x (paper (o .answer)))
 
 quiet-noted : {d : Drive} {e : Event} {sectors : List ℕ} {work : Work} {o : Outcome} (staging : List ℕ) → row7 work d ≡ false → Outcomes.Quiet d e sectors work o
     → noted (Use work) e (paper (o .answer)) (goingOn d staging) ≡ page (goingOn (o .drive) staging) []
@@ -111,10 +157,11 @@ quiet-noted {d} {e} staging t (Outcomes.bad q b) = request-noted q e _ (goingOn 
 quiet-noted {d} staging t (Outcomes.stepped k) = still-none d (headStepped d) staging (not-written d t) (not-written d t)
 quiet-noted {d} staging t (Outcomes.nothingToCome {at = at} q w) = still-none d (ended at) staging (not-written d t) no-write
 quiet-noted {d} staging t (Outcomes.opens q o z) = refl
-quiet-noted {d} staging t Outcomes.takenLast = still-none d (ended d) staging (being-read d t) no-write
-quiet-noted {d} staging t (Outcomes.taken z) =
-    still-none d (withTransfer d (transferring (d .transfer .control) (d .transfer .moved + 1))) staging (being-read d t) (being-read d t)
-quiet-noted {d} staging t Outcomes.ends = ap (λ going. page going []) (sym (none-going (ended d) staging no-write))
+quiet-noted {d} staging t (Outcomes.takenLast high) = still-none d (ended d) staging (being-read d t) no-write
+quiet-noted {d} staging t (Outcomes.taken high z) =
+    still-none d (withTransfer d (movedOn (d .transfer) (d .transfer .moved + 1))) staging (being-read d t) (being-read d t)
+quiet-noted staging t (Outcomes.exchanged low x) = exchange-noted staging low x
+quiet-noted {d} staging t (Outcomes.ends high) = ap (λ going. page going []) (sym (none-going (ended d) staging no-write))
 quiet-noted {d} {e} staging t (Outcomes.placed h) = still-none d (withPlace d (placeOf e)) staging (not-written d t) (not-written d t)
 quiet-noted {d} staging t (Outcomes.aimed h) = refl
 quiet-noted {d} staging t Outcomes.statusTold = refl
@@ -162,7 +209,7 @@ words-so-far : (d : Drive) (e : Event) (sectors staging : List ℕ) → Passable
     → take (d .transfer .moved + 1) (set staging (d .transfer .moved) (wordOf e)) ≡ take (d .transfer .moved) staging ++ (wordOf e ∷ [])
 words-so-far d e sectors staging p w =
     let r = room d sectors staging (p .sound) (p .room) in
-    rw add-one (take-suc-set staging (d .transfer .moved) (wordOf e) (omega (arith, able-to-write p w .moved, words-within (d .setup) (d .transfer .control), r .stage)))
+    rw add-one (take-suc-set staging (d .transfer .moved) (wordOf e) (omega (arith, able-to-write p (write-takes (d .transfer) w) .moved, words-within (d .setup) (d .transfer .control) (write-is-data (d .transfer .control) w), r .stage)))
 
 -- the last word: the commit writes what the journal has
 committed-word : (d : Drive) (e : Event) (sectors staging : List ℕ) (address : ℕ) → Passable d sectors staging → isWriteOpen (d .transfer) ≡ true
@@ -185,7 +232,7 @@ completed-whole : (d : Drive) (e : Event) (sectors staging : List ℕ) → Passa
 completed-whole d e sectors staging p w z =
     let r = room d sectors staging (p .sound) (p .room) in
     let last = eqb-true (d .transfer .moved + 1) (wordsToCome (d .setup) (d .transfer .control)) z in
-    let there : d .transfer .moved ≤ length staging = omega (arith, words-within (d .setup) (d .transfer .control), r .stage) in
+    let there : d .transfer .moved ≤ length staging = omega (arith, words-within (d .setup) (d .transfer .control) (write-is-data (d .transfer .control) w), r .stage) in
     record {
       control = w;
       place = sound d (p .sound) .place;
@@ -196,18 +243,18 @@ work-noted : {d : Drive} {e : Event} {sectors staging : List ℕ} {work : Work} 
     → Outcomes.WorkDone d e sectors staging work r → InStep (machine d sectors staging) (noted (Use work) e (paper (r .outcome .answer)) (goingOn d staging)) (left r)
 unfolding paper pick lastWrite
 work-noted {staging = staging} p t (Outcomes.quiet q) = nothing-complete refl (quiet-noted staging t q)
-work-noted {d} {e} {sectors} {staging} p t Outcomes.miscompared =
-    nothing-complete refl (rw (one-going d staging (not-false (isWriteOpen (d .transfer)) t), none-after d (set staging (d .transfer .moved) (wordOf e))))
-work-noted {d} {e} {sectors} {staging} p t (Outcomes.completed z) =
-    let w = not-false (isWriteOpen (d .transfer)) t in
+work-noted {d} {e} {sectors} {staging} p t (Outcomes.miscompared high) =
+    nothing-complete refl (rw (one-going d staging (write-open (d .transfer) high t), none-after d (set staging (d .transfer .moved) (wordOf e))))
+work-noted {d} {e} {sectors} {staging} p t (Outcomes.completed high z) =
+    let w = write-open (d .transfer) high t in
     let all = set staging (d .transfer .moved) (wordOf e) in
     record {
       going = rw (one-going d staging w) (sym (none-after d all));
       word = λ address. rw (one-going d staging w) (committed-word d e sectors staging address p w z);
       whole = rw (one-going d staging w) (completed-whole d e sectors staging p w z, tt);
     }
-work-noted {d} {e} {sectors} {staging} p t (Outcomes.more z) =
-    let w = not-false (isWriteOpen (d .transfer)) t in
+work-noted {d} {e} {sectors} {staging} p t (Outcomes.more high z) =
+    let w = write-open (d .transfer) high t in
     nothing-complete refl (rw (one-going d staging w, ← (words-so-far d e sectors staging p w)) (ap (λ going. page going []) (sym (one-going _ _ w))))
 
 -- ---- every kind

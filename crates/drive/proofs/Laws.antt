@@ -8,22 +8,27 @@ use native.Mathlib.Omega.{arith}
 use borrow.Author.Tests.{eqb-true, eqb-false, ltb-false, not-false}
 use lib.Dec.{eqb}
 use Rattle.laws.specs.Rows.{unlessRefused}
+use Rattle.laws.proofs.Pick.{either}
 use Rattle.laws.proofs.Rows.{Passed, numbered, all-passed}
 use Rattle.parts.specs.Holding.{nobody, grantedTo, released, releasedFrom}
 use Rattle.parts.specs.Kind.{Kind, Select, Deselect, Use, Reset, Unknown, Work, kindOf}
-use Rattle.drive.specs.State.{Result, postedOn}
-use Rattle.drive.specs.Drive.{selected, deselected, afterReset, headStepped, atItsTarget, ended}
+use Rattle.drive.specs.State.{Result, told, postedOn}
+use Rattle.drive.specs.Drive.{selected, deselected, afterReset, reserved, unreserved, priorityReserved, headStepped, atItsTarget, closed, ended}
+use Rattle.drive.specs.Command.{statusCleared}
+use Rattle.drive.specs.Answer.{normal}
 use Rattle.drive.specs.Refusal.{row11, row10, row1, row8, rowsOf, rows, refusalOf}
 use Rattle.drive.specs.Event.{act, refusedWith, handled}
 use Rattle.drive.specs.Run.{Machine, machine, answerTo, after}
 use Rattle.drive.specs.Accepted.{isRefused}
+use Rattle.parts.specs.declared.command.Function.{Function}
+use Rattle.parts.specs.declared.holding.Holding.{Holding}
 use Rattle.parts.specs.declared.holding.Hold.{Hold}
 use Rattle.parts.specs.declared.holding.Hold.the-variants.{None, Plain, Strong}
 use Rattle.drive.specs.declared.drive.Drive.{Drive}
 use Rattle.parts.specs.declared.event.Event.{Event}
 use Rattle.drive.specs.declared.answer.Answer.{Answer}
 use Rattle.drive.specs.declared.answer.Outcome.{Outcome}
-use Rattle.drive.specs.declared.answer.Answer.the-variants.{Refused}
+use Rattle.drive.specs.declared.answer.Answer.the-variants.{Refused, Status, LastWord}
 use Rattle.drive.proofs.Outcomes
 
 -- ---- the one way into an event
@@ -78,15 +83,35 @@ accepted-by P k m e z accepted done =
     by-cases (λ answer next. isRefused answer ≡ false → P answer next) m e (λ n y r. absurd (true≢false r))
     (λ k′ y p r. subst (λ (j : Kind). AllPassed j m e → P ((doneBy j m e) .outcome .answer) (left (doneBy j m e))) (sym z ∙ y) done p) accepted
 
--- ---- kinds 3 to 9 leave the set-up and who is selected, the owner and the hold, and their answers are no refusals
+-- ---- kinds 3 to 9 leave the set-up, who is selected and the owner, and their answers are no refusals
 
 pub record Stays (d : Drive) (o : Outcome) : Type 0 where
   pub setup : o .drive .setup ≡ d .setup
-  pub holding : o .drive .holding ≡ d .holding
+  pub selected : o .drive .holding .selected ≡ d .holding .selected
+  pub owner : o .drive .holding .owner ≡ d .holding .owner
   pub answered : isRefused (o .answer) ≡ false
 
 as-it-was : {d : Drive} {o : Outcome} → o .drive .setup ≡ d .setup → o .drive .holding ≡ d .holding → isRefused (o .answer) ≡ false → Stays d o
-as-it-was s h a = record { setup = s; holding = h; answered = a }
+as-it-was s h a = record { setup = s; selected = ap (λ (x : Holding). x .selected) h; owner = ap (λ (x : Holding). x .owner) h; answered = a }
+
+function-stays : {d at : Drive} {f : Function} → Outcomes.FunctionDone d f at → Stays d (told (Status normal) at)
+unfolding reserved unreserved priorityReserved
+function-stays Outcomes.prioritised = record { setup = refl; selected = refl; owner = refl; answered = refl }
+function-stays Outcomes.reserves = record { setup = refl; selected = refl; owner = refl; answered = refl }
+function-stays Outcomes.releases = record { setup = refl; selected = refl; owner = refl; answered = refl }
+function-stays Outcomes.idles = as-it-was refl refl refl
+function-stays Outcomes.recalibrates = as-it-was refl refl refl
+
+exchange-stays : {d : Drive} {e : Event} {work : Work} {o : Outcome} → Outcomes.Exchanged d e work o → Stays d o
+unfolding postedOn closed statusCleared
+exchange-stays (Outcomes.kept z) = as-it-was refl refl refl
+exchange-stays (Outcomes.obeys (Outcomes.byFunction z q f)) =
+    let s = function-stays f in record { setup = s .setup; selected = s .selected; owner = s .owner; answered = refl }
+exchange-stays (Outcomes.obeys (Outcomes.bySeek z p t)) = as-it-was refl refl refl
+exchange-stays (Outcomes.disobeys b) = as-it-was refl refl refl
+exchange-stays (Outcomes.tells z) = as-it-was refl refl refl
+exchange-stays {d} {e} (Outcomes.tellsLast z) = either (λ (at : Drive). Stays d (told (LastWord (Outcomes.responseAt d (e .port))) at)) _ (as-it-was refl refl refl) (as-it-was refl refl refl)
+exchange-stays Outcomes.cut = as-it-was refl refl refl
 
 quiet-stays : {d : Drive} {e : Event} {sectors : List ℕ} {work : Work} {o : Outcome} → Outcomes.Quiet d e sectors work o → Stays d o
 unfolding postedOn headStepped atItsTarget ended
@@ -97,9 +122,10 @@ quiet-stays (Outcomes.nothingToCome (Outcomes.inPlace a) w) = as-it-was refl ref
 quiet-stays (Outcomes.nothingToCome (Outcomes.atTarget a t) w) = as-it-was refl refl refl
 quiet-stays (Outcomes.opens (Outcomes.inPlace a) o z) = as-it-was refl refl refl
 quiet-stays (Outcomes.opens (Outcomes.atTarget a t) o z) = as-it-was refl refl refl
-quiet-stays Outcomes.takenLast = as-it-was refl refl refl
-quiet-stays (Outcomes.taken z) = as-it-was refl refl refl
-quiet-stays Outcomes.ends = as-it-was refl refl refl
+quiet-stays (Outcomes.takenLast high) = as-it-was refl refl refl
+quiet-stays (Outcomes.taken high z) = as-it-was refl refl refl
+quiet-stays (Outcomes.ends high) = as-it-was refl refl refl
+quiet-stays (Outcomes.exchanged low x) = exchange-stays x
 quiet-stays (Outcomes.placed p) = as-it-was refl refl refl
 quiet-stays (Outcomes.aimed t) = as-it-was refl refl refl
 quiet-stays Outcomes.statusTold = as-it-was refl refl refl
@@ -107,9 +133,9 @@ quiet-stays Outcomes.statusTold = as-it-was refl refl refl
 work-stays : {d : Drive} {e : Event} {sectors staging : List ℕ} {work : Work} {r : Result} → Outcomes.WorkDone d e sectors staging work r → Stays d (r .outcome)
 unfolding ended
 work-stays (Outcomes.quiet q) = quiet-stays q
-work-stays Outcomes.miscompared = as-it-was refl refl refl
-work-stays (Outcomes.completed z) = as-it-was refl refl refl
-work-stays (Outcomes.more z) = as-it-was refl refl refl
+work-stays (Outcomes.miscompared high) = as-it-was refl refl refl
+work-stays (Outcomes.completed high z) = as-it-was refl refl refl
+work-stays (Outcomes.more high z) = as-it-was refl refl refl
 
 pub stays : (work : Work) (m : Machine) (e : Event) → Stays (m .drive) ((doneBy (Use work) m e) .outcome)
 stays work m e = work-stays (Outcomes.work-done (m .drive) e (m .sectors) (m .staging) work)
@@ -155,7 +181,7 @@ move-by Select m e z p = selects z (eqb-false (selectedOn m) (e .port) (p .own .
 move-by Deselect m e z p =
     deselects z (its-own m e (p .own .0)) (omega (arith, ltb-false 1 (e .port) (p .port))) (nobody-after (m .drive .holding .hold) (m .drive .holding .owner))
 move-by (Use work) m e z p =
-    works work z (its-own m e (p .own .0)) (omega (arith, ltb-false 1 (e .port) (p .port))) (ap (λ h. h .selected) (stays work m e .holding))
+    works work z (its-own m e (p .own .0)) (omega (arith, ltb-false 1 (e .port) (p .port))) (stays work m e .selected)
 move-by Reset m e z p = resets z refl
 move-by Unknown m e z p = absurd (true≢false (p .formed))
 

@@ -20,7 +20,6 @@ pub mod Sessions
 pub mod Journal
 pub mod Along
 pub mod Standing
-pub mod WordsRead
 pub mod CutShort
 pub mod FromPowerUp
 pub mod Bounded

@@ -18,7 +18,8 @@ use Rattle.laws.proofs.Tests.{and-l, and-r}
 use Rattle.laws.proofs.Lists.{stored}
 use Rattle.laws.proofs.Windows.{paste-on}
 use Rattle.parts.specs.Setup.{withinLimits, sectorWords, sectorStart, sectorAt, isPlace}
-use Rattle.parts.specs.Control.{controlOf, headerPasses, wordsToCome}
+use Rattle.parts.specs.Command.{codeOf}
+use Rattle.parts.specs.Control.{controlOf, headerPasses, dataWords, wordsToCome}
 use Rattle.parts.specs.Holding.{nobody, isBusy, grantedTo}
 use Rattle.parts.specs.Pending.{resetComplete, pendingOf, nothingPending, octet0}
 use Rattle.parts.specs.Kind.{Kind, Select, Use, Reset, Work, DataControl, WordFromHost, Position, ReadStatus, kindOf}
@@ -33,6 +34,7 @@ use Rattle.drive.specs.Drive.{ownerNoticed, selected, afterReset, ended}
 use Rattle.drive.specs.Request.{opened, opening, dataControl, positioned, statusRead}
 use Rattle.drive.specs.Refusal.{row8, isOneOpen, row7, ownRows}
 use Rattle.drive.specs.Transfer.{miscompares, committed, staged, wordStaged}
+use Rattle.drive.specs.Command.{wordFromHost}
 use Rattle.drive.specs.Event.{handled}
 use Rattle.drive.specs.Able.{Room, unlessOwnRowIn}
 use Rattle.drive.specs.Run.{Machine, machine, answerTo, after, answers, final}
@@ -135,7 +137,7 @@ module _ (m : Machine) (port : ℕ) (real : port ≤ 1) (s : IsSound m) where
   status-told = rw reset-pending
 
   status-does : Does (withDrive m (granted m port)) (sent port 9 0 0) (quietly m (told (Response 0x40 resetComplete 0) (ready m port)))
-  unfolding granted selected grantedTo kindOf controlOf pick
+  unfolding granted selected grantedTo kindOf controlOf codeOf pick
   status-does = work-does ReadStatus (select-does .sound) real refl refl refl refl (ap (quietly m) status-told)
 
   nothing-pending : pendingOn (ready m port) port ≡ nothingPending
@@ -143,7 +145,7 @@ module _ (m : Machine) (port : ℕ) (real : port ≤ 1) (s : IsSound m) where
   nothing-pending = cases (λ (q : Pending). q ≡ nothingPending) (eqb port 0) (λ z. rw z) (λ z. rw z)
 
   is-ready : (p : Place) → Ready (there m port p) port
-  unfolding there ready granted selected grantedTo postedOn pendingOn controlOf pick
+  unfolding there ready granted selected grantedTo postedOn pendingOn controlOf codeOf pick
   is-ready p = record { selected = refl; idle = refl; quiet = ap (λ (q : Pending). q .octet1) nothing-pending }
 
 -- ---- Position and the data control
@@ -162,7 +164,7 @@ module _ {m : Machine} {port : ℕ} (real : port ≤ 1) (s : IsSound m) (r : Rea
   opens = told (Opened (sectorWords (m .drive .setup)) (m .drive .place)) (withTransfer (m .drive) (transferring wholeSector 0))
 
   control-told : dataControl (m .drive) port wholeSector ≡ opens
-  unfolding opens dataControl opening opened controlOf wordsToCome headerPasses pick
+  unfolding opens dataControl opening opened controlOf dataWords wordsToCome headerPasses pick
   control-told =
       let l = limits (m .drive .setup) (sound (m .drive) (s .sound) .limits) in
       rw (r .quiet, ne-eqb (sectorWords (m .drive .setup)) 0 (λ e. omega arith))
@@ -184,18 +186,18 @@ module _ (d : Drive) (port : ℕ) (sectors : List ℕ) (real : port ≤ 1) (mine
   one-more : (moved : ℕ) (staging : List ℕ) (word : ℕ) → moved + 1 < sectorWords (d .setup)
       → wordStaged (withTransfer d (transferring wholeSector moved)) word sectors staging
       ≡ result (told Done (withTransfer d (transferring wholeSector (suc moved)))) sectors (set staging moved word)
-  unfolding wordStaged staged miscompares controlOf wordsToCome headerPasses pick
+  unfolding wordStaged staged miscompares controlOf dataWords wordsToCome headerPasses pick
   one-more moved staging word h = rw (ne-eqb (moved + 1) (sectorWords (d .setup)) (λ e. omega arith), add-one moved)
 
   the-last : (moved : ℕ) (staging : List ℕ) (word : ℕ) → moved + 1 ≡ sectorWords (d .setup)
       → wordStaged (withTransfer d (transferring wholeSector moved)) word sectors staging
       ≡ result (told (Status normal) (ended d)) (complete d sectors (set staging moved word) .sectors) (set staging moved word)
-  unfolding complete ended wordStaged staged miscompares controlOf wordsToCome headerPasses pick
+  unfolding complete ended wordStaged staged miscompares controlOf dataWords wordsToCome headerPasses pick
   the-last moved staging word h = rw (eq-eqb (moved + 1) (sectorWords (d .setup)) h)
 
   word-does : (moved : ℕ) (staging : List ℕ) (word : ℕ) {r : Result} → IsSound (writing d sectors moved staging)
       → wordStaged (withTransfer d (transferring wholeSector moved)) word sectors staging ≡ r → Does (writing d sectors moved staging) (wordSent port word) r
-  unfolding writing kindOf controlOf pick
+  unfolding writing kindOf controlOf wordFromHost pick
   word-does moved staging word s e =
       work-does WordFromHost s real refl refl mine refl (rw (div-add-mod' word 256) e)
 

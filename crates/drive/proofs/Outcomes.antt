@@ -1,30 +1,75 @@
--- What an accepted event of kinds 3 to 9 can have done: its outcomes one by one, each with the tests that led to it.
+-- What an accepted event of kinds 3 to 9 can have done: its outcomes one by one, each with the tests that led to it. Those of commands and responses first.
 -- Assumes nothing.
 use Prim.Native.Nat.{ℕ, _+_}
-use mathlib.Core.Path.{_≡_, refl}
-use mathlib.Core.Bool.{true, false, _||_}
+use mathlib.Core.Path.{_≡_, refl, sym, _∙_}
+use mathlib.Core.Bool.{true, false, _&&_, _||_}
 use mathlib.Core.List.{List}
 use mathlib.Core.Option.{some, none}
+use borrow.Author.Tests.{eqb-true, not-true}
 use lib.Dec.{eqb}
 use lib.ListN.{set, getD}
+use Rattle.laws.specs.Pick.{pick}
 use Rattle.laws.proofs.Pick.{either, cases}
+use Rattle.laws.proofs.Tests.{and-l, and-r}
 use Rattle.parts.specs.Setup.{sectorStart, sectorAt, isPlace, isTarget, noTarget}
-use Rattle.parts.specs.Control.{controlOf, isWrite, isRead, isAtTarget, wordsToCome, wordsRead}
+use Rattle.parts.specs.Command.{loadDriveFunction, readStatus, codeOf, parameterWords, functionIn}
+use Rattle.parts.specs.Control.{controlOf, isWrite, isRead, takesWords, givesWords, isData, isAtTarget, wordsToCome, wordsRead}
 use Rattle.parts.specs.Pending.{OneBit, bit7, bit6, bit5, bit4, nothingPending, faulted, octet0}
 use Rattle.drive.specs.Answer.{paper, normal, headerMiscompare, operationException, unsolicitedException}
-use Rattle.drive.specs.State.{withPlace, withTarget, withTransfer, pendingOn, postedOn, told, Result, result}
-use Rattle.parts.specs.Tests.{transferring}
-use Rattle.drive.specs.Drive.{headStepped, atItsTarget, ended}
+use Rattle.drive.specs.State.{atPlace, withPlace, withTarget, withTransfer, pendingOn, postedOn, told, Result, result}
+use Rattle.parts.specs.Tests.{transferring, movedOn}
+use Rattle.drive.specs.Drive.{reserved, unreserved, priorityReserved, headStepped, atItsTarget, closed, ended}
 use Rattle.drive.specs.Request.{unlessUnsolicited, badRequest, controlled, dataControl, opened, opening, positioned, targeted, statusRead}
 use Rattle.drive.specs.Transfer.{committed, staged, wordStaged, wordTaken}
+use Rattle.drive.specs.Command.{withParameter, placeSought, targetSought, seeking, functioned, obeyed, parameterSent, wordsTold, statusCleared, responseTaken, wordFromHost, wordToHost, endedEarly}
 use Rattle.parts.specs.Kind.{Use, Work, DataControl, WordFromHost, TakeWord, End, Position, Target, ReadStatus, wordOf, placeOf}
 use Rattle.drive.specs.Event.{act}
 use Rattle.parts.specs.declared.control.Control.{Control}
-use Rattle.parts.specs.declared.control.Control.the-variants.{Write, Read, StepHead, Reserved, Unsupported, Invalid}
+use Rattle.parts.specs.declared.control.Control.the-variants.{StepHead}
+use Rattle.parts.specs.declared.control.Control.the-variants as control-of
+use Rattle.parts.specs.declared.command.Function.{Function}
+use Rattle.parts.specs.declared.command.Function.the-variants.{PriorityReserve, Reserve, Release, NoOperation, Recalibrate, ActsOnMore, NotListed}
+use Rattle.parts.proofs.ByBits.{command-low, response-low, codes-open, codes-in-place}
+use Rattle.parts.specs.declared.setup.Setup.{Setup}
 use Rattle.drive.specs.declared.drive.Drive.{Drive}
 use Rattle.parts.specs.declared.event.Event.{Event}
 use Rattle.drive.specs.declared.answer.Outcome.{Outcome}
 use Rattle.drive.specs.declared.answer.Answer.the-variants.{Done, Status, Opened, Word, LastWord, Response}
+
+-- ---- commands and responses
+
+-- what a function does to a drive with nothing open
+pub data FunctionDone (d : Drive) : Function → Drive → Type 0 where
+  prioritised : FunctionDone d PriorityReserve (priorityReserved d)
+  reserves : FunctionDone d Reserve (reserved d)
+  releases : FunctionDone d Release (unreserved d)
+  idles : FunctionDone d NoOperation d
+  recalibrates : FunctionDone d Recalibrate (withPlace d (atPlace 0 (d .place .head) (d .place .sector)))
+
+-- a good command
+pub data Obeyed (d : Drive) (last : ℕ) : Drive → Type 0 where
+  byFunction : {f : Function} {at : Drive} → eqb (d .transfer .control) loadDriveFunction ≡ true → functionIn last ≡ f → FunctionDone (closed d) f at → Obeyed d last at
+  bySeek : eqb (d .transfer .control) loadDriveFunction ≡ false
+      → isPlace (d .setup) (placeSought (d .transfer) (d .place) last) ≡ true → isTarget (d .setup) (targetSought (d .transfer) (d .target) last) ≡ true
+      → Obeyed d last (withTarget (withPlace (closed d) (placeSought (d .transfer) (d .place) last)) (targetSought (d .transfer) (d .target) last))
+
+-- the next word of an open response
+abbrev pub responseAt : Drive → ℕ → ℕ
+responseAt d port = getD (wordsTold (d .transfer .control) (pendingOn d port) (d .place) (d .target)) (d .transfer .moved) 0
+
+pub data Exchanged (d : Drive) (e : Event) : Work → Outcome → Type 0 where
+  kept : eqb (d .transfer .moved + 1) (wordsToCome (d .setup) (d .transfer .control)) ≡ false
+      → Exchanged d e WordFromHost (told Done (withTransfer d (withParameter (d .transfer) (wordOf e))))
+  obeys : {at : Drive} → Obeyed d (wordOf e) at → Exchanged d e WordFromHost (told (Status normal) at)
+  disobeys : {bit : ℕ} → OneBit bit
+      → Exchanged d e WordFromHost (told (Status operationException) (postedOn (closed d) (e .port) (faulted (pendingOn (closed d) (e .port)) bit)))
+  tells : eqb (d .transfer .moved + 1) (wordsToCome (d .setup) (d .transfer .control)) ≡ false
+      → Exchanged d e TakeWord (told (Word (responseAt d (e .port))) (withTransfer d (movedOn (d .transfer) (d .transfer .moved + 1))))
+  tellsLast : eqb (d .transfer .moved + 1) (wordsToCome (d .setup) (d .transfer .control)) ≡ true
+      → Exchanged d e TakeWord (told (LastWord (responseAt d (e .port))) (statusCleared (d .transfer .control) (closed d) (e .port)))
+  cut : Exchanged d e End (told (Status normal) (closed d))
+
+-- ---- all of them
 
 -- kinds 3, 7 and 8, which an unsolicited exception stops and which can be bad requests
 pub data Request : Work → Type 0 where
@@ -49,64 +94,114 @@ pub data Quiet (d : Drive) (e : Event) (sectors : List ℕ) : Work → Outcome �
   stepped : controlOf (e .a0) ≡ StepHead → Quiet d e sectors DataControl (told (Status normal) (headStepped d))
   nothingToCome : {at : Drive} → Sought d (e .a0) at → (isWrite (controlOf (e .a0)) || isRead (controlOf (e .a0))) ≡ true
       → Quiet d e sectors DataControl (told (Status normal) (ended at))
-  opens : {at : Drive} → Sought d (e .a0) at → (isWrite (controlOf (e .a0)) || isRead (controlOf (e .a0))) ≡ true → eqb (wordsToCome (at .setup) (e .a0)) 0 ≡ false
+  opens : {at : Drive} → Sought d (e .a0) at → (takesWords (controlOf (e .a0)) || givesWords (controlOf (e .a0))) ≡ true → eqb (wordsToCome (at .setup) (e .a0)) 0 ≡ false
       → Quiet d e sectors DataControl (told (Opened (wordsToCome (at .setup) (e .a0)) (at .place)) (withTransfer at (transferring (e .a0) 0)))
-  takenLast : Quiet d e sectors TakeWord (told (LastWord (wordAt d sectors)) (ended d))
-  taken : eqb (d .transfer .moved + 1) (wordsToCome (d .setup) (d .transfer .control)) ≡ false
-      → Quiet d e sectors TakeWord (told (Word (wordAt d sectors)) (withTransfer d (transferring (d .transfer .control) (d .transfer .moved + 1))))
-  ends : Quiet d e sectors End (told (Status normal) (ended d))
+  takenLast : isData (d .transfer .control) ≡ true → Quiet d e sectors TakeWord (told (LastWord (wordAt d sectors)) (ended d))
+  taken : isData (d .transfer .control) ≡ true → eqb (d .transfer .moved + 1) (wordsToCome (d .setup) (d .transfer .control)) ≡ false
+      → Quiet d e sectors TakeWord (told (Word (wordAt d sectors)) (withTransfer d (movedOn (d .transfer) (d .transfer .moved + 1))))
+  ends : isData (d .transfer .control) ≡ true → Quiet d e sectors End (told (Status normal) (ended d))
+  exchanged : {work : Work} {o : Outcome} → isData (d .transfer .control) ≡ false → Exchanged d e work o → Quiet d e sectors work o
   placed : isPlace (d .setup) (placeOf e) ≡ true → Quiet d e sectors Position (told (Status normal) (withPlace d (placeOf e)))
   aimed : isTarget (d .setup) (wordOf e) ≡ true → Quiet d e sectors Target (told (Status normal) (withTarget d (wordOf e)))
   statusTold : Quiet d e sectors ReadStatus
       (told (Response (octet0 (pendingOn d (e .port))) (pendingOn d (e .port) .octet1) (pendingOn d (e .port) .octet2)) (postedOn d (e .port) nothingPending))
 
--- the same, or a word from the host: it is staged, and it can be one that differs, the last, or one before that
+-- the same, or a word of a write: it is staged, and it can be one that differs, the last, or one before that
 pub data WorkDone (d : Drive) (e : Event) (sectors staging : List ℕ) : Work → Result → Type 0 where
   quiet : {work : Work} {o : Outcome} → Quiet d e sectors work o → WorkDone d e sectors staging work (result o sectors staging)
-  miscompared : WorkDone d e sectors staging WordFromHost
+  miscompared : isData (d .transfer .control) ≡ true → WorkDone d e sectors staging WordFromHost
       (result (told (Status headerMiscompare) (ended d)) sectors (set staging (d .transfer .moved) (wordOf e)))
-  completed : eqb (d .transfer .moved + 1) (wordsToCome (d .setup) (d .transfer .control)) ≡ true → WorkDone d e sectors staging WordFromHost
+  completed : isData (d .transfer .control) ≡ true → eqb (d .transfer .moved + 1) (wordsToCome (d .setup) (d .transfer .control)) ≡ true → WorkDone d e sectors staging WordFromHost
       (result (told (Status normal) (ended d))
       (committed (d .setup) (d .transfer .control) (sectorStart (d .setup) (d .place)) sectors (set staging (d .transfer .moved) (wordOf e)))
       (set staging (d .transfer .moved) (wordOf e)))
-  more : eqb (d .transfer .moved + 1) (wordsToCome (d .setup) (d .transfer .control)) ≡ false → WorkDone d e sectors staging WordFromHost
-      (result (told Done (withTransfer d (transferring (d .transfer .control) (d .transfer .moved + 1)))) sectors (set staging (d .transfer .moved) (wordOf e)))
+  more : isData (d .transfer .control) ≡ true → eqb (d .transfer .moved + 1) (wordsToCome (d .setup) (d .transfer .control)) ≡ false → WorkDone d e sectors staging WordFromHost
+      (result (told Done (withTransfer d (movedOn (d .transfer) (d .transfer .moved + 1)))) sectors (set staging (d .transfer .moved) (wordOf e)))
+
+-- ---- how each comes about
+
+status-responds : (c : ℕ) → eqb c readStatus ≡ true → controlOf c ≡ control-of.Response
+unfolding controlOf codeOf pick
+status-responds c z = rw (eqb-true c readStatus z)
+
+code-words : (s : Setup) (c : ℕ) → isData c ≡ false → (takesWords (controlOf c) || givesWords (controlOf c)) ≡ true → eqb (wordsToCome s c) 0 ≡ false
+unfolding wordsToCome pick
+code-words s c low w = rw low (not-true (eqb (parameterWords c) 0) (sym (codes-open c low) ∙ w))
 
 module _ (d : Drive) (e : Event) (sectors staging : List ℕ) where
-  transfer-opened : {at : Drive} → Sought d (e .a0) at → (isWrite (controlOf (e .a0)) || isRead (controlOf (e .a0))) ≡ true
-      → Quiet d e sectors DataControl (opened at (e .a0))
+  data-opened : {at : Drive} → Sought d (e .a0) at → (isWrite (controlOf (e .a0)) || isRead (controlOf (e .a0))) ≡ true
+      → (takesWords (controlOf (e .a0)) || givesWords (controlOf (e .a0))) ≡ true → Quiet d e sectors DataControl (opened at (e .a0))
   unfolding opened
-  transfer-opened {at} q o =
-      cases (Quiet d e sectors DataControl) (eqb (wordsToCome (at .setup) (e .a0)) 0) (λ z. nothingToCome q o) (λ z. opens q o z)
+  data-opened {at} q o w =
+      cases (Quiet d e sectors DataControl) (eqb (wordsToCome (at .setup) (e .a0)) 0) (λ z. nothingToCome q o) (λ z. opens q w z)
 
-  transfer-sought : (isWrite (controlOf (e .a0)) || isRead (controlOf (e .a0))) ≡ true → Quiet d e sectors DataControl (opening d (e .port) (e .a0))
+  data-sought : (isWrite (controlOf (e .a0)) || isRead (controlOf (e .a0))) ≡ true → (takesWords (controlOf (e .a0)) || givesWords (controlOf (e .a0))) ≡ true
+      → Quiet d e sectors DataControl (opening d (e .port) (e .a0))
   unfolding opening badRequest
-  transfer-sought o =
+  data-sought o w =
       cases (Quiet d e sectors DataControl) (isAtTarget (e .a0))
-      (λ a. cases (Quiet d e sectors DataControl) (eqb (d .target) noTarget) (λ z. bad control bit4) (λ z. transfer-opened (atTarget a z) o))
-      (λ a. transfer-opened (inPlace a) o)
+      (λ a. cases (Quiet d e sectors DataControl) (eqb (d .target) noTarget) (λ z. bad control bit4) (λ z. data-opened (atTarget a z) o w))
+      (λ a. data-opened (inPlace a) o w)
+
+  -- a code below 80 has words to come, and is not at the target
+  code-opened : isData (e .a0) ≡ false → (takesWords (controlOf (e .a0)) || givesWords (controlOf (e .a0))) ≡ true → Quiet d e sectors DataControl (opened d (e .a0))
+  unfolding opened pick
+  code-opened low w = rw (code-words (d .setup) (e .a0) low w) (opens (inPlace (codes-in-place (e .a0) low w)) w (code-words (d .setup) (e .a0) low w))
 
   control-done : (k : Control) → controlOf (e .a0) ≡ k → Quiet d e sectors DataControl (controlled k d (e .port) (e .a0))
   unfolding badRequest
-  control-done Write q = transfer-sought (rw q)
-  control-done Read q = transfer-sought (rw q)
-  control-done StepHead q = stepped q
-  control-done Reserved q = bad control bit7
-  control-done Unsupported q = bad control bit5
-  control-done Invalid q = bad control bit7
+  control-done control-of.Write q = data-sought (rw q) (rw q)
+  control-done control-of.Read q = data-sought (rw q) (rw q)
+  control-done control-of.Command q = code-opened (command-low (e .a0) q) (rw q)
+  control-done control-of.Response q = code-opened (response-low (e .a0) q) (rw q)
+  control-done control-of.StepHead q = stepped q
+  control-done control-of.Reserved q = bad control bit7
+  control-done control-of.Unsupported q = bad control bit5
+  control-done control-of.Invalid q = bad control bit7
 
   unless-stopped : {work : Work} {o : Outcome} → Request work → Quiet d e sectors work o
       → Quiet d e sectors work (unlessUnsolicited d (e .port) o)
   unless-stopped {work} q p = either (Quiet d e sectors work) _ p (unsolicited q)
 
+  function-done : (f : Function) → functionIn (wordOf e) ≡ f → eqb (d .transfer .control) loadDriveFunction ≡ true
+      → Exchanged d e WordFromHost (functioned f (closed d) (e .port))
+  unfolding badRequest
+  function-done PriorityReserve q z = obeys (byFunction z q prioritised)
+  function-done Reserve q z = obeys (byFunction z q reserves)
+  function-done Release q z = obeys (byFunction z q releases)
+  function-done NoOperation q z = obeys (byFunction z q idles)
+  function-done Recalibrate q z = obeys (byFunction z q recalibrates)
+  function-done ActsOnMore q z = disobeys bit5
+  function-done NotListed q z = disobeys bit6
+
+  parameter-sent : Exchanged d e WordFromHost (parameterSent d (e .port) (wordOf e))
+  unfolding parameterSent obeyed seeking badRequest closed
+  parameter-sent =
+      cases (Exchanged d e WordFromHost) _
+      (λ last. cases (Exchanged d e WordFromHost) _ (λ z. function-done (functionIn (wordOf e)) refl z)
+      (λ z. cases (Exchanged d e WordFromHost) _
+      (λ i. obeys (bySeek z (and-l _ (isTarget (d .setup) _) i) (and-r (isPlace (d .setup) _) _ i))) (λ i. disobeys bit6)))
+      (λ more. kept more)
+
+  response-taken : Exchanged d e TakeWord (responseTaken d (e .port))
+  unfolding responseTaken
+  response-taken = cases (Exchanged d e TakeWord) _ tellsLast tells
+
   pub work-done : (work : Work) → WorkDone d e sectors staging work (act (Use work) d e sectors staging)
-  unfolding dataControl positioned targeted statusRead badRequest wordStaged staged wordTaken
-  work-done DataControl = quiet (unless-stopped control (control-done (controlOf (e .a0)) refl))
+  unfolding dataControl positioned targeted statusRead badRequest wordStaged staged wordTaken wordFromHost wordToHost endedEarly
+  work-done DataControl =
+      quiet (cases (Quiet d e sectors DataControl) (eqb (e .a0) readStatus) (λ z. control-done control-of.Response (status-responds (e .a0) z))
+      (λ z. unless-stopped control (control-done (controlOf (e .a0)) refl)))
   work-done WordFromHost =
-      either (WorkDone d e sectors staging WordFromHost) _ miscompared
-      (cases (WorkDone d e sectors staging WordFromHost) _ completed more)
-  work-done TakeWord = quiet (cases (Quiet d e sectors TakeWord) _ (λ z. takenLast) taken)
-  work-done End = quiet ends
+      cases (WorkDone d e sectors staging WordFromHost) (isData (d .transfer .control))
+      (λ high. either (WorkDone d e sectors staging WordFromHost) _ (miscompared high)
+      (cases (WorkDone d e sectors staging WordFromHost) _ (completed high) (more high)))
+      (λ low. quiet (exchanged low parameter-sent))
+  work-done TakeWord =
+      quiet (cases (Quiet d e sectors TakeWord) (isData (d .transfer .control))
+      (λ high. cases (Quiet d e sectors TakeWord) _ (λ z. takenLast high) (taken high)) (λ low. exchanged low response-taken))
+  work-done End =
+      quiet (cases (λ (at : Drive). Quiet d e sectors End (told (Status normal) at)) (isData (d .transfer .control)) ends (λ low. exchanged low cut))
   work-done Position = quiet (unless-stopped position (cases (Quiet d e sectors Position) _ placed (λ z. bad position bit6)))
   work-done Target = quiet (unless-stopped target (cases (Quiet d e sectors Target) _ aimed (λ z. bad target bit6)))
   work-done ReadStatus = quiet statusTold
@@ -116,8 +211,10 @@ module _ (d : Drive) (e : Event) (sectors staging : List ℕ) where
 pub data Told (d : Drive) (e : Event) (sectors : List ℕ) : Work → Outcome → Type 0 where
   anOpening : {at : Drive} → Sought d (e .a0) at
       → Told d e sectors DataControl (told (Opened (wordsToCome (at .setup) (e .a0)) (at .place)) (withTransfer at (transferring (e .a0) 0)))
-  aWord : {o : Outcome} → paper (o .answer) .word ≡ some (wordAt d sectors) → paper (o .answer) .place ≡ none → paper (o .answer) .response ≡ none
+  aWord : {o : Outcome} → isData (d .transfer .control) ≡ true → paper (o .answer) .word ≡ some (wordAt d sectors) → paper (o .answer) .place ≡ none → paper (o .answer) .response ≡ none
       → Told d e sectors TakeWord o
+  aResponseWord : {o : Outcome} → isData (d .transfer .control) ≡ false → paper (o .answer) .word ≡ some (responseAt d (e .port)) → paper (o .answer) .place ≡ none
+      → paper (o .answer) .response ≡ none → Told d e sectors TakeWord o
   aResponse : Told d e sectors ReadStatus
       (told (Response (octet0 (pendingOn d (e .port))) (pendingOn d (e .port) .octet1) (pendingOn d (e .port) .octet2)) (postedOn d (e .port) nothingPending))
   nothing : {work : Work} {o : Outcome} → paper (o .answer) .word ≡ none → paper (o .answer) .place ≡ none → paper (o .answer) .response ≡ none
@@ -130,9 +227,15 @@ quiet-told (bad q b) = nothing refl refl refl
 quiet-told (stepped k) = nothing refl refl refl
 quiet-told (nothingToCome q w) = nothing refl refl refl
 quiet-told (opens q o z) = anOpening q
-quiet-told takenLast = aWord refl refl refl
-quiet-told (taken z) = aWord refl refl refl
-quiet-told ends = nothing refl refl refl
+quiet-told (takenLast high) = aWord high refl refl refl
+quiet-told (taken high z) = aWord high refl refl refl
+quiet-told (ends high) = nothing refl refl refl
+quiet-told (exchanged low (kept z)) = nothing refl refl refl
+quiet-told (exchanged low (obeys h)) = nothing refl refl refl
+quiet-told (exchanged low (disobeys b)) = nothing refl refl refl
+quiet-told (exchanged low (tells z)) = aResponseWord low refl refl refl
+quiet-told (exchanged low (tellsLast z)) = aResponseWord low refl refl refl
+quiet-told (exchanged low cut) = nothing refl refl refl
 quiet-told (placed p) = nothing refl refl refl
 quiet-told (aimed t) = nothing refl refl refl
 quiet-told statusTold = aResponse
@@ -140,6 +243,6 @@ quiet-told statusTold = aResponse
 pub work-told : {d : Drive} {e : Event} {sectors staging : List ℕ} {work : Work} {r : Result} → WorkDone d e sectors staging work r → Told d e sectors work (r .outcome)
 unfolding paper
 work-told (quiet q) = quiet-told q
-work-told miscompared = nothing refl refl refl
-work-told (completed z) = nothing refl refl refl
-work-told (more z) = nothing refl refl refl
+work-told (miscompared high) = nothing refl refl refl
+work-told (completed high z) = nothing refl refl refl
+work-told (more high z) = nothing refl refl refl

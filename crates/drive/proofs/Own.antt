@@ -10,12 +10,13 @@ use Rattle.laws.specs.Pick.{pick}
 use Rattle.laws.specs.Rows.{first, _when_}
 use Rattle.laws.proofs.Rows.{refused-as, accepted-as, row-off, rows-rest}
 use Rattle.laws.proofs.Tests.{or-r}
-use Rattle.parts.specs.Control.{controlOf, isWrite, isRead, wordsToCome}
+use Rattle.parts.specs.Command.{codeOf}
+use Rattle.parts.specs.Control.{controlOf, takesWords, givesWords, wordsToCome}
 use Rattle.parts.specs.Holding.{nobody}
 use Rattle.parts.specs.Kind.{Kind}
 use Rattle.drive.specs.State.{told, Result}
 use Rattle.drive.specs.Refusal.{ownRows}
-use Rattle.parts.specs.Tests.{isWriteOpen, isReadOpen, isOpen, isBrokenTransfer}
+use Rattle.parts.specs.Tests.{isTaking, isGiving, isOpen, isBrokenTransfer}
 use Rattle.drive.specs.Event.{refusedWith}
 use Rattle.drive.specs.Able.{Passable, Able, unlessOwnRow, unlessOwnRowIn}
 use Rattle.parts.specs.declared.setup.Setup.{Setup}
@@ -49,27 +50,27 @@ own-accepted-in k d e sectors staging accepted x n p z h = accepted-as n (first 
 
 -- ---- an open transfer of a state that row 11 lets pass has a word to come
 
-opens-none : (isWrite (controlOf 0) || isRead (controlOf 0)) ≡ false
-unfolding controlOf pick
+opens-none : (takesWords (controlOf 0) || givesWords (controlOf 0)) ≡ false
+unfolding controlOf codeOf pick
 opens-none = refl
 
-is-open : (t : Transfer) → (isWriteOpen t || isReadOpen t) ≡ true → isOpen t ≡ true
+is-open : (t : Transfer) → (isTaking t || isGiving t) ≡ true → isOpen t ≡ true
 is-open t h = rw (ne-eqb (t .control) 0 (λ z. true≢false (sym h ∙ rw z opens-none)))
 
-word-to-come : (s : Setup) (h : Holding) (t : Transfer) → isBrokenTransfer s h t ≡ false → (isWriteOpen t || isReadOpen t) ≡ true → t .moved < wordsToCome s (t .control)
+word-to-come : (s : Setup) (h : Holding) (t : Transfer) → isBrokenTransfer s h t ≡ false → (isTaking t || isGiving t) ≡ true → t .moved < wordsToCome s (t .control)
 unfolding isBrokenTransfer
 word-to-come s h t b o =
-    let rest : (eqb (h .selected) nobody || not (isWriteOpen t || isReadOpen t) || leb (wordsToCome s (t .control)) (t .moved)) ≡ false = rw (is-open t o) at b in
-    leb-false (wordsToCome s (t .control)) (t .moved) (or-r (eqb (h .selected) nobody || not (isWriteOpen t || isReadOpen t)) (leb (wordsToCome s (t .control)) (t .moved)) rest)
+    let rest : (eqb (h .selected) nobody || not (isTaking t || isGiving t) || leb (wordsToCome s (t .control)) (t .moved)) ≡ false = rw (is-open t o) at b in
+    leb-false (wordsToCome s (t .control)) (t .moved) (or-r (eqb (h .selected) nobody || not (isTaking t || isGiving t)) (leb (wordsToCome s (t .control)) (t .moved)) rest)
 
-able : {d : Drive} {sectors staging : List ℕ} → Passable d sectors staging → (isWriteOpen (d .transfer) || isReadOpen (d .transfer)) ≡ true → Able d sectors staging
+able : {d : Drive} {sectors staging : List ℕ} → Passable d sectors staging → (isTaking (d .transfer) || isGiving (d .transfer)) ≡ true → Able d sectors staging
 able {d} p o = record { sound = p .sound; room = p .room; moved = word-to-come (d .setup) (d .holding) (d .transfer) (sound d (p .sound) .transfer) o }
 
-pub able-to-write : {d : Drive} {sectors staging : List ℕ} → Passable d sectors staging → isWriteOpen (d .transfer) ≡ true → Able d sectors staging
+pub able-to-write : {d : Drive} {sectors staging : List ℕ} → Passable d sectors staging → isTaking (d .transfer) ≡ true → Able d sectors staging
 able-to-write p o = able p (rw o)
 
-pub able-to-read : {d : Drive} {sectors staging : List ℕ} → Passable d sectors staging → isReadOpen (d .transfer) ≡ true → Able d sectors staging
-able-to-read {d} p o = able p (rw o (or-true (isWriteOpen (d .transfer))))
+pub able-to-read : {d : Drive} {sectors staging : List ℕ} → Passable d sectors staging → isGiving (d .transfer) ≡ true → Able d sectors staging
+able-to-read {d} p o = able p (rw o (or-true (isTaking (d .transfer))))
 
 -- the last of the tests 8, 2, 7 of a kind that passed them all
 pub timely : (formed selected untimely : Bool) → first (8 when formed ∷ 2 when selected ∷ 7 when untimely ∷ []) ≡ 0 → untimely ≡ false

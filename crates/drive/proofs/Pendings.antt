@@ -1,19 +1,24 @@
--- No event but a port's own read status and Reset takes a bit from what is pending on it.
+-- No event but a port's own read status, by kind 9 or by 44, and Reset takes a bit from what is pending on it.
 -- Assumes nothing.
-use Prim.Native.Nat.{ℕ, _<_, _≤_}
+use Prim.Native.Nat.{ℕ, _+_, _<_, _≤_}
 use mathlib.Core.Path.{_≡_, refl, sym, _∙_}
 use mathlib.Core.Bool.{Bool, true, false, not}
 use native.Mathlib.Omega.{arith}
 use borrow.Author.Tests.{eqb-true, eqb-false, ltb-false}
 use lib.Dec.{eqb}
 use Rattle.laws.specs.Pick.{pick}
-use Rattle.laws.proofs.Pick.{either}
+use Rattle.laws.proofs.Pick.{either, cases}
 use Rattle.parts.specs.Pending.{OneBit, bit6, StaysSet, noticed, faulted, nothingPending}
 use Rattle.parts.proofs.Bits.{set-bits-stay}
-use Rattle.parts.specs.Kind.{Kind, Select, Deselect, Use, Reset, Unknown, Work, ReadStatus, kindOf}
+use Rattle.parts.specs.Kind.{Kind, Select, Deselect, Use, Reset, Unknown, Work, kindOf}
+use Rattle.parts.specs.Command.{readStatus, parameterWords}
+use Rattle.parts.specs.Control.{wordsToCome}
+use Rattle.parts.specs.declared.command.Function.{Function}
+use Rattle.parts.specs.declared.setup.Setup.{Setup}
 use Rattle.drive.specs.State.{Result, pendingOn, postedOn}
-use Rattle.drive.specs.Drive.{ownerNoticed, selected, deselected, afterReset, headStepped, atItsTarget, ended}
-use Rattle.drive.specs.Frame.{AreOctets, PendingFrame, kept, byStatus, byReset}
+use Rattle.drive.specs.Drive.{ownerNoticed, selected, deselected, afterReset, reserved, unreserved, priorityReserved, headStepped, atItsTarget, closed, ended}
+use Rattle.drive.specs.Command.{statusCleared}
+use Rattle.drive.specs.Frame.{AreOctets, PendingFrame, kept, byStatus, byLastWord, byReset}
 use Rattle.drive.specs.Run.{Machine}
 use Rattle.parts.specs.declared.event.Event.{Event}
 use Rattle.parts.specs.declared.pending.Pending.{Pending}
@@ -69,20 +74,48 @@ unfolding pendingOn postedOn pick
 other-left d to port true f a = rw (f, a) (nothing-new (d .pending1))
 other-left d to port false f a = rw (f, a) (nothing-new (d .pending0))
 
+-- a function touches nothing that is pending
+function-left : {d at : Drive} {f : Function} (port : ℕ) → Outcomes.FunctionDone d f at → Kept (pendingOn d port) (pendingOn at port)
+unfolding pendingOn reserved unreserved priorityReserved
+function-left port Outcomes.prioritised = nothing-new _
+function-left port Outcomes.reserves = nothing-new _
+function-left port Outcomes.releases = nothing-new _
+function-left port Outcomes.idles = nothing-new _
+function-left port Outcomes.recalibrates = nothing-new _
+
+four-words : (s : Setup) (c moved : ℕ) → eqb c readStatus ≡ true → eqb (moved + 1) (wordsToCome s c) ≡ true → moved + 1 ≡ 4
+unfolding wordsToCome parameterWords pick
+four-words s c moved z last = eqb-true (moved + 1) 4 (rw (eqb-true c readStatus z) at last)
+
 module _ (m : Machine) (e : Event) (port : ℕ) (real : port ≤ 1) (octets : AreOctets (pendingOn (m .drive) port)) where
   gained : {left : Pending} → Kept (pendingOn (m .drive) port) left → PendingFrame m e port left
   gained g = kept (g .octet1 (octets .0)) (g .octet2 (octets .1))
 
   -- the status of a port clears that port's
-  status-told : kindOf (e .kind) ≡ Use ReadStatus → e .port ≤ 1 → PendingFrame m e port (pendingOn (postedOn (m .drive) (e .port) nothingPending) port)
-  status-told z own = by-ports (eqb (e .port) 0) refl (eqb port 0) refl
+  status-told : ((left : Pending) → port ≡ e .port → left ≡ nothingPending → PendingFrame m e port left) → e .port ≤ 1
+      → PendingFrame m e port (pendingOn (postedOn (m .drive) (e .port) nothingPending) port)
+  status-told cleared own = by-ports (eqb (e .port) 0) refl (eqb port 0) refl
     where
       by-ports : (first : Bool) → eqb (e .port) 0 ≡ first → (asked : Bool) → eqb port 0 ≡ asked
           → PendingFrame m e port (pendingOn (postedOn (m .drive) (e .port) nothingPending) port)
-      by-ports true f true a = byStatus z (eqb-true port 0 a ∙ sym (eqb-true (e .port) 0 f)) (one-cleared (m .drive) (e .port) port _ f a)
+      by-ports true f true a = cleared _ (eqb-true port 0 a ∙ sym (eqb-true (e .port) 0 f)) (one-cleared (m .drive) (e .port) port _ f a)
       by-ports true f false a = gained (other-left (m .drive) (e .port) port _ f a)
       by-ports false f true a = gained (other-left (m .drive) (e .port) port _ f a)
-      by-ports false f false a = byStatus z (omega (arith, eqb-false port 0 a, eqb-false (e .port) 0 f)) (one-cleared (m .drive) (e .port) port _ f a)
+      by-ports false f false a = cleared _ (omega (arith, eqb-false port 0 a, eqb-false (e .port) 0 f)) (one-cleared (m .drive) (e .port) port _ f a)
+
+  exchange-left : {work : Work} {o : Outcome} → kindOf (e .kind) ≡ Use work → e .port ≤ 1 → Outcomes.Exchanged (m .drive) e work o
+      → PendingFrame m e port (pendingOn (o .drive) port)
+  unfolding pendingOn postedOn closed statusCleared
+  exchange-left z own (Outcomes.kept y) = gained (nothing-new _)
+  exchange-left z own (Outcomes.obeys (Outcomes.byFunction y q f)) = gained (function-left port f)
+  exchange-left z own (Outcomes.obeys (Outcomes.bySeek y i j)) = gained (nothing-new _)
+  exchange-left z own (Outcomes.disobeys b) = gained (posted-more (closed (m .drive)) (e .port) port _ (faulted-more _ b))
+  exchange-left z own (Outcomes.tells y) = gained (nothing-new _)
+  exchange-left z own (Outcomes.tellsLast y) =
+      cases (λ (d : Drive). PendingFrame m e port (pendingOn d port)) (eqb (m .drive .transfer .control) readStatus)
+      (λ s. status-told (λ left p q. byLastWord z (eqb-true _ readStatus s) (four-words (m .drive .setup) _ (m .drive .transfer .moved) s y) p q) own)
+      (λ s. gained (nothing-new _))
+  exchange-left z own Outcomes.cut = gained (nothing-new _)
 
   quiet-left : {work : Work} {o : Outcome} → kindOf (e .kind) ≡ Use work → e .port ≤ 1 → Outcomes.Quiet (m .drive) e (m .sectors) work o
       → PendingFrame m e port (pendingOn (o .drive) port)
@@ -94,20 +127,21 @@ module _ (m : Machine) (e : Event) (port : ℕ) (real : port ≤ 1) (octets : Ar
   quiet-left z own (Outcomes.nothingToCome (Outcomes.atTarget a t) w) = gained (nothing-new _)
   quiet-left z own (Outcomes.opens (Outcomes.inPlace a) o y) = gained (nothing-new _)
   quiet-left z own (Outcomes.opens (Outcomes.atTarget a t) o y) = gained (nothing-new _)
-  quiet-left z own Outcomes.takenLast = gained (nothing-new _)
-  quiet-left z own (Outcomes.taken y) = gained (nothing-new _)
-  quiet-left z own Outcomes.ends = gained (nothing-new _)
+  quiet-left z own (Outcomes.takenLast high) = gained (nothing-new _)
+  quiet-left z own (Outcomes.taken high y) = gained (nothing-new _)
+  quiet-left z own (Outcomes.ends high) = gained (nothing-new _)
+  quiet-left z own (Outcomes.exchanged low x) = exchange-left z own x
   quiet-left z own (Outcomes.placed p) = gained (nothing-new _)
   quiet-left z own (Outcomes.aimed t) = gained (nothing-new _)
-  quiet-left z own Outcomes.statusTold = status-told z own
+  quiet-left z own Outcomes.statusTold = status-told (λ left p q. byStatus z p q) own
 
   work-left : {work : Work} {r : Result} → kindOf (e .kind) ≡ Use work → e .port ≤ 1 → Outcomes.WorkDone (m .drive) e (m .sectors) (m .staging) work r
       → PendingFrame m e port (pendingOn (r .outcome .drive) port)
   unfolding pendingOn ended
   work-left z own (Outcomes.quiet q) = quiet-left z own q
-  work-left z own Outcomes.miscompared = gained (nothing-new _)
-  work-left z own (Outcomes.completed h) = gained (nothing-new _)
-  work-left z own (Outcomes.more h) = gained (nothing-new _)
+  work-left z own (Outcomes.miscompared high) = gained (nothing-new _)
+  work-left z own (Outcomes.completed high h) = gained (nothing-new _)
+  work-left z own (Outcomes.more high h) = gained (nothing-new _)
 
   pub pending-by : (k : Kind) → kindOf (e .kind) ≡ k → AllPassed k m e → PendingFrame m e port (pendingOn ((doneBy k m e) .outcome .drive) port)
   unfolding pendingOn selected ownerNoticed deselected afterReset

@@ -8,7 +8,9 @@ use Rattle.parts.specs.Kind.{Kind, Select, Deselect, Use, Reset, Unknown, Work}
 use Rattle.parts.specs.declared.event.Event.{Event}
 use Rattle.parts.specs.declared.pending.Pending.{Pending}
 use Rattle.drive.specs.State.{Result, pendingOn, postedOn}
-use Rattle.drive.specs.Drive.{ownerNoticed, selected, deselected, afterReset, headStepped, atItsTarget, ended}
+use Rattle.parts.specs.declared.command.Function.{Function}
+use Rattle.drive.specs.Drive.{ownerNoticed, selected, deselected, afterReset, reserved, unreserved, priorityReserved, headStepped, atItsTarget, closed, ended}
+use Rattle.drive.specs.Command.{statusCleared}
 use Rattle.drive.specs.Run.{Machine, after}
 use Rattle.drive.specs.declared.drive.Drive.{Drive}
 use Rattle.drive.specs.declared.answer.Outcome.{Outcome}
@@ -39,6 +41,24 @@ module _ (P : Pending → Type 0) (q : Postable P) where
   sought (Outcomes.inPlace a) o = o
   sought (Outcomes.atTarget a z) o = o
 
+  function-keeps : {d at : Drive} {f : Function} → OnBoth P d → Outcomes.FunctionDone d f at → OnBoth P at
+  unfolding reserved unreserved priorityReserved
+  function-keeps o Outcomes.prioritised = o
+  function-keeps o Outcomes.reserves = o
+  function-keeps o Outcomes.releases = o
+  function-keeps o Outcomes.idles = o
+  function-keeps o Outcomes.recalibrates = o
+
+  exchange-keeps : {d : Drive} {e : Event} {work : Work} {o : Outcome} → OnBoth P d → Outcomes.Exchanged d e work o → OnBoth P (o .drive)
+  unfolding closed statusCleared
+  exchange-keeps o (Outcomes.kept z) = o
+  exchange-keeps o (Outcomes.obeys (Outcomes.byFunction z r f)) = function-keeps o f
+  exchange-keeps o (Outcomes.obeys (Outcomes.bySeek z i j)) = o
+  exchange-keeps {d} {e} o (Outcomes.disobeys b) = posted (closed d) (e .port) _ o (q .fault _ b (on-either P (closed d) (e .port) o))
+  exchange-keeps o (Outcomes.tells z) = o
+  exchange-keeps {d} {e} o (Outcomes.tellsLast z) = either (OnBoth P) _ (posted (closed d) (e .port) nothingPending o (q .nothing)) o
+  exchange-keeps o Outcomes.cut = o
+
   quiet-keeps : {d : Drive} {e : Event} {sectors : List ℕ} {work : Work} {o : Outcome} → OnBoth P d → Outcomes.Quiet d e sectors work o → OnBoth P (o .drive)
   unfolding headStepped ended
   quiet-keeps o (Outcomes.unsolicited r) = o
@@ -46,9 +66,10 @@ module _ (P : Pending → Type 0) (q : Postable P) where
   quiet-keeps o (Outcomes.stepped k) = o
   quiet-keeps o (Outcomes.nothingToCome s w) = sought s o
   quiet-keeps o (Outcomes.opens s c z) = sought s o
-  quiet-keeps o Outcomes.takenLast = o
-  quiet-keeps o (Outcomes.taken z) = o
-  quiet-keeps o Outcomes.ends = o
+  quiet-keeps o (Outcomes.takenLast high) = o
+  quiet-keeps o (Outcomes.taken high z) = o
+  quiet-keeps o (Outcomes.ends high) = o
+  quiet-keeps o (Outcomes.exchanged low x) = exchange-keeps o x
   quiet-keeps o (Outcomes.placed h) = o
   quiet-keeps o (Outcomes.aimed h) = o
   quiet-keeps {d} {e} o Outcomes.statusTold = posted d (e .port) nothingPending o (q .nothing)
@@ -57,9 +78,9 @@ module _ (P : Pending → Type 0) (q : Postable P) where
       → OnBoth P (r .outcome .drive)
   unfolding ended
   work-keeps o (Outcomes.quiet w) = quiet-keeps o w
-  work-keeps o Outcomes.miscompared = o
-  work-keeps o (Outcomes.completed z) = o
-  work-keeps o (Outcomes.more z) = o
+  work-keeps o (Outcomes.miscompared high) = o
+  work-keeps o (Outcomes.completed high z) = o
+  work-keeps o (Outcomes.more high z) = o
 
   notice-keeps : (d : Drive) (port : ℕ) → OnBoth P d → OnBoth P (ownerNoticed d port)
   unfolding ownerNoticed

@@ -13,7 +13,7 @@ use lib.Seq.{getD-take, getD-drop, getD-append-add}
 use Rattle.laws.specs.Pick.{pick}
 use Rattle.laws.proofs.Pick.{pick-le}
 use Rattle.parts.specs.Setup.{sectorWords, sectorStart, sectorAt}
-use Rattle.parts.specs.Control.{headerPasses, namesField1, namesField2, part, wordsToCome, wordsRead}
+use Rattle.parts.specs.Control.{headerPasses, namesField1, namesField2, part, dataWords, wordsRead}
 use Rattle.drive.specs.Able.{ReadsAt}
 use Rattle.parts.specs.declared.setup.Setup.{Setup}
 use Rattle.parts.specs.declared.setup.Place.{Place}
@@ -96,9 +96,9 @@ at-field1 s c k g h =
           ∙ ap (λ (i : ℕ). getD sector i 0) (omega arith);
     }
 
-pub at-field2 : (s : Setup) (c k : ℕ) → part (headerPasses c) (s .header) + part (namesField1 c) (s .field1) ≤ k → k < wordsToCome s c
+pub at-field2 : (s : Setup) (c k : ℕ) → part (headerPasses c) (s .header) + part (namesField1 c) (s .field1) ≤ k → k < dataWords s c
     → ReadsAt s c k (k - part (headerPasses c) (s .header) - part (namesField1 c) (s .field1) + s .header + s .field1)
-unfolding wordsToCome
+unfolding dataWords
 at-field2 s c k g h =
     let j = k - part (headerPasses c) (s .header) - part (namesField1 c) (s .field1) in
     record {
@@ -115,7 +115,7 @@ whole-part true n p = refl
 whole-part false n p = absurd (omega arith)
 
 -- what does not pass is left out before a word of the fields
-pub at-fields : (s : Setup) (c k : ℕ) → part (headerPasses c) (s .header) ≤ k → k < wordsToCome s c
+pub at-fields : (s : Setup) (c k : ℕ) → part (headerPasses c) (s .header) ≤ k → k < dataWords s c
     → ReadsAt s c k (k + s .header + s .field1 - part (headerPasses c) (s .header) - part (namesField1 c) (s .field1))
 at-fields s c k g h = by-field (ltb k (part (headerPasses c) (s .header) + part (namesField1 c) (s .field1))) refl
   where

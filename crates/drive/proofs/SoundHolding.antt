@@ -9,16 +9,17 @@ use lib.Dec.{eqb, ltb, leb}
 use Rattle.laws.proofs.Pick.{either}
 use Rattle.laws.proofs.Tests.{or-l, or-r}
 use Rattle.parts.specs.Setup.{withinLimits, isPlace, isTarget}
-use Rattle.parts.specs.Control.{controlOf, isWrite, isRead, wordsToCome}
-use Rattle.parts.specs.Holding.{nobody, holds, free, grantedTo, holdSet, released, releasedFrom}
+use Rattle.parts.specs.Control.{controlOf, takesWords, givesWords, wordsToCome}
+use Rattle.parts.specs.Holding.{nobody, holds, free, withHold, grantedTo, holdSet, released, releasedFrom}
 use Rattle.drive.specs.State.{atPlace, withHolding, withTransfer}
-use Rattle.parts.specs.Tests.{transferring, noTransfer, isOpen, isDisowned, isBrokenTransfer, hasStrayBit}
-use Rattle.drive.specs.Drive.{ownerNoticed, selected, deselected, afterReset, ended}
+use Rattle.parts.specs.Tests.{transferringWith, noTransfer, isOpen, isDisowned, isBrokenTransfer, hasStrayBit}
+use Rattle.drive.specs.Drive.{ownerNoticed, selected, deselected, afterReset, closed, ended}
 use Rattle.drive.specs.Power.{atRest}
 use Rattle.drive.specs.Refusal.{isOneOpen}
 use Rattle.parts.specs.declared.holding.Hold.{Hold}
 use Rattle.parts.specs.declared.holding.Hold.the-variants.{None, Plain, Strong}
 use Rattle.parts.specs.declared.holding.Holding.{Holding}
+use Rattle.parts.specs.declared.transfer.Parameters.{Parameters}
 use Rattle.parts.specs.declared.transfer.Transfer.{Transfer}
 use Rattle.parts.specs.declared.setup.Setup.{Setup}
 use Rattle.drive.specs.declared.drive.Drive.{Drive}
@@ -62,15 +63,15 @@ nothing-open : (hold open′ free : Bool) → ((hold || open′) && free) ≡ fa
 nothing-open true open′ free e = e
 nothing-open false open′ free e = refl
 
-closed-kept : {d : Drive} → Sound d → Sound (withTransfer d noTransfer)
-unfolding isBrokenTransfer
+pub closed-kept : {d : Drive} → Sound d → Sound (closed d)
+unfolding closed isBrokenTransfer
 closed-kept {d} s =
     let o = owned (d .holding) (d .transfer) (s .owned) in
     let hold = nothing-open (holds (d .holding .hold)) (isOpen (d .transfer)) _ (o .hold) in
     held-kept s (s .selected) (s .owner) (record { selected = o .selected; hold = hold; owner = o .owner }) refl
 
 pub ended-kept : {d : Drive} → Sound d → Sound (ended d)
-unfolding ended
+unfolding ended closed
 ended-kept {d} s =
     let l = limits (d .setup) (s .limits) in
     let i = inside (d .setup) (d .place) (s .place) in
@@ -83,15 +84,25 @@ owned-by-selected h n o =
     let e : not (eqb (h .selected) (h .owner)) ≡ false = rw n at (o .selected) in
     rw (← (eqb-true (h .selected) (h .owner) (not-false (eqb (h .selected) (h .owner)) e))) n
 
-pub transfer-kept : {d : Drive} {c moved : ℕ} → Sound d → eqb (d .holding .selected) nobody ≡ false → (isWrite (controlOf c) || isRead (controlOf c)) ≡ true
-    → moved < wordsToCome (d .setup) c → Sound (withTransfer d (transferring c moved))
+pub transfer-kept : {d : Drive} {c moved : ℕ} {p : Parameters} → Sound d → eqb (d .holding .selected) nobody ≡ false
+    → (takesWords (controlOf c) || givesWords (controlOf c)) ≡ true → moved < wordsToCome (d .setup) c → Sound (withTransfer d (transferringWith c moved p))
 unfolding isBrokenTransfer
-transfer-kept {d} {c} {moved} s n opens h =
+transfer-kept {d} {c} {moved} {p} s n opens h =
     let o = owned (d .holding) (d .transfer) (s .owned) in
-    let t = transferring c moved in
+    let t = transferringWith c moved p in
     held-kept s (s .selected) (s .owner)
     (record { selected = o .selected; hold = rw (owned-by-selected (d .holding) n o) (and-false (holds (d .holding .hold) || isOpen t)); owner = o .owner })
     (rw (n, opens, lt-leb (wordsToCome (d .setup) c) moved h) (and-false (isOpen t)))
+
+-- a hold by command: the selected port is the owner, whatever its hold
+pub hold-kept : {d : Drive} (hold : Hold) → Sound d → eqb (d .holding .selected) nobody ≡ false → Sound (withHolding d (withHold (d .holding) hold))
+unfolding isBrokenTransfer
+hold-kept {d} hold s n =
+    let o = owned (d .holding) (d .transfer) (s .owned) in
+    let mine = owned-by-selected (d .holding) n o in
+    held-kept {t = d .transfer} s (s .selected) (s .owner)
+    (record { selected = o .selected; hold = rw mine (and-false (holds hold || isOpen (d .transfer))); owner = rw (mine, n) })
+    (s .transfer)
 
 -- ---- selection, deselection, reset
 

@@ -10,7 +10,7 @@ use Rattle.laws.proofs.Pick.{either, cases}
 use Rattle.laws.proofs.Tests.{or-l, or-r}
 use Rattle.parts.specs.Setup.{isPlace, isTarget, noTarget, following}
 use Rattle.parts.specs.Pending.{OneBit, bit7, bit6, bit5, bit4, withBit, noticed, faulted, nothingPending}
-use Rattle.drive.specs.State.{withPlace, withTarget, pendingOn, postedOn}
+use Rattle.drive.specs.State.{atPlace, withPlace, withTarget, pendingOn, postedOn}
 use Rattle.drive.specs.Drive.{selected, headStepped, atItsTarget}
 use Rattle.parts.specs.Tests.{hasStrayBit}
 use Rattle.parts.specs.declared.pending.Pending.{Pending}
@@ -50,6 +50,12 @@ head-step-kept {d} s =
     let l = limits (d .setup) (s .limits) in
     let i = inside (d .setup) (d .place) (s .place) in
     place-kept s (is-place (d .setup) _ (record { cylinder = i .cylinder; head = following-below (d .place .head) (d .setup .heads) (l .some-head); sector = i .sector }))
+
+-- "causes the drive to move the heads to cylinder 0"
+pub recalibrated-kept : {d : Drive} → Sound d → Sound (withPlace d (atPlace 0 (d .place .head) (d .place .sector)))
+recalibrated-kept {d} s =
+    let i = inside (d .setup) (d .place) (s .place) in
+    place-kept s (is-place (d .setup) _ (record { cylinder = limits (d .setup) (s .limits) .some-cylinder; head = i .head; sector = i .sector }))
 
 pub at-target-kept : {d : Drive} → Sound d → eqb (d .target) noTarget ≡ false → Sound (atItsTarget d)
 unfolding atItsTarget isTarget

@@ -6,17 +6,20 @@ use mathlib.Core.Bool.{true, false, _||_, false≢true}
 use mathlib.Core.List.{List, [], _∷_}
 use mathlib.Core.Option.{none}
 use Rattle.laws.specs.Pick.{pick}
-use Rattle.parts.specs.Control.{controlOf, isWrite, isRead}
+use Rattle.parts.specs.Control.{controlOf, isWrite, isRead, isData}
+use Rattle.parts.specs.Tests.{transferring, noTransfer}
 use Rattle.parts.specs.Kind.{Kind, Select, Deselect, Use, Reset, Unknown, Work, kindOf}
 use Rattle.parts.specs.declared.control.Control.{Control}
+use Rattle.parts.specs.declared.command.Function.{Function}
 use Rattle.parts.specs.declared.setup.Setup.{Setup}
 use Rattle.parts.specs.declared.event.Event.{Event}
 use Rattle.drive.specs.State.{Result, postedOn}
-use Rattle.drive.specs.Drive.{ownerNoticed, selected, deselected, afterReset, headStepped, atItsTarget, ended}
+use Rattle.drive.specs.Drive.{ownerNoticed, selected, deselected, afterReset, reserved, unreserved, priorityReserved, headStepped, atItsTarget, closed, ended}
+use Rattle.drive.specs.Command.{statusCleared}
 use Rattle.drive.specs.Answer.{Paper, paper}
 use Rattle.drive.specs.Accepted.{isRefused}
 use Rattle.drive.specs.Run.{Machine, answerTo, after, answers, final}
-use Rattle.drive.specs.Standing.{Standing, standing, sought, isNormal, atOnce, onNextSector, stands, standsAfter, standingFrom}
+use Rattle.drive.specs.Standing.{Standing, standing, withTransfer, sought, isNormal, recalibrated, atOnce, onNextSector, stands, standsAfter, standingFrom}
 use Rattle.drive.specs.declared.drive.Drive.{Drive}
 use Rattle.drive.specs.declared.answer.Answer.{Answer}
 use Rattle.drive.specs.declared.answer.Outcome.{Outcome}
@@ -26,7 +29,7 @@ use Rattle.drive.proofs.StaysSound.{same-size}
 use Rattle.drive.proofs.Outcomes
 
 abbrev pub standingOf : Drive → Standing
-standingOf d = standing (d .place) (d .target)
+standingOf d = standing (d .place) (d .target) (d .transfer)
 
 -- a transfer is sought where the events say
 pub sought-there : {d at : Drive} {c : ℕ} → Outcomes.Sought d c at → sought c (standingOf d) ≡ standingOf at
@@ -38,6 +41,8 @@ sought-there (Outcomes.atTarget a z) = rw a
 ended-at-once : (k : Control) (s : Setup) (c : ℕ) (w : Standing) → (isWrite k || isRead k) ≡ true → atOnce k s c w ≡ onNextSector s (sought c w)
 ended-at-once Control.Write s c w h = refl
 ended-at-once Control.Read s c w h = refl
+ended-at-once Control.Command s c w h = absurd (false≢true h)
+ended-at-once Control.Response s c w h = absurd (false≢true h)
 ended-at-once Control.StepHead s c w h = absurd (false≢true h)
 ended-at-once Control.Reserved s c w h = absurd (false≢true h)
 ended-at-once Control.Unsupported s c w h = absurd (false≢true h)
@@ -56,6 +61,30 @@ request-stands Outcomes.control s e told w h n = rw (h, n)
 request-stands Outcomes.position s e told w h n = rw n
 request-stands Outcomes.target s e told w h n = rw n
 
+function-stands : {d at : Drive} {f : Function} → Outcomes.FunctionDone d f at → standing (recalibrated f (d .place)) (d .target) (d .transfer) ≡ standingOf at
+unfolding reserved unreserved priorityReserved
+function-stands Outcomes.prioritised = refl
+function-stands Outcomes.reserves = refl
+function-stands Outcomes.releases = refl
+function-stands Outcomes.idles = refl
+function-stands Outcomes.recalibrates = refl
+
+cleared-stands : (c : ℕ) (d : Drive) (port : ℕ) → standingOf d ≡ standingOf (statusCleared c d port)
+unfolding statusCleared postedOn
+cleared-stands c d port = either (λ (at : Drive). standingOf d ≡ standingOf at) _ refl refl
+
+-- a command or response
+exchange-stands : {d : Drive} {e : Event} {work : Work} {o : Outcome} → isData (d .transfer .control) ≡ false → Outcomes.Exchanged d e work o
+    → stands (Use work) (d .setup) e (paper (o .answer)) (standingOf d) ≡ standingOf (o .drive)
+unfolding paper pick postedOn closed
+exchange-stands low (Outcomes.kept z) = rw low
+exchange-stands {d} low (Outcomes.obeys (Outcomes.byFunction z q h)) = rw (low, z, q) (function-stands h)
+exchange-stands low (Outcomes.obeys (Outcomes.bySeek z i j)) = rw (low, z)
+exchange-stands low (Outcomes.disobeys b) = rw low
+exchange-stands low (Outcomes.tells z) = refl
+exchange-stands {d} {e} low (Outcomes.tellsLast z) = rw low (cleared-stands (d .transfer .control) (closed d) (e .port))
+exchange-stands low Outcomes.cut = rw low
+
 quiet-stands : {d : Drive} {e : Event} {sectors : List ℕ} {work : Work} {o : Outcome} → Outcomes.Quiet d e sectors work o
     → stands (Use work) (d .setup) e (paper (o .answer)) (standingOf d) ≡ standingOf (o .drive)
 unfolding paper pick postedOn headStepped ended
@@ -63,10 +92,11 @@ quiet-stands {d} {e} (Outcomes.unsolicited q) = request-stands q (d .setup) e _ 
 quiet-stands {d} {e} (Outcomes.bad q b) = request-stands q (d .setup) e _ (standingOf d) refl refl
 quiet-stands (Outcomes.stepped k) = rw k
 quiet-stands {d} {e} (Outcomes.nothingToCome q w) = rw (ended-at-once (controlOf (e .a0)) (d .setup) (e .a0) (standingOf d) w, sought-there q, sought-setup q)
-quiet-stands (Outcomes.opens q o z) = sought-there q
-quiet-stands Outcomes.takenLast = refl
-quiet-stands (Outcomes.taken z) = refl
-quiet-stands Outcomes.ends = refl
+quiet-stands {e = e} (Outcomes.opens q o z) = ap (λ (w : Standing). withTransfer w (transferring (e .a0) 0)) (sought-there q)
+quiet-stands (Outcomes.takenLast high) = rw high
+quiet-stands (Outcomes.taken high z) = refl
+quiet-stands (Outcomes.ends high) = rw high
+quiet-stands (Outcomes.exchanged low x) = exchange-stands low x
 quiet-stands (Outcomes.placed h) = refl
 quiet-stands (Outcomes.aimed h) = refl
 quiet-stands Outcomes.statusTold = refl
@@ -75,14 +105,14 @@ work-stands : {d : Drive} {e : Event} {sectors staging : List ℕ} {work : Work}
     → stands (Use work) (d .setup) e (paper (r .outcome .answer)) (standingOf d) ≡ standingOf (r .outcome .drive)
 unfolding paper pick ended
 work-stands (Outcomes.quiet q) = quiet-stands q
-work-stands Outcomes.miscompared = refl
-work-stands (Outcomes.completed z) = refl
-work-stands (Outcomes.more z) = refl
+work-stands (Outcomes.miscompared high) = rw high
+work-stands (Outcomes.completed high z) = rw high
+work-stands (Outcomes.more high z) = rw high
 
 kind-stands : (k : Kind) (m : Machine) (e : Event) → AllPassed k m e
     → stands k (m .drive .setup) e (paper ((doneBy k m e) .outcome .answer)) (standingOf (m .drive)) ≡ standingOf ((left (doneBy k m e)) .drive)
 unfolding selected ownerNoticed postedOn deselected afterReset
-kind-stands Select m e p = either (λ (d : Drive). standingOf (m .drive) ≡ standingOf d) _ refl refl
+kind-stands Select m e p = either (λ (d : Drive). withTransfer (standingOf (m .drive)) noTransfer ≡ withTransfer (standingOf d) noTransfer) _ refl refl
 kind-stands Deselect m e p = refl
 kind-stands Reset m e p = refl
 kind-stands Unknown m e p = refl

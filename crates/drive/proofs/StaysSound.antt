@@ -12,14 +12,17 @@ use Rattle.laws.specs.Pick.{pick}
 use Rattle.laws.proofs.Pick.{either}
 use Rattle.laws.proofs.Rows.{numberedUpTo, first-up-to}
 use Rattle.laws.specs.Rows.{_when_}
-use Rattle.parts.specs.Holding.{nobody}
+use Rattle.parts.specs.Holding.{nobody, atLeastPlain}
+use Rattle.parts.specs.declared.command.Function.{Function}
+use Rattle.parts.specs.declared.holding.Hold.the-variants.{None, Strong}
 use Rattle.parts.specs.Pending.{nothingPending}
 use Rattle.drive.specs.Answer.{refusalIn}
 use Rattle.parts.specs.Kind.{Kind, Select, Deselect, Use, Reset, Unknown, Work, kindOf, wordOf}
 use Rattle.drive.specs.State.{Result, postedOn}
-use Rattle.drive.specs.Drive.{ownerNoticed, selected, deselected, afterReset, atItsTarget}
+use Rattle.drive.specs.Drive.{ownerNoticed, selected, deselected, afterReset, reserved, unreserved, priorityReserved, atItsTarget, closed}
+use Rattle.drive.specs.Command.{statusCleared}
 use Rattle.drive.specs.Refusal.{row1, row7, row10, ownRows, refusalOf}
-use Rattle.parts.specs.Tests.{isWriteOpen, isReadOpen}
+use Rattle.parts.specs.Tests.{isTaking, isGiving}
 use Rattle.drive.specs.Able.{Passable}
 use Rattle.drive.specs.Run.{Machine, answerTo, after, answers}
 use Rattle.drive.specs.Accepted.{isRefused}
@@ -33,8 +36,8 @@ use Rattle.drive.proofs.Sound.{Sound, sound, unsound, room}
 use Rattle.drive.proofs.Own.{able-to-write, able-to-read}
 use Rattle.drive.proofs.Frame.{commit-frame, staged-room}
 use Rattle.drive.proofs.Laws.{by-cases, doneBy, left, AllPassed, stays, accepts, its-own}
-use Rattle.drive.proofs.SoundPlace.{place-kept, head-step-kept, at-target-kept, target-kept, posted-kept, pending-stray, fault-stray, nothing-stray}
-use Rattle.drive.proofs.SoundHolding.{ended-kept, transfer-kept, selected-kept, deselected-kept, reset-kept, rest-sound}
+use Rattle.drive.proofs.SoundPlace.{place-kept, recalibrated-kept, head-step-kept, at-target-kept, target-kept, posted-kept, pending-stray, fault-stray, nothing-stray}
+use Rattle.drive.proofs.SoundHolding.{closed-kept, ended-kept, transfer-kept, hold-kept, selected-kept, deselected-kept, reset-kept, rest-sound}
 use Rattle.drive.proofs.Outcomes
 
 -- ---- kinds 3 to 9
@@ -46,6 +49,31 @@ one-more moved words h z = omega (arith, eqb-false (moved + 1) words z)
 some-to-come : (words : ℕ) → eqb words 0 ≡ false → 0 < words
 some-to-come words z = omega (arith, eqb-false words 0 z)
 
+function-sound : {d at : Drive} {f : Function} → Sound d → eqb (d .holding .selected) nobody ≡ false → Outcomes.FunctionDone d f at → Sound at
+unfolding reserved unreserved priorityReserved
+function-sound s n Outcomes.prioritised = hold-kept Strong s n
+function-sound {d} s n Outcomes.reserves = hold-kept (atLeastPlain (d .holding .hold)) s n
+function-sound s n Outcomes.releases = hold-kept None s n
+function-sound s n Outcomes.idles = s
+function-sound s n Outcomes.recalibrates = recalibrated-kept s
+
+exchange-sound : {d : Drive} {e : Event} {sectors staging : List ℕ} {work : Work} {o : Outcome} → Passable d sectors staging
+    → eqb (d .holding .selected) nobody ≡ false → row7 work d ≡ false → Outcomes.Exchanged d e work o → Sound (o .drive)
+unfolding closed statusCleared
+exchange-sound {d} p n t (Outcomes.kept z) =
+    let w = not-false (isTaking (d .transfer)) t in
+    transfer-kept (sound d (p .sound)) n (rw w) (one-more (d .transfer .moved) _ (able-to-write p w .moved) z)
+exchange-sound {d} p n t (Outcomes.obeys (Outcomes.byFunction z q f)) = function-sound (closed-kept (sound d (p .sound))) n f
+exchange-sound {d} p n t (Outcomes.obeys (Outcomes.bySeek z i j)) = target-kept (place-kept (closed-kept (sound d (p .sound))) i) j
+exchange-sound {d} {e} p n t (Outcomes.disobeys b) =
+    let s = closed-kept (sound d (p .sound)) in posted-kept (e .port) _ s (fault-stray _ b (pending-stray (e .port) s))
+exchange-sound {d} p n t (Outcomes.tells z) =
+    let r = not-false (isGiving (d .transfer)) t in
+    transfer-kept (sound d (p .sound)) n (rw r (or-true (isTaking (d .transfer)))) (one-more (d .transfer .moved) _ (able-to-read p r .moved) z)
+exchange-sound {d} {e} p n t (Outcomes.tellsLast z) =
+    let s = closed-kept (sound d (p .sound)) in either Sound _ (posted-kept (e .port) nothingPending s nothing-stray) s
+exchange-sound {d} p n t Outcomes.cut = closed-kept (sound d (p .sound))
+
 quiet-sound : {d : Drive} {e : Event} {sectors staging : List ℕ} {work : Work} {o : Outcome} → Passable d sectors staging → eqb (d .holding .selected) nobody ≡ false
     → row7 work d ≡ false → Outcomes.Quiet d e sectors work o → Sound (o .drive)
 unfolding atItsTarget
@@ -56,11 +84,12 @@ quiet-sound {d} p n t (Outcomes.nothingToCome (Outcomes.inPlace a) w) = ended-ke
 quiet-sound {d} p n t (Outcomes.nothingToCome (Outcomes.atTarget a z) w) = ended-kept (at-target-kept (sound d (p .sound)) z)
 quiet-sound {d} p n t (Outcomes.opens (Outcomes.inPlace a) o z) = transfer-kept (sound d (p .sound)) n o (some-to-come _ z)
 quiet-sound {d} p n t (Outcomes.opens (Outcomes.atTarget a y) o z) = transfer-kept (at-target-kept (sound d (p .sound)) y) n o (some-to-come _ z)
-quiet-sound {d} p n t Outcomes.takenLast = ended-kept (sound d (p .sound))
-quiet-sound {d} p n t (Outcomes.taken z) =
-    let r = not-false (isReadOpen (d .transfer)) t in
-    transfer-kept (sound d (p .sound)) n (rw r (or-true (isWriteOpen (d .transfer)))) (one-more (d .transfer .moved) _ (able-to-read p r .moved) z)
-quiet-sound {d} p n t Outcomes.ends = ended-kept (sound d (p .sound))
+quiet-sound {d} p n t (Outcomes.takenLast high) = ended-kept (sound d (p .sound))
+quiet-sound {d} p n t (Outcomes.taken high z) =
+    let r = not-false (isGiving (d .transfer)) t in
+    transfer-kept (sound d (p .sound)) n (rw r (or-true (isTaking (d .transfer)))) (one-more (d .transfer .moved) _ (able-to-read p r .moved) z)
+quiet-sound {d} p n t (Outcomes.ends high) = ended-kept (sound d (p .sound))
+quiet-sound p n t (Outcomes.exchanged low x) = exchange-sound p n t x
 quiet-sound {d} p n t (Outcomes.placed h) = place-kept (sound d (p .sound)) h
 quiet-sound {d} p n t (Outcomes.aimed h) = target-kept (sound d (p .sound)) h
 quiet-sound {d} {e} p n t Outcomes.statusTold = posted-kept (e .port) nothingPending (sound d (p .sound)) nothing-stray
@@ -68,10 +97,10 @@ quiet-sound {d} {e} p n t Outcomes.statusTold = posted-kept (e .port) nothingPen
 work-sound : {d : Drive} {e : Event} {sectors staging : List ℕ} {work : Work} {r : Result} → Passable d sectors staging → eqb (d .holding .selected) nobody ≡ false
     → row7 work d ≡ false → Outcomes.WorkDone d e sectors staging work r → Sound (r .outcome .drive)
 work-sound p n t (Outcomes.quiet q) = quiet-sound p n t q
-work-sound {d} p n t Outcomes.miscompared = ended-kept (sound d (p .sound))
-work-sound {d} p n t (Outcomes.completed z) = ended-kept (sound d (p .sound))
-work-sound {d} p n t (Outcomes.more z) =
-    let w = not-false (isWriteOpen (d .transfer)) t in
+work-sound {d} p n t (Outcomes.miscompared high) = ended-kept (sound d (p .sound))
+work-sound {d} p n t (Outcomes.completed high z) = ended-kept (sound d (p .sound))
+work-sound {d} p n t (Outcomes.more high z) =
+    let w = not-false (isTaking (d .transfer)) t in
     transfer-kept (sound d (p .sound)) n (rw w) (one-more (d .transfer .moved) _ (able-to-write p w .moved) z)
 
 -- ---- every kind
@@ -90,10 +119,10 @@ kind-sound (Use work) m e p =
 work-size : {d : Drive} {e : Event} {sectors staging : List ℕ} {work : Work} {r : Result} → Passable d sectors staging → Outcomes.WorkDone d e sectors staging work r
     → (length (r .sectors) ≡ length sectors) × (length (r .staging) ≡ length staging)
 work-size p (Outcomes.quiet q) = (refl, refl)
-work-size {staging = staging} p Outcomes.miscompared = (refl, length-set staging _ _)
-work-size {d} {e} {sectors} {staging} p (Outcomes.completed z) =
+work-size {staging = staging} p (Outcomes.miscompared high) = (refl, length-set staging _ _)
+work-size {d} {e} {sectors} {staging} p (Outcomes.completed high z) =
     (commit-frame (d .setup) _ _ sectors _ (staged-room (d .transfer .moved) (wordOf e) (room d sectors staging (p .sound) (p .room))) .size, length-set staging _ _)
-work-size {staging = staging} p (Outcomes.more z) = (refl, length-set staging _ _)
+work-size {staging = staging} p (Outcomes.more high z) = (refl, length-set staging _ _)
 
 kind-size : (k : Kind) (m : Machine) (e : Event) → AllPassed k m e → SameSize m (left (doneBy k m e))
 unfolding selected ownerNoticed postedOn deselected afterReset

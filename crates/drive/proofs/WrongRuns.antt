@@ -3,7 +3,7 @@
 -- Assumes nothing.
 use Prim.Native.Nat.{ℕ, _≤_}
 use mathlib.Core.Path.{_≡_, refl, sym, ap, _∙_}
-use mathlib.Core.Bool.{Bool, true, false, false≢true, _&&_}
+use mathlib.Core.Bool.{Bool, true, false, true≢false, false≢true, _&&_}
 use mathlib.Core.List.{List, [], _∷_, _++_, map, append-nil}
 use mathlib.Core.Option.{Option, some, none}
 use native.Mathlib.Omega.{arith}
@@ -12,8 +12,10 @@ use lib.Dec.{eqb}
 use lib.ListN.{getD}
 use Rattle.laws.specs.Pick.{pick}
 use Rattle.laws.proofs.Differ.{told-apart, absent}
+use Rattle.parts.specs.Control.{controlOf, isRead}
 use Rattle.parts.specs.Holding.{nobody}
 use Rattle.parts.specs.Kind.{Kind, Select, Deselect, Use, Reset, Unknown, kindOf}
+use Rattle.parts.specs.declared.control.Control.the-variants.{Read}
 use Rattle.parts.specs.declared.setup.Place.{Place}
 use Rattle.parts.specs.declared.event.Event.{Event}
 use Rattle.drive.specs.State.{atPlace}
@@ -27,7 +29,8 @@ use Rattle.drive.specs.StaysSound.{Never11Or10}
 use Rattle.drive.specs.Demand3.{MeetsDemand3}
 use Rattle.drive.specs.Sessions.{Works, Sessions}
 use Rattle.drive.specs.Sessions as sessions
-use Rattle.drive.specs.Reading.{Reading, nextAddress}
+use Rattle.drive.specs.Standing.{Standing}
+use Rattle.drive.specs.Reading.{nextAddress, WordTold, ofRead, ofResponse}
 use Rattle.drive.specs.NeverDead.{wordSent, wholeSectorWritten, itsAnswers, Possible}
 use Rattle.drive.specs.WrongRuns.{powerUp, WrongRuns}
 use Rattle.drive.specs.declared.answer.Answer.{Answer}
@@ -130,9 +133,11 @@ statusAt i told = orFFFF (paper (getD told i Done) .status)
 abbrev refusalAt : ℕ → List Answer → ℕ
 refusalAt i told = refusalIn (getD told i Done)
 
-abbrev addressIn : Option Reading → ℕ
-addressIn none = 0
-addressIn (some read) = nextAddress (powerUp .drive .setup) read
+-- a read of the second word, which is zero, does not tell AA
+never-read : {w : Standing} → controlOf (w .transfer .control) ≡ Read → nextAddress (powerUp .drive .setup) w ≡ 1 → WordTold powerUp [] w 0xAA → ⊥
+unfolding computing
+never-read r there (ofRead l) = told-apart 0xAA 0 refl (l .written ∙ ap (λ (address : ℕ). getD (powerUp .sectors) address 0) there)
+never-read r there (ofResponse q) = true≢false (ap isRead (sym r ∙ q .responding))
 
 possible : Possible powerUp 0 (atPlace 0 0 0) (7 ∷ 1 ∷ 2 ∷ 3 ∷ [])
 unfolding computing
@@ -165,9 +170,7 @@ wrong-runs =
       halfAGlyph = λ h. told-apart 2 3 refl (h .0 .words);
       noticeCleared = λ h. told-apart 0xC 0xFFFF refl (ap (statusAt 4) (h .sameAnswers));
       prioritySelectAlone = λ h. told-apart 6 0 refl (ap (refusalAt 2) (h .sameAnswers));
-      neverWritten = λ h.
-          let taken = h .1 .1 .0 0xAA refl in
-          told-apart 0xAA 0 refl (taken .written ∙ ap (λ going. getD (powerUp .sectors) (addressIn going) 0) (sym (taken .going)));
+      neverWritten = λ h. never-read refl refl (h .1 .1 .0 0xAA refl);
       strangerDeselects = λ h. false≢true (sessions-own h nobody);
       refusalMoves = λ h. told-apart 0 1 refl (ap (λ (m : Machine). m .drive .place .sector) (h .sameEnd));
       findsItselfUnsound = λ h. let over : 11 ≤ 8 = h .0 in omega arith;

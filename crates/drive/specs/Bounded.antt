@@ -1,6 +1,7 @@
 -- What a drive answers is within bounds, so that 13 words of 16 bits tell it and it can be read back from them.
 use Prim.Native.Nat.{ℕ, _≤_}
 use mathlib.Core.Path.{_≡_}
+use mathlib.Core.Logic.{_⊎_}
 use mathlib.Core.Bool.{true, false}
 use mathlib.Core.List.{List, [], _∷_, _++_}
 use mathlib.Core.Option.{some}
@@ -32,8 +33,9 @@ pub record ResponseOf (first second third : ℕ) : Type 0 where
   pub known : hasStrayBit (pendingOf second third) ≡ false
   pub fits : first ≡ octet0 (pendingOf second third)
 
+-- No more words than a sector has, or than a command or response.
 pub record OpenedWithin (s : Setup) (words : ℕ) (place : Place) : Type 0 where
-  pub count : words ≤ sectorWords s
+  pub count : (words ≤ sectorWords s) ⊎ (words ≤ 5)
   pub inside : isPlace s place ≡ true
 
 abbrev pub Bounded : Setup → Answer → Type 0

@@ -1,11 +1,12 @@
--- What changes the drive's state: selection, deselection and reset ("Who holds the drive"), and the moves of its position.
+-- What changes the drive's state: selection, deselection and reset ("Who holds the drive"), holds by command, and the moves of its position.
 use Prim.Native.Nat.{ℕ}
 use Rattle.laws.specs.Pick.{pick}
 use Rattle.parts.specs.Setup.{noTarget, following}
-use Rattle.parts.specs.Holding.{isOwnedByOther, grantedTo, released, free}
+use Rattle.parts.specs.Holding.{isOwnedByOther, grantedTo, released, free, atLeastPlain, withHold}
 use Rattle.parts.specs.Pending.{resetComplete, pendingOf, noticed}
 use Rattle.drive.specs.State.{atPlace, withHolding, withPlace, withTransfer, pendingOn, postedOn}
 use Rattle.parts.specs.Tests.{noTransfer}
+use Rattle.parts.specs.declared.holding.Hold.the-variants.{None, Strong}
 use Rattle.drive.specs.declared.drive.Drive.{Drive}
 
 -- "Alternate Port Priority Select goes pending on it": on another owner, if there is one.
@@ -36,6 +37,16 @@ afterReset d =
       pending1 = pendingOf resetComplete 0;
     }
 
+-- "Reserve by the selected port makes at least a plain hold, Release by that port makes the hold none, and Priority Reserve makes it strong."
+unfoldable pub reserved : Drive → Drive
+reserved d = withHolding d (withHold (d .holding) (atLeastPlain (d .holding .hold)))
+
+unfoldable pub unreserved : Drive → Drive
+unreserved d = withHolding d (withHold (d .holding) None)
+
+unfoldable pub priorityReserved : Drive → Drive
+priorityReserved d = withHolding d (withHold (d .holding) Strong)
+
 -- "Step Head (head plus one, 0 after the last; sector unchanged)"
 unfoldable pub headStepped : Drive → Drive
 headStepped d = withPlace d (atPlace (d .place .cylinder) (following (d .place .head) (d .setup .heads)) (d .place .sector))
@@ -43,6 +54,10 @@ headStepped d = withPlace d (atPlace (d .place .cylinder) (following (d .place .
 -- "The sector is the position's, or the target's for "at target", which becomes the position."
 unfoldable pub atItsTarget : Drive → Drive
 atItsTarget d = withPlace d (atPlace (d .place .cylinder) (d .place .head) (d .target))
+
+-- Nothing is open, and no word of a command is kept.
+unfoldable pub closed : Drive → Drive
+closed d = withTransfer d noTransfer
 
 -- "However it ends inside the session, the sector becomes the next, 0 after the last."
 unfoldable pub ended : Drive → Drive

@@ -7,9 +7,9 @@ use Rattle.drive.specs.Answer.{normal, paper, Says}
 use Rattle.drive.specs.State.{told, Result, result}
 use Rattle.parts.specs.Kind.{Kind, Select, Deselect, Use, Reset, Unknown, DataControl, WordFromHost, TakeWord, End, Position, Target, ReadStatus, kindOf, wordOf, placeOf}
 use Rattle.drive.specs.Refusal.{refusalOf}
-use Rattle.drive.specs.Drive.{selected, deselected, afterReset, ended}
+use Rattle.drive.specs.Drive.{selected, deselected, afterReset}
 use Rattle.drive.specs.Request.{dataControl, positioned, targeted, statusRead}
-use Rattle.drive.specs.Transfer.{wordStaged, wordTaken}
+use Rattle.drive.specs.Command.{wordFromHost, wordToHost, endedEarly}
 use Rattle.drive.specs.declared.drive.Drive.{Drive}
 use Rattle.parts.specs.declared.event.Event.{Event}
 use Rattle.drive.specs.declared.answer.Outcome.{Outcome}
@@ -20,10 +20,10 @@ act Select d e sectors staging = result (told Done (selected d (e .port) (e .a0)
 act Deselect d e sectors staging = result (told Done (deselected d)) sectors staging
 act Reset d e sectors staging = result (told Done (afterReset d)) sectors staging
 act (Use DataControl) d e sectors staging = result (dataControl d (e .port) (e .a0)) sectors staging
-act (Use WordFromHost) d e sectors staging = wordStaged d (wordOf e) sectors staging
-act (Use TakeWord) d e sectors staging = result (wordTaken d sectors) sectors staging
+act (Use WordFromHost) d e sectors staging = wordFromHost d (e .port) (wordOf e) sectors staging
+act (Use TakeWord) d e sectors staging = result (wordToHost d (e .port) sectors) sectors staging
 -- "a finished transfer, End and Step Head give 0"
-act (Use End) d e sectors staging = result (told (Status normal) (ended d)) sectors staging
+act (Use End) d e sectors staging = result (told (Status normal) (endedEarly d)) sectors staging
 act (Use Position) d e sectors staging = result (positioned d (e .port) (placeOf e)) sectors staging
 act (Use Target) d e sectors staging = result (targeted d (e .port) (wordOf e)) sectors staging
 act (Use ReadStatus) d e sectors staging = result (statusRead d (e .port)) sectors staging

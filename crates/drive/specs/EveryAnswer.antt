@@ -29,6 +29,8 @@ pub data Accepted : Kind → Answer → Type 0 where
   more : Accepted (Use WordFromHost) Done
   finished : Accepted (Use WordFromHost) (Status 0)
   miscompared : Accepted (Use WordFromHost) (Status 7)
+  -- A command that is bad: 8, at its last word.
+  disobeyed : Accepted (Use WordFromHost) (Status 8)
   -- "Take answers the next word."
   taken : {word : ℕ} → Accepted (Use TakeWord) (Word word)
   lastTaken : {word : ℕ} → Accepted (Use TakeWord) (LastWord word)

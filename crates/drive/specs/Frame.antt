@@ -1,14 +1,15 @@
 -- `frame`: a commit changes the named written fields of one sector and no other word; staging changes at one index; what is pending stays so.
 use Prim.Native.Nat.{ℕ, _+_, _-_, _<_, _≤_}
 use mathlib.Core.Path.{_≡_}
-use mathlib.Core.Bool.{Bool, _&&_}
+use mathlib.Core.Bool.{Bool, true, _&&_}
 use mathlib.Core.List.{List}
 use lib.Dec.{leb, ltb}
 use lib.ListN.{length, getD, set}
 use Rattle.laws.specs.Pick.{pick}
-use Rattle.parts.specs.Control.{movesHeader, namesField1, namesField2, part}
+use Rattle.parts.specs.Command.{readStatus}
+use Rattle.parts.specs.Control.{controlOf, isWrite, movesHeader, namesField1, namesField2, part}
 use Rattle.parts.specs.Pending.{nothingPending, pendingOf, resetComplete, StaysSet}
-use Rattle.parts.specs.Kind.{Use, Reset, WordFromHost, ReadStatus, kindOf, wordOf}
+use Rattle.parts.specs.Kind.{Use, Reset, WordFromHost, TakeWord, ReadStatus, kindOf, wordOf}
 use Rattle.drive.specs.State.{pendingOn}
 use Rattle.drive.specs.Transfer.{committed}
 use Rattle.drive.specs.Able.{Room}
@@ -35,15 +36,17 @@ pub record CommitFrame (s : Setup) (c start : ℕ) (sectors staging : List ℕ) 
   pub size : length (committed s c start sectors staging) ≡ length sectors
   pub word : (address : ℕ) → getD (committed s c start sectors staging) address 0 ≡ wordWritten s c start staging address (getD sectors address 0)
 
--- The staging words that an event leaves: as they were, or one replaced.
+-- The staging words that an event leaves: as they were, or one replaced by the word of a write.
 pub data StagingFrame (m : Machine) (e : Event) (left : List ℕ) : Type 0 where
   asItWas : left ≡ m .staging → StagingFrame m e left
-  oneWord : kindOf (e .kind) ≡ Use WordFromHost → left ≡ set (m .staging) (m .drive .transfer .moved) (wordOf e) → StagingFrame m e left
+  oneWord : kindOf (e .kind) ≡ Use WordFromHost → isWrite (controlOf (m .drive .transfer .control)) ≡ true → left ≡ set (m .staging) (m .drive .transfer .moved) (wordOf e) → StagingFrame m e left
 
--- What an event leaves pending on a port: every bit that was, but for that port's own read status and for Reset.
+-- What an event leaves pending on a port: every bit that was, but for that port's own read status, by kind 9 or by the last word of 44, and for Reset.
 pub data PendingFrame (m : Machine) (e : Event) (port : ℕ) (left : Pending) : Type 0 where
   kept : StaysSet (pendingOn (m .drive) port .octet1) (left .octet1) → StaysSet (pendingOn (m .drive) port .octet2) (left .octet2) → PendingFrame m e port left
   byStatus : kindOf (e .kind) ≡ Use ReadStatus → port ≡ e .port → left ≡ nothingPending → PendingFrame m e port left
+  byLastWord : kindOf (e .kind) ≡ Use TakeWord → m .drive .transfer .control ≡ readStatus → m .drive .transfer .moved + 1 ≡ 4 → port ≡ e .port
+      → left ≡ nothingPending → PendingFrame m e port left
   byReset : kindOf (e .kind) ≡ Reset → left ≡ pendingOf resetComplete 0 → PendingFrame m e port left
 
 -- What is pending is two octets, as in every drive that is made of octets.
@@ -55,5 +58,6 @@ pub record Frame : Type 0 where
   pub commit : (s : Setup) (c start : ℕ) (sectors staging : List ℕ) → Room s start sectors staging → CommitFrame s c start sectors staging
   -- "Word k of a write, counted from 0 in that transfer, is staged at index k, and no other staging word changes."
   pub staging : (m : Machine) (e : Event) → StagingFrame m e ((after m e) .staging)
-  -- "Read status answers 0 with the octets and clears that port's; nothing else but Reset clears them."
+  -- "Read status answers 0 with the octets and clears that port's; nothing else but Reset clears them." "The code that reads status .. clears at its
+  -- last word."
   pub pending : (m : Machine) (e : Event) (port : ℕ) → port ≤ 1 → AreOctets (pendingOn (m .drive) port) → PendingFrame m e port (pendingOn ((after m e) .drive) port)

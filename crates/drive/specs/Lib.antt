@@ -4,6 +4,7 @@ pub mod Drive
 pub mod Request
 pub mod Refusal
 pub mod Transfer
+pub mod Command
 pub mod Event
 pub mod Power
 pub mod Run

@@ -5,7 +5,7 @@ use mathlib.Core.List.{List, [], _∷_}
 use lib.Dec.{ltb, eqb}
 use lib.ListN.{length}
 use Rattle.laws.specs.Rows.{Row, first, _when_}
-use Rattle.parts.specs.Tests.{isWriteOpen, isReadOpen, isOutsideLimits, isDisowned, isBrokenTransfer, hasStrayBit, isMisaddressed, changesMode}
+use Rattle.parts.specs.Tests.{isTaking, isGiving, isOutsideLimits, isDisowned, isBrokenTransfer, hasStrayBit, isMisaddressed, changesMode}
 use Rattle.parts.specs.Setup.{sectorWords, allWords, isPlace, isTarget}
 use Rattle.parts.specs.Holding.{isBusy}
 use Rattle.parts.specs.Kind.{Kind, Select, Deselect, Use, Reset, Unknown, Work, DataControl, WordFromHost, TakeWord, End, Position, Target, ReadStatus, usesOnlyItsOwn}
@@ -60,13 +60,14 @@ row6 d e = isBusy (d .holding) (e .port) (e .a0)
 abbrev pub row2 : Drive → Event → Bool
 row2 d e = not (eqb (d .holding .selected) (e .port))
 
--- "kind 4 with no write open; 5 with no read open; 6 with neither; 2, 3, 7, 8 or 9 with one open"
+-- "kind 4 with no write open; 5 with no read open; 6 with neither; 2, 3, 7, 8 or 9 with one open". Commands and responses are "read by 7 and 11 as a
+-- write's and a read's words".
 abbrev pub isOneOpen : Drive → Bool
-isOneOpen d = isWriteOpen (d .transfer) || isReadOpen (d .transfer)
+isOneOpen d = isTaking (d .transfer) || isGiving (d .transfer)
 
 abbrev pub row7 : Work → Drive → Bool
-row7 WordFromHost d = not (isWriteOpen (d .transfer))
-row7 TakeWord d = not (isReadOpen (d .transfer))
+row7 WordFromHost d = not (isTaking (d .transfer))
+row7 TakeWord d = not (isGiving (d .transfer))
 row7 End d = not (isOneOpen d)
 row7 DataControl d = isOneOpen d
 row7 Position d = isOneOpen d

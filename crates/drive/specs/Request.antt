@@ -1,8 +1,9 @@
--- "Status", kinds 3, 7, 8 and 9: a data control, a position, a target, the status response.
+-- "Status", kinds 3, 7, 8 and 9: a control, a position, a target, the status response.
 use Prim.Native.Nat.{ℕ}
 use lib.Dec.{eqb}
 use Rattle.laws.specs.Pick.{pick}
 use Rattle.parts.specs.Setup.{isPlace, isTarget, noTarget}
+use Rattle.parts.specs.Command.{readStatus}
 use Rattle.parts.specs.Control.{controlOf, isAtTarget, wordsToCome}
 use Rattle.parts.specs.Pending.{invalidBusControl, invalidParameter, unsupportedBusControl, busControlContext, nothingPending, faulted, octet0}
 use Rattle.drive.specs.Answer.{normal, operationException, unsolicitedException}
@@ -11,10 +12,11 @@ use Rattle.parts.specs.Tests.{transferring}
 use Rattle.drive.specs.Drive.{headStepped, atItsTarget, ended}
 use Rattle.parts.specs.declared.setup.Place.{Place}
 use Rattle.parts.specs.declared.control.Control.{Control}
-use Rattle.parts.specs.declared.control.Control.the-variants.{Write, Read, StepHead, Reserved, Unsupported, Invalid}
+use Rattle.parts.specs.declared.control.Control.the-variants.{Write, Read, Command, Response, StepHead, Reserved, Unsupported, Invalid}
 use Rattle.drive.specs.declared.drive.Drive.{Drive}
 use Rattle.drive.specs.declared.answer.Outcome.{Outcome}
-use Rattle.drive.specs.declared.answer.Answer.the-variants.{Status, Opened, Response}
+use Rattle.drive.specs.declared.answer.Answer.the-variants.{Status, Opened}
+use Rattle.drive.specs.declared.answer.Answer.the-variants as answer
 
 -- ---- kinds 3, 7 and 8
 
@@ -36,17 +38,20 @@ opened d c =
 unfoldable pub opening : Drive → ℕ → ℕ → Outcome
 opening d port c = pick (isAtTarget c) (pick (eqb (d .target) noTarget) (badRequest d port busControlContext) (opened (atItsTarget d) c)) (opened d c)
 
--- "D0 and controls outside 80–9F and C0–DF: bit 7." "80–83 and 91–93: bit 5." "a finished transfer, End and Step Head give 0".
+-- "D0 and controls outside 80–9F and C0–DF: bit 7." "80–83 and 91–93: bit 5." "The codes come by kind 3". "a finished transfer, End and Step Head give 0".
 abbrev pub controlled : Control → Drive → ℕ → ℕ → Outcome
 controlled Write d port c = opening d port c
 controlled Read d port c = opening d port c
+controlled Command d port c = opened d c
+controlled Response d port c = opened d c
 controlled StepHead d port c = told (Status normal) (headStepped d)
 controlled Reserved d port c = badRequest d port invalidBusControl
 controlled Unsupported d port c = badRequest d port unsupportedBusControl
 controlled Invalid d port c = badRequest d port invalidBusControl
 
+-- "The code that reads status is never answered C".
 unfoldable pub dataControl : Drive → ℕ → ℕ → Outcome
-dataControl d port c = unlessUnsolicited d port (controlled (controlOf c) d port c)
+dataControl d port c = pick (eqb c readStatus) (opened d c) (unlessUnsolicited d port (controlled (controlOf c) d port c))
 
 -- "A place or target outside the drive: bit 6. .. Otherwise kinds 7 and 8 give 0".
 unfoldable pub positioned : Drive → ℕ → Place → Outcome
@@ -63,4 +68,4 @@ targeted d port target =
 unfoldable pub statusRead : Drive → ℕ → Outcome
 statusRead d port =
     let p = pendingOn d port in
-    told (Response (octet0 p) (p .octet1) (p .octet2)) (postedOn d port nothingPending)
+    told (answer.Response (octet0 p) (p .octet1) (p .octet2)) (postedOn d port nothingPending)

@@ -1,4 +1,4 @@
--- "Data controls": the words of an open transfer, from the host and to it.
+-- "Data controls": the words of an open write or read.
 use Prim.Native.Nat.{ℕ, _+_}
 use mathlib.Core.Bool.{Bool, not, _&&_}
 use mathlib.Core.List.{List, []}
@@ -11,7 +11,7 @@ use Rattle.parts.specs.Setup.{sectorStart, sectorAt}
 use Rattle.parts.specs.Control.{verifiesHeader, movesHeader, namesField1, namesField2, part, wordsToCome, wordsRead}
 use Rattle.drive.specs.Answer.{normal, headerMiscompare}
 use Rattle.drive.specs.State.{told, withTransfer, Result, result}
-use Rattle.parts.specs.Tests.{transferring}
+use Rattle.parts.specs.Tests.{movedOn}
 use Rattle.drive.specs.Drive.{ended}
 use Rattle.parts.specs.declared.setup.Setup.{Setup}
 use Rattle.drive.specs.declared.drive.Drive.{Drive}
@@ -42,7 +42,7 @@ staged d count start sectors staging =
     pick (miscompares (d .setup) c count start sectors staging) (result (told (Status headerMiscompare) (ended d)) sectors staging)
     (pick (eqb count (wordsToCome (d .setup) c))
     (result (told (Status normal) (ended d)) (committed (d .setup) c start sectors staging) staging)
-    (result (told Done (withTransfer d (transferring c count))) sectors staging))
+    (result (told Done (withTransfer d (movedOn (d .transfer) count))) sectors staging))
 
 -- "Word k of a write, counted from 0 in that transfer, is staged at index k, and no other staging word changes."
 unfoldable pub wordStaged : Drive → ℕ → List ℕ → List ℕ → Result
@@ -57,4 +57,4 @@ wordTaken d sectors =
     let c = d .transfer .control in
     let word = getD (wordsRead (d .setup) c (sectorAt (d .setup) (d .place) sectors)) (d .transfer .moved) 0 in
     pick (eqb (d .transfer .moved + 1) (wordsToCome (d .setup) c)) (told (LastWord word) (ended d))
-    (told (Word word) (withTransfer d (transferring c (d .transfer .moved + 1))))
+    (told (Word word) (withTransfer d (movedOn (d .transfer) (d .transfer .moved + 1))))

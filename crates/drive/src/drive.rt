@@ -1,4 +1,5 @@
-// The drive's state, by value, and what changes it: selection, deselection and reset hand the new state back.
+// The drive's state, by value, and what changes it: selection, deselection, reset and holds by command hand the new state back.
+use parts::Hold;
 use parts::Holding;
 use parts::Pending;
 use parts::Place;
@@ -6,8 +7,9 @@ use parts::Setup;
 use parts::Transfer;
 ghost use mathlib.Core.Path.{_≡_};
 ghost use Rattle.laws.specs.Pick.{pick};
-ghost use Rattle.drive.specs.State.{postedOn};
-ghost use Rattle.drive.specs.Drive.{ownerNoticed, selected, deselected, afterReset};
+ghost use Rattle.parts.specs.Holding.{atLeastPlain, withHold};
+ghost use Rattle.drive.specs.State.{withHolding, postedOn};
+ghost use Rattle.drive.specs.Drive.{ownerNoticed, selected, deselected, afterReset, reserved, priorityReserved, unreserved};
 
 pub struct Drive {
     pub setup: Setup,
@@ -80,6 +82,41 @@ impl Drive {
         }
     }
 
+    // At least a plain hold.
+    pub fn reserve(self) -> Drive
+        ensures { λ r. ⌜ r ≡ reserved self ⌝ }
+    {
+        let h = self.holding;
+        let hold = h.hold;
+        self.with_hold(at_least_plain(hold))
+    }
+
+    pub fn priority_reserve(self) -> Drive
+        ensures { λ r. ⌜ r ≡ priorityReserved self ⌝ }
+    {
+        self.with_hold(Hold::Strong)
+    }
+
+    pub fn release(self) -> Drive
+        ensures { λ r. ⌜ r ≡ unreserved self ⌝ }
+    {
+        self.with_hold(Hold::None)
+    }
+
+    fn with_hold(self, hold: Hold) -> Drive
+        ensures { λ r. ⌜ r ≡ withHolding self (withHold (self .holding) hold) ⌝ }
+    {
+        let h = self.holding;
+        let held = Holding {
+            selected: h.selected,
+            owner: h.owner,
+            hold,
+        };
+        let mut d = self;
+        d.holding = held;
+        d
+    }
+
     // A takeover is told to the port that loses the drive.
     fn owner_noticed(self, port: u16) -> Drive
         ensures { λ r. ⌜ r ≡ ownerNoticed self port ⌝ }
@@ -93,6 +130,16 @@ impl Drive {
             return self.posted_on(owner, p.noticed());
         }
         self
+    }
+}
+
+fn at_least_plain(hold: Hold) -> Hold
+    ensures { λ r. ⌜ r ≡ atLeastPlain hold ⌝ }
+{
+    match hold {
+        Hold::None => Hold::Plain,
+        Hold::Plain => Hold::Plain,
+        Hold::Strong => Hold::Strong,
     }
 }
 

@@ -2,15 +2,18 @@
 -- Assumes nothing.
 use Prim.Native.Nat.{ℕ, _+_, _*_, _≤_, _<_}
 use mathlib.Core.Path.{_≡_}
-use mathlib.Core.Bool.{true}
+use mathlib.Core.Bool.{Bool, true, false}
 use native.Mathlib.Nat.{mul-le-mul, mul-le-mul-right, suc-mul}
 use native.Mathlib.Numerals.{add-one}
 use native.Mathlib.Omega.{arith}
 use borrow.Author.Tests.{leb-true, ltb-true}
+use lib.Dec.{eqb}
 use Rattle.laws.proofs.Tests.{and-l, and-r}
-use Rattle.laws.proofs.Pick.{pick-le}
+use Rattle.laws.proofs.Pick.{pick-le, either}
 use Rattle.laws.specs.Pick.{pick}
-use Rattle.parts.specs.Control.{controlOf, isWrite, headerPasses, namesField1, namesField2, part, wordsToCome}
+use Rattle.parts.specs.Command.{parameterWords, loadDriveFunction, loadCylinderAddress, loadHeadAddress, loadTargetSectorAddress, loadPosition, readStatus, readCurrentSectorAddress, readCurrentPosition}
+use Rattle.parts.specs.Control.{controlOf, isWrite, isData, headerPasses, namesField1, namesField2, part, dataWords, wordsToCome}
+use Rattle.parts.proofs.ByBits.{write-is-data}
 use Rattle.parts.specs.Setup.{withinLimits, sectorWords, allWords, sectorNumber, sectorStart, isPlace}
 use Rattle.parts.specs.declared.setup.Setup.{Setup}
 use Rattle.parts.specs.declared.setup.Place.{Place}
@@ -60,19 +63,48 @@ inside s p h =
 pub sector-words-few : (s : Setup) → Limits s → sectorWords s ≤ 2056
 sector-words-few s l = omega arith
 
--- no more words pass than the sector has
-pub words-within : (s : Setup) (c : ℕ) → wordsToCome s c ≤ sectorWords s
-unfolding wordsToCome
-words-within s c =
+-- no more words of a data transfer pass than the sector has
+data-words-within : (s : Setup) (c : ℕ) → dataWords s c ≤ sectorWords s
+unfolding dataWords
+data-words-within s c =
     omega (arith, pick-le (headerPasses c) (s .header), pick-le (namesField1 c) (s .field1), pick-le (namesField2 c) (s .field2))
+
+pub data-words : (s : Setup) (c : ℕ) → isData c ≡ true → wordsToCome s c ≡ dataWords s c
+unfolding wordsToCome pick
+data-words s c h = rw h
+
+pub words-within : (s : Setup) (c : ℕ) → isData c ≡ true → wordsToCome s c ≤ sectorWords s
+unfolding wordsToCome pick
+words-within s c h = rw h (data-words-within s c)
+
+few : (test : Bool) (n : ℕ) {m : ℕ} → n ≤ 5 → m ≤ 5 → pick test n m ≤ 5
+few test n h k = either (λ (j : ℕ). j ≤ 5) test h k
+
+parameters-few : (c : ℕ) → parameterWords c ≤ 5
+unfolding parameterWords
+parameters-few c =
+    few (eqb c loadDriveFunction) 1 (omega arith)
+    (few (eqb c loadCylinderAddress) 2 (omega arith)
+    (few (eqb c loadHeadAddress) 1 (omega arith)
+    (few (eqb c loadTargetSectorAddress) 1 (omega arith)
+    (few (eqb c loadPosition) 4 (omega arith)
+    (few (eqb c readStatus) 4 (omega arith)
+    (few (eqb c readCurrentSectorAddress) 1 (omega arith)
+    (few (eqb c readCurrentPosition) 5 (omega arith) (omega arith))))))))
+
+pub code-words-few : (s : Setup) (c : ℕ) → isData c ≡ false → wordsToCome s c ≤ 5
+unfolding wordsToCome pick
+code-words-few s c h = rw h (parameters-few c)
 
 -- a write takes the header's words and those of the fields that it names
 pub write-words : (s : Setup) (c : ℕ) → isWrite (controlOf c) ≡ true → wordsToCome s c ≡ s .header + part (namesField1 c) (s .field1) + part (namesField2 c) (s .field2)
-unfolding wordsToCome headerPasses pick
-write-words s c h = rw h
+unfolding wordsToCome dataWords headerPasses pick
+write-words s c h = rw (write-is-data c h, h)
 
 pub words-few : (s : Setup) (c : ℕ) → Limits s → wordsToCome s c ≤ 2056
-words-few s c l = omega (arith, words-within s c, sector-words-few s l)
+unfolding wordsToCome
+words-few s c l =
+    either (λ (n : ℕ). n ≤ 2056) (isData c) (omega (arith, data-words-within s c, sector-words-few s l)) (omega (arith, parameters-few c))
 
 -- the products on the way to all words
 pub record FewWords (s : Setup) : Type 0 where

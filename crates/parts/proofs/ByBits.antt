@@ -1,16 +1,18 @@
--- Writes and reads told by their bits, as the ranges tell them: one computed test over all octets, and none beyond.
+-- Controls told by their bits, as the ranges tell them: computed tests over all octets, and none beyond.
 -- Assumes nothing.
 use Prim.Native.Nat.{ℕ, _/_, _%_, _≤_}
-use mathlib.Core.Path.{_≡_, refl, sym}
-use mathlib.Core.Bool.{Bool, true, false, not, _&&_, true≢false}
+use mathlib.Core.Path.{_≡_, refl, sym, _∙_}
+use mathlib.Core.Bool.{Bool, true, false, not, _&&_, _||_, and-false, true≢false}
 use native.Mathlib.Omega.{arith}
-use borrow.Author.Tests.{ltb-true, ltb-false, le-ltb, ne-eqb}
+use borrow.Author.Tests.{ltb-true, ltb-false, le-ltb, ne-eqb, leb-false, not-true}
 use lib.Dec.{ltb, eqb}
 use Rattle.laws.specs.Pick.{pick}
+use Rattle.laws.proofs.Tests.{and-r}
 use Rattle.laws.proofs.Lists.{everyBelow, every-below}
-use Rattle.parts.specs.Control.{controlOf, isWrite, isRead}
+use Rattle.parts.specs.Control.{controlOf, isWrite, isRead, takesWords, givesWords, isData, isAtTarget}
+use Rattle.parts.specs.Command.{codeOf, parameterWords}
 use Rattle.parts.specs.declared.control.Control.{Control}
-use Rattle.parts.specs.declared.control.Control.the-variants.{Invalid}
+use Rattle.parts.specs.declared.control.Control.the-variants.{Command, Response, Invalid}
 
 agree : Bool → Bool → Bool
 agree true b = b
@@ -37,9 +39,62 @@ by-bits test bits octets invalid beyond c = by-size (ltb c 256) refl
     by-size false e = let h = ltb-false c 256 e in rw (invalid-beyond c h, beyond c h, invalid)
 
 pub writes-by-bits : (c : ℕ) → isWrite (controlOf c) ≡ (eqb (c / 32) 4 && not (eqb (c / 4 % 4) 0))
-unfolding controlOf pick agree
+unfolding controlOf codeOf pick agree
 writes-by-bits = by-bits isWrite (λ c. eqb (c / 32) 4 && not (eqb (c / 4 % 4) 0)) refl refl (λ c h. rw (ne-eqb (c / 32) 4 (λ e. omega arith)))
 
 pub reads-by-bits : (c : ℕ) → isRead (controlOf c) ≡ (eqb (c / 32) 6 && not (eqb c 0xD0))
-unfolding controlOf pick agree
+unfolding controlOf codeOf pick agree
 reads-by-bits = by-bits isRead (λ c. eqb (c / 32) 6 && not (eqb c 0xD0)) refl refl (λ c h. rw (ne-eqb (c / 32) 6 (λ e. omega arith)))
+
+-- ---- data transfers, commands and responses
+
+-- what takes words and has bit 7 is a write, what gives words and has it a read
+pub writes-take : (c : ℕ) → isWrite (controlOf c) ≡ (takesWords (controlOf c) && isData c)
+unfolding controlOf codeOf pick agree
+writes-take = by-bits isWrite (λ c. takesWords (controlOf c) && isData c) refl refl (λ c h. rw (invalid-beyond c h))
+
+pub reads-give : (c : ℕ) → isRead (controlOf c) ≡ (givesWords (controlOf c) && isData c)
+unfolding controlOf codeOf pick agree
+reads-give = by-bits isRead (λ c. givesWords (controlOf c) && isData c) refl refl (λ c h. rw (invalid-beyond c h))
+
+pub write-is-data : (c : ℕ) → isWrite (controlOf c) ≡ true → isData c ≡ true
+write-is-data c h = and-r (takesWords (controlOf c)) (isData c) (sym (writes-take c) ∙ h)
+
+pub read-is-data : (c : ℕ) → isRead (controlOf c) ≡ true → isData c ≡ true
+read-is-data c h = and-r (givesWords (controlOf c)) (isData c) (sym (reads-give c) ∙ h)
+
+low-by : (c : ℕ) (test : Bool) → test ≡ true → (test && isData c) ≡ false → isData c ≡ false
+low-by c test t e = rw t at e
+
+pub command-low : (c : ℕ) → controlOf c ≡ Command → isData c ≡ false
+command-low c q = low-by c (takesWords (controlOf c)) (rw q) (sym (writes-take c) ∙ rw q)
+
+pub response-low : (c : ℕ) → controlOf c ≡ Response → isData c ≡ false
+response-low c q = low-by c (givesWords (controlOf c)) (rw q) (sym (reads-give c) ∙ rw q)
+
+-- what gives words and is not of data is a response
+pub low-responds : (c : ℕ) → isData c ≡ false → givesWords (controlOf c) ≡ true → controlOf c ≡ Response
+low-responds c low g = by-control (controlOf c) g (reads-give c ∙ rw low (and-false (givesWords (controlOf c))))
+  where
+    by-control : (k : Control) → givesWords k ≡ true → isRead k ≡ false → k ≡ Response
+    by-control Control.Response g r = refl
+    by-control Control.Read g r = absurd (true≢false r)
+    by-control Control.Write g r = absurd (true≢false (sym g))
+    by-control Control.Command g r = absurd (true≢false (sym g))
+    by-control Control.StepHead g r = absurd (true≢false (sym g))
+    by-control Control.Reserved g r = absurd (true≢false (sym g))
+    by-control Control.Unsupported g r = absurd (true≢false (sym g))
+    by-control Control.Invalid g r = absurd (true≢false (sym g))
+
+-- of the codes below 80 those open that have words to come, and none is at the target
+pub codes-open : (c : ℕ) → isData c ≡ false → (takesWords (controlOf c) || givesWords (controlOf c)) ≡ not (eqb (parameterWords c) 0)
+unfolding controlOf codeOf parameterWords pick agree
+codes-open c low =
+    let test : ℕ → Bool = λ n. agree (takesWords (controlOf n) || givesWords (controlOf n)) (not (eqb (parameterWords n) 0)) in
+    agreed (takesWords (controlOf c) || givesWords (controlOf c)) (not (eqb (parameterWords c) 0)) (every-below 128 test refl c (leb-false 0x80 c low))
+
+pub codes-in-place : (c : ℕ) → isData c ≡ false → (takesWords (controlOf c) || givesWords (controlOf c)) ≡ true → isAtTarget c ≡ false
+unfolding controlOf codeOf pick
+codes-in-place c low opens =
+    let test : ℕ → Bool = λ n. not (takesWords (controlOf n) || givesWords (controlOf n)) || not (isAtTarget n) in
+    not-true (isAtTarget c) (rw opens at (every-below 128 test refl c (leb-false 0x80 c low)))

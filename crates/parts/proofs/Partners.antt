@@ -4,11 +4,12 @@ use Prim.Native.Nat.{ℕ, _+_, _/_, _%_, _<_, _≤_}
 use mathlib.Core.Path.{_≡_, refl, sym, ap, _∙_}
 use mathlib.Core.Bool.{Bool, true, false, _&&_, _||_}
 use native.Mathlib.Omega.{arith}
-use borrow.Author.Tests.{lt-ltb, le-ltb, ne-eqb, ltb-true, ltb-false, leb-true}
+use borrow.Author.Tests.{lt-ltb, le-ltb, ne-eqb, ltb-true, ltb-false, le-leb, leb-true}
 use lib.Dec.{ltb, leb, eqb}
 use Rattle.laws.specs.Pick.{pick}
 use Rattle.laws.proofs.Tests.{and-l, and-r}
-use Rattle.parts.specs.Control.{controlOf, namesField1, namesField2, headerBits, headerPasses, wordsToCome, wordsRead}
+use Rattle.parts.specs.Control.{controlOf, namesField1, namesField2, headerBits, isData, headerPasses, dataWords, wordsToCome, wordsRead}
+use Rattle.parts.specs.declared.setup.Setup.{Setup}
 use Rattle.parts.specs.Bit4.{hasPartner, Bit4ChangesNothing}
 use Rattle.parts.specs.declared.control.Control.the-variants.{Write, Read, Unsupported}
 
@@ -63,8 +64,21 @@ same-passes : (c : ℕ) → hasPartner c ≡ true → headerPasses (c + 16) ≡ 
 unfolding headerPasses
 same-passes c h = rw (same-kind c h, same-bits c)
 
+has-data : (c : ℕ) → hasPartner c ≡ true → isData c ≡ true
+has-data c h = le-leb 0x80 c (by-range (leb 0x81 c && ltb c 0x90) refl h)
+  where
+    by-range : (low : Bool) → (leb 0x81 c && ltb c 0x90) ≡ low → (low || leb 0xC1 c && ltb c 0xD0) ≡ true → 0x80 ≤ c
+    by-range true e o = omega (arith, leb-true 0x81 c (and-l (leb 0x81 c) (ltb c 0x90) e))
+    by-range false e o = omega (arith, leb-true 0xC1 c (and-l (leb 0xC1 c) (ltb c 0xD0) o))
+
+same-words : (c : ℕ) → hasPartner c ≡ true → (s : Setup) → wordsToCome s (c + 16) ≡ wordsToCome s c
+unfolding wordsToCome dataWords pick
+same-words c h s =
+    let low = leb-true 0x80 c (has-data c h) in
+    rw (has-data c h, le-leb 0x80 (c + 16) (omega arith), same-passes c h, same-field1 c, same-field2 c)
+
 pub bit-4-changes-nothing : (c : ℕ) → hasPartner c ≡ true → Bit4ChangesNothing c
-unfolding wordsToCome wordsRead
+unfolding wordsRead
 bit-4-changes-nothing c h =
     record {
       kind = same-kind c h;
@@ -74,6 +88,6 @@ bit-4-changes-nothing c h =
       header = ap (λ (n : ℕ). leb 2 n) (same-bits c);
       target = ap (λ (n : ℕ). eqb n 3) (same-bits c);
       passes = same-passes c h;
-      words = λ s. rw (same-passes c h, same-field1 c, same-field2 c);
+      words = same-words c h;
       read = λ s sector. rw (same-passes c h, same-field1 c, same-field2 c);
     }

@@ -6,7 +6,8 @@ use mathlib.Core.Bool.{true≢false, false≢true}
 use Rattle.laws.specs.Pick.{pick}
 use Rattle.laws.proofs.Differ.{differ}
 use Rattle.parts.specs.Setup.{withinLimits, isPlace, isTarget, following, allWords, lacksRoom}
-use Rattle.parts.specs.Control.{controlOf, headerPasses, wordsToCome}
+use Rattle.parts.specs.Command.{codeOf, parameterWords, functionOf, functionIn}
+use Rattle.parts.specs.Control.{controlOf, headerPasses, dataWords, wordsToCome}
 use Rattle.parts.specs.Holding.{isBusy, released}
 use Rattle.parts.specs.Pending.{octet0, withBit, noticed, faulted}
 use Rattle.parts.specs.WrongAnswers.{WrongAnswers}
@@ -18,7 +19,7 @@ abbrev ownerIn : Holding → ℕ
 ownerIn h = h .owner
 
 pub wrong-answers : WrongAnswers
-unfolding pick withinLimits allWords lacksRoom isPlace isTarget following controlOf headerPasses wordsToCome isBusy released withBit noticed faulted octet0
+unfolding pick withinLimits allWords lacksRoom isPlace isTarget following controlOf codeOf headerPasses dataWords parameterWords wordsToCome isBusy released withBit noticed faulted octet0
 wrong-answers =
     record {
       read-for-D0 = λ h. false≢true (h .on-paper);

@@ -65,6 +65,15 @@ releasedFrom Strong owner = held nobody owner Strong
 unfoldable pub released : Holding → Holding
 released h = releasedFrom (h .hold) (h .owner)
 
+-- "Reserve by the selected port makes at least a plain hold"
+abbrev pub atLeastPlain : Hold → Hold
+atLeastPlain None = Plain
+atLeastPlain Plain = Plain
+atLeastPlain Strong = Strong
+
+abbrev pub withHold : Holding → Hold → Holding
+withHold h hold = held (h .selected) (h .owner) hold
+
 -- "nobody selected, no hold"
 abbrev pub free : Holding
 free = held nobody nobody None

@@ -1,4 +1,5 @@
 pub mod Setup
+pub mod Command
 pub mod Control
 pub mod Bit4
 pub mod Holding

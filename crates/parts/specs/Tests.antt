@@ -6,26 +6,43 @@ use lib.Dec.{ltb, leb, eqb}
 use Rattle.laws.specs.Rows.{Row, _when_}
 use Rattle.laws.specs.Octets.{bit}
 use Rattle.parts.specs.Setup.{withinLimits}
-use Rattle.parts.specs.Control.{controlOf, isWrite, isRead, wordsToCome}
+use Rattle.parts.specs.Control.{controlOf, takesWords, givesWords, wordsToCome}
 use Rattle.parts.specs.Holding.{nobody, holds}
 use Rattle.parts.specs.declared.setup.Setup.{Setup}
 use Rattle.parts.specs.declared.holding.Holding.{Holding}
 use Rattle.parts.specs.declared.pending.Pending.{Pending}
+use Rattle.parts.specs.declared.transfer.Parameters.{Parameters}
 use Rattle.parts.specs.declared.transfer.Transfer.{Transfer}
 
 -- ---- open transfers
 
+abbrev pub parameters : ℕ → ℕ → ℕ → Parameters
+parameters word0 word1 word2 = record { word0 = word0; word1 = word1; word2 = word2 }
+
+-- No word of a command was sent, or none before its last.
+abbrev pub noParameters : Parameters
+noParameters = parameters 0 0 0
+
+abbrev pub transferringWith : ℕ → ℕ → Parameters → Transfer
+transferringWith control moved p = record { control = control; moved = moved; parameters = p }
+
 abbrev pub transferring : ℕ → ℕ → Transfer
-transferring control moved = record { control = control; moved = moved }
+transferring control moved = transferringWith control moved noParameters
 
 abbrev pub noTransfer : Transfer
 noTransfer = transferring 0 0
 
-abbrev pub isWriteOpen : Transfer → Bool
-isWriteOpen t = isWrite (controlOf (t .control))
+-- So many words have moved; what a command has sent stays.
+abbrev pub movedOn : Transfer → ℕ → Transfer
+movedOn t moved = transferringWith (t .control) moved (t .parameters)
 
-abbrev pub isReadOpen : Transfer → Bool
-isReadOpen t = isRead (controlOf (t .control))
+-- Words of the host are awaited: of a write or of a command.
+abbrev pub isTaking : Transfer → Bool
+isTaking t = takesWords (controlOf (t .control))
+
+-- Words for the host are there: of a read or of a response.
+abbrev pub isGiving : Transfer → Bool
+isGiving t = givesWords (controlOf (t .control))
 
 -- No transfer is control 0 with no words moved.
 abbrev pub isOpen : Transfer → Bool
@@ -47,7 +64,7 @@ isDisowned h t =
 -- "a transfer open with nobody selected, with a control that opens none, or with all its words moved or more"
 unfoldable pub isBrokenTransfer : Setup → Holding → Transfer → Bool
 isBrokenTransfer s h t =
-    isOpen t && (eqb (h .selected) nobody || not (isWriteOpen t || isReadOpen t) || leb (wordsToCome s (t .control)) (t .moved))
+    isOpen t && (eqb (h .selected) nobody || not (isTaking t || isGiving t) || leb (wordsToCome s (t .control)) (t .moved))
 
 -- "a pending bit the base never sets": all but bits 7 and 6 of octet 1, and 7 to 4 of octet 2.
 unfoldable pub hasStrayBit : Pending → Bool

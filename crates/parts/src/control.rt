@@ -1,12 +1,15 @@
-// Data controls: what an octet asks for, and how many words pass under it.
+// Controls: what the octet of kind 3 asks for, and how many words pass under it.
+use crate::command;
 use crate::setup::Setup;
 ghost use Prim.Native.Nat.{_≤_};
 ghost use mathlib.Core.Path.{_≡_};
-ghost use Rattle.parts.specs.Control.{controlOf, ControlSaid, isWrite, isRead, namesField1, namesField2, verifiesHeader, movesHeader, isAtTarget, part, headerPasses, wordsToCome};
+ghost use Rattle.parts.specs.Control.{controlOf, ControlSaid, isData, isWrite, isRead, namesField1, namesField2, verifiesHeader, movesHeader, isAtTarget, part, headerPasses, dataWords, wordsToCome};
 
 pub enum Control {
     Write,
     Read,
+    Command,
+    Response,
     StepHead,
     Reserved,
     Unsupported,
@@ -17,6 +20,7 @@ pub fn control_of(octet: u16) -> Control
     ensures { λ r. ⌜ ControlSaid octet r ⌝ }
 {
     match octet {
+        0x00..=0x7f => command::code_of(octet),
         0x84..=0x8f | 0x94..=0x9f => Control::Write,
         0xc0..=0xcf | 0xd1..=0xdf => Control::Read,
         0x90 => Control::StepHead,
@@ -24,6 +28,13 @@ pub fn control_of(octet: u16) -> Control
         0x80..=0x83 | 0x91..=0x93 => Control::Unsupported,
         _ => Control::Invalid,
     }
+}
+
+// Bit 7 tells the data transfers from commands and responses.
+pub fn is_data(control: u16) -> bool
+    ensures { λ r. ⌜ r ≡ isData control ⌝ }
+{
+    0x80 <= control
 }
 
 // By bits, since it is asked at every word: 80 to 9F but 80 to 83 and 90 to 93.
@@ -86,6 +97,15 @@ pub fn header_passes(control: u16) -> bool
 impl Setup {
     pub fn words_to_come(self, control: u16) -> usize
         ensures { λ r. ⌜ r ≡ wordsToCome self control ⌝ }
+    {
+        if is_data(control) {
+            return self.data_words(control);
+        }
+        command::parameter_words(control) as usize
+    }
+
+    fn data_words(self, control: u16) -> usize
+        ensures { λ r. ⌜ r ≡ dataWords self control ⌝ }
     {
         let header = part_of(header_passes(control), self.header);
         let field1 = part_of(names_field1(control), self.field1);

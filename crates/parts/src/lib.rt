@@ -1,4 +1,5 @@
 // The parts of the drive's state, the rules on each of them, and the tests of the refusals.
+mod command;
 mod control;
 mod event;
 mod holding;
@@ -7,10 +8,14 @@ mod refusal;
 mod setup;
 mod transfer;
 
+pub use command::Function;
+pub use command::function_of;
+pub use command::parameter_words;
 pub use control::Control;
 pub use control::control_of;
 pub use control::header_passes;
 pub use control::is_at_target;
+pub use control::is_data;
 pub use control::is_read;
 pub use control::is_write;
 pub use control::moves_header;
@@ -50,5 +55,6 @@ pub use setup::NO_TARGET;
 pub use setup::Place;
 pub use setup::Setup;
 pub use setup::next_of;
+pub use transfer::Parameters;
 pub use transfer::Transfer;
 pub use transfer::no_transfer;

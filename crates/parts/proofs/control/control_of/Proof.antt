@@ -1,11 +1,15 @@
 -- `control_of` meets its contract: the ranges are tested in the order of the codes.
 -- Assumes nothing.
 use Rattle.parts.specs.Control.{controlOf}
+use borrow.Author.Needs.{needs}
 use Rattle.laws.proofs.Pick.{steps}
 use Rattle.laws.specs.Pick.{pick}
 use Rattle.parts.proofs.OnPaper.{control-said}
 use Rattle.parts.proofs.control.control_of.Statement.{statement}
 use Rattle.parts.proofs.control.control_of.Tie as tie
+
+code-of-requires : tie.Need-code-of-requires
+code-of-requires c κs = search needs
 
 returns : tie.Need-returns
 unfolding controlOf pick
@@ -51,6 +55,7 @@ pub control-of-spec : {M : Type 1} → statement M
 control-of-spec =
     tie.close
     (tie.spec
+    code-of-requires
     returns
     returns-2
     returns-3

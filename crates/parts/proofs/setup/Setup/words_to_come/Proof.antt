@@ -1,48 +1,39 @@
 -- `words_to_come` meets its contract.
 -- Assumes nothing.
+use mathlib.Core.Path.{sym, _∙_}
+use Rattle.laws.specs.Pick.{pick}
 use Rattle.parts.specs.Control.{wordsToCome}
 use borrow.Author.Needs.{needs}
 use Rattle.parts.proofs.setup.Setup.words_to_come.Statement.{statement}
 use Rattle.parts.proofs.setup.Setup.words_to_come.Tie as tie
 
-header-passes-requires : tie.Need-header-passes-requires
-header-passes-requires c κs = search needs
+is-data-requires : tie.Need-is-data-requires
+is-data-requires c κs = search needs
 
-part-of-requires : tie.Need-part-of-requires
-part-of-requires c κs = search needs
-
-names-field1-requires : tie.Need-names-field1-requires
-names-field1-requires c κs = search needs
-
-part-of-requires-2 : tie.Need-part-of-requires-2
-part-of-requires-2 c κs = search needs
-
-names-field2-requires : tie.Need-names-field2-requires
-names-field2-requires c κs = search needs
-
-part-of-requires-3 : tie.Need-part-of-requires-3
-part-of-requires-3 c κs = search needs
-
-add-result : tie.Need-add-result
-add-result c = search needs
-
-add-result-2 : tie.Need-add-result-2
-add-result-2 c = search needs
+data-words-requires : tie.Need-data-words-requires
+data-words-requires c κs = search needs
 
 returns : tie.Need-returns
-unfolding wordsToCome
-returns c = cc
+unfolding wordsToCome pick
+returns c = rw (sym (c .before .before .is-data .ensures) ∙ c .before .if1 .taken) (c .data-words .ensures)
+
+parameter-words-requires : tie.Need-parameter-words-requires
+parameter-words-requires c κs = search needs
+
+cast-result : tie.Need-cast-result
+cast-result c = search needs
+
+returns-2 : tie.Need-returns-2
+unfolding wordsToCome pick
+returns-2 c = rw (sym (c .before .before .is-data .ensures) ∙ c .before .if1 .left) (c .parameter-words .ensures)
 
 pub words-to-come-spec : {M : Type 1} → statement M
 words-to-come-spec =
     tie.close
     (tie.spec
-    header-passes-requires
-    part-of-requires
-    names-field1-requires
-    part-of-requires-2
-    names-field2-requires
-    part-of-requires-3
-    add-result
-    add-result-2
-    returns)
+    is-data-requires
+    data-words-requires
+    returns
+    parameter-words-requires
+    cast-result
+    returns-2)

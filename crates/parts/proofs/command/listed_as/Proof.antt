@@ -1,0 +1,54 @@
+-- `listed_as` meets its contract.
+-- Assumes nothing.
+use mathlib.Core.Path.{sym, _∙_}
+use borrow.Author.Tests.{ne-eqb}
+use Rattle.laws.specs.Pick.{pick}
+use Rattle.parts.specs.Command.{functionOf}
+use borrow.Author.Needs.{needs}
+use Rattle.parts.proofs.command.listed_as.Statement.{statement}
+use Rattle.parts.proofs.command.listed_as.Tie as tie
+
+function-acts-on-more-requires : tie.Need-function-acts-on-more-requires
+function-acts-on-more-requires c κs = search needs
+
+returns : tie.Need-returns
+unfolding functionOf pick
+returns c = rw (sym (c .before .function-acts-on-more .ensures) ∙ c .if1 .taken)
+
+returns-2 : tie.Need-returns-2
+unfolding functionOf pick
+returns-2 c = rw (c .match .keys1)
+
+returns-3 : tie.Need-returns-3
+unfolding functionOf pick
+returns-3 c = rw (c .match .keys2)
+
+returns-4 : tie.Need-returns-4
+unfolding functionOf pick
+returns-4 c = rw (c .match .keys3)
+
+returns-5 : tie.Need-returns-5
+unfolding functionOf pick
+returns-5 c = rw (c .match .keys4)
+
+returns-6 : tie.Need-returns-6
+unfolding functionOf pick
+returns-6 c = rw (c .match .keys5)
+
+returns-7 : tie.Need-returns-7
+unfolding functionOf pick
+returns-7 c =
+    rw (sym (c .before .before .function-acts-on-more .ensures) ∙ c .before .if1 .left, ne-eqb _ 0x13 (c .match .rest .0 .0 .0 .0 .1), ne-eqb _ 0x14 (c .match .rest .0 .0 .0 .1), ne-eqb _ 0x15 (c .match .rest .0 .0 .1), ne-eqb _ 0x20 (c .match .rest .0 .1), ne-eqb _ 0x28 (c .match .rest .1))
+
+pub listed-as-spec : {M : Type 1} → statement M
+listed-as-spec =
+    tie.close
+    (tie.spec
+    function-acts-on-more-requires
+    returns
+    returns-2
+    returns-3
+    returns-4
+    returns-5
+    returns-6
+    returns-7)
