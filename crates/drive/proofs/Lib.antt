@@ -28,5 +28,6 @@ pub mod Calls
 pub mod Demand3Examples
 pub mod NeverDead
 pub mod Computing
+pub mod CommandCases
 pub mod WrongAnswers
 pub mod WrongRuns
