@@ -67,15 +67,15 @@ functioned Recalibrate d port = told (Status normal) (withPlace d (atPlace 0 (d 
 functioned ActsOnMore d port = badRequest d port unsupportedBusControl
 functioned NotListed d port = badRequest d port invalidParameter
 
--- The last word: the transfer is closed, then the command is done, or is bad.
-unfoldable pub obeyed : Drive → ℕ → ℕ → Outcome
-obeyed d port last =
-    pick (eqb (d .transfer .control) loadDriveFunction) (functioned (functionIn last) (closed d) port)
-    (seeking (closed d) port (placeSought (d .transfer) (d .place) last) (targetSought (d .transfer) (d .target) last))
+-- What a command asks of a drive on which it is closed, by its last word.
+unfoldable pub obeyed : Transfer → Drive → ℕ → ℕ → Outcome
+obeyed t d port last =
+    pick (eqb (t .control) loadDriveFunction) (functioned (functionIn last) d port)
+    (seeking d port (placeSought t (d .place) last) (targetSought t (d .target) last))
 
 unfoldable pub parameterSent : Drive → ℕ → ℕ → Outcome
 parameterSent d port word =
-    pick (eqb (d .transfer .moved + 1) (wordsToCome (d .setup) (d .transfer .control))) (obeyed d port word)
+    pick (eqb (d .transfer .moved + 1) (wordsToCome (d .setup) (d .transfer .control))) (obeyed (d .transfer) (closed d) port word)
     (told Done (withTransfer d (withParameter (d .transfer) word)))
 
 -- ---- responses

@@ -11,17 +11,19 @@ use Rattle.parts.specs.Setup.{noTarget}
 use Rattle.parts.specs.Control.{controlOf}
 use Rattle.parts.specs.declared.control.Control.{Control}
 use Rattle.drive.specs.State.{pendingOn}
-use Rattle.drive.specs.Drive.{atItsTarget}
+use Rattle.drive.specs.Drive.{atItsTarget, closed}
 use Rattle.drive.specs.Answer.{unsolicitedException}
 use Rattle.drive.specs.Request.{unlessUnsolicited, opened, controlled}
 use Rattle.drive.specs.declared.answer.Answer.{Answer}
 use Rattle.drive.specs.declared.answer.Outcome.{Outcome}
 use Rattle.drive.specs.declared.answer.Answer.the-variants.{Status}
 use Rattle.drive.specs.declared.drive.Drive.{Drive}
-use Rattle.drive.proofs.Sound.{sound, unsound}
+use Rattle.drive.proofs.Sound.{Sound, sound, unsound}
 use Rattle.drive.proofs.SoundPlace.{at-target-kept}
+use Rattle.drive.proofs.SoundHolding.{closed-kept}
 use Rattle.events.specs.State.{driveIn, movedTo}
 use Rattle.events.specs.Fit.{Fit, Did}
+use Rattle.events.proofs.Octets.{Octets}
 use Rattle.events.proofs.Back.{did-then, drive-again, long-again, octets-in}
 use Rattle.events.proofs.Done.{did-nothing}
 
@@ -36,22 +38,30 @@ pub did-request : (state : List ℕ) (port : ℕ) (request : Outcome) (r : Bool)
 unfolding pick
 did-request state port request r e t d = rw (not-false (eqb (pendingOn (driveIn state) port .octet1) 0) (sym e ∙ t)) d
 
--- at the target the words are still those of a sound state
+-- words moved to a sound drive with the same set-up are those of a sound state
+moved-fit : {state state′ : List ℕ} (d : Drive) → Fit state → Octets d → d .setup ≡ driveIn state .setup → Sound d → state′ ≡ movedTo state d → Fit state′
+moved-fit {state} d f o s k e = record { long = rw e (long-again state d (f .long)); sound = rw (e, drive-again state d (f .long) o s) (unsound d k) }
+
 pub at-target-fit : {state state′ : List ℕ} → Fit state → (driveIn state .target ≡ noTarget → ⊥) → state′ ≡ movedTo state (atItsTarget (driveIn state)) → Fit state′
 unfolding atItsTarget
 at-target-fit {state} f n e =
-    let d = atItsTarget (driveIn state) in
-    record {
-      long = rw e (long-again state d (f .long));
-      sound = rw (e, drive-again state d (f .long) (octets-in state) refl)
-          (unsound d (at-target-kept (sound (driveIn state) (f .sound)) (ne-eqb (driveIn state .target) noTarget n)));
-    }
+    moved-fit (atItsTarget (driveIn state)) f (octets-in state) refl (at-target-kept (sound (driveIn state) (f .sound)) (ne-eqb (driveIn state .target) noTarget n)) e
+
+pub closed-fit : {state state′ : List ℕ} → Fit state → state′ ≡ movedTo state (closed (driveIn state)) → Fit state′
+unfolding closed
+closed-fit {state} f e = moved-fit (closed (driveIn state)) f (octets-in state) refl (closed-kept (sound (driveIn state) (f .sound))) e
 
 -- a transfer that opens at the target: the move, and then the opening
 pub did-at-target : {state state′ state″ : List ℕ} {r : Answer} (control : ℕ) → Fit state → state′ ≡ movedTo state (atItsTarget (driveIn state))
     → Did state′ (opened (driveIn state′) control) r state″ → Did state (opened (atItsTarget (driveIn state)) control) r state″
 unfolding atItsTarget
 did-at-target {state} control f e t = did-then (atItsTarget (driveIn state)) (λ (d : Drive). opened d control) (f .long) (octets-in state) refl e t
+
+-- a command that is closed, and then done
+pub did-closed : {state state′ state″ : List ℕ} {r : Answer} (f : Drive → Outcome) → Fit state → state′ ≡ movedTo state (closed (driveIn state))
+    → Did state′ (f (driveIn state′)) r state″ → Did state (f (closed (driveIn state))) r state″
+unfolding closed
+did-closed {state} f fits e t = did-then (closed (driveIn state)) f (fits .long) (octets-in state) refl e t
 
 -- by the kind of the control
 pub did-controlled : (state : List ℕ) (port control : ℕ) (kind : Control) {answer : Answer} {state′ : List ℕ} → kind ≡ controlOf control

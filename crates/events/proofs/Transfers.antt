@@ -11,8 +11,8 @@ use lib.ListN.{length, getD, set, length-set}
 use Rattle.laws.specs.Pick.{pick}
 use Rattle.laws.specs.Rows.{first, _when_}
 use Rattle.parts.specs.Setup.{withinLimits, sectorStart, sectorAt, isPlace}
-use Rattle.parts.specs.Control.{wordsToCome, wordsRead}
-use Rattle.parts.specs.Tests.{transferring}
+use Rattle.parts.specs.Control.{isData, wordsToCome, wordsRead}
+use Rattle.parts.specs.Tests.{movedOn}
 use Rattle.parts.specs.declared.setup.Setup.{Setup}
 use Rattle.parts.specs.declared.setup.Place.{Place}
 use Rattle.drive.specs.Able.{Able, Room, ReadsAt}
@@ -51,12 +51,12 @@ pub record Moving (state staging : List ℕ) : Type 0 where
   pub few : getD state 15 0 < 2056
   pub inside : getD state 15 0 < length staging
 
-pub moving : {state sectors staging : List ℕ} → Able (driveIn state) sectors staging → Moving state staging
-moving {state} {sectors} {staging} a =
+pub moving : {state sectors staging : List ℕ} → Able (driveIn state) sectors staging → isData (driveIn state .transfer .control) ≡ true → Moving state staging
+moving {state} {sectors} {staging} a high =
     let d = driveIn state in
     let r = room d sectors staging (a .sound) (a .room) in
     let few = words-few (d .setup) (d .transfer .control) (limits (d .setup) (sound d (a .sound) .limits)) in
-    let within = words-within (d .setup) (d .transfer .control) in
+    let within = words-within (d .setup) (d .transfer .control) high in
     let n = moved-word state in
     record { few = omega (arith, a .moved); inside = omega (arith, a .moved) }
 
@@ -89,7 +89,7 @@ last-word d c count start sectors staging e h n = rw (h, rw e at n, e)
 -- more are to come
 pub one-of-more : (d : Drive) (c count start : ℕ) (sectors staging : List ℕ) → c ≡ d .transfer .control
     → miscompares (d .setup) (d .transfer .control) count start sectors staging ≡ false → eqb count (wordsToCome (d .setup) c) ≡ false
-    → result (told Done (withTransfer d (transferring (d .transfer .control) count))) sectors staging ≡ staged d count start sectors staging
+    → result (told Done (withTransfer d (movedOn (d .transfer) count))) sectors staging ≡ staged d count start sectors staging
 unfolding staged pick
 one-of-more d c count start sectors staging e h n = rw (h, rw e at n)
 
@@ -111,6 +111,6 @@ last-taken d s p start offset sectors staging e q b h r n = rw (eq-eqb _ _ n, wo
 
 pub one-taken : (d : Drive) (s : Setup) (p : Place) (start offset : ℕ) (sectors staging : List ℕ) → s ≡ d .setup → p ≡ d .place → start ≡ sectorStart s p
     → Room s start sectors staging → ReadsAt s (d .transfer .control) (d .transfer .moved) offset → (d .transfer .moved + 1 ≡ wordsToCome (d .setup) (d .transfer .control) → ⊥)
-    → told (Word (getD sectors (start + offset) 0)) (withTransfer d (transferring (d .transfer .control) (d .transfer .moved + 1))) ≡ wordTaken d sectors
+    → told (Word (getD sectors (start + offset) 0)) (withTransfer d (movedOn (d .transfer) (d .transfer .moved + 1))) ≡ wordTaken d sectors
 unfolding wordTaken pick
 one-taken d s p start offset sectors staging e q b h r n = rw (ne-eqb _ _ n, word-at d s p start offset sectors staging e q b h r)

@@ -9,13 +9,15 @@ use borrow.Author.Tests.{lt-ltb, le-ltb, ltb-true, ltb-false, eqb-true, eqb-fals
 use lib.Dec.{ltb, leb, eqb}
 use lib.ListN.{getD}
 use Rattle.laws.specs.Pick.{pick}
-use Rattle.parts.specs.Control.{controlOf, isWrite, isRead, wordsToCome}
+use Rattle.parts.specs.Command.{codeOf}
+use Rattle.parts.specs.Control.{controlOf, takesWords, givesWords, wordsToCome}
 use Rattle.parts.specs.Holding.{nobody, holds, held}
 use Rattle.parts.specs.Setup.{withinLimits, isPlace, isTarget}
-use Rattle.parts.specs.Tests.{transferring, isOpen, isOutsideLimits, isDisowned, isBrokenTransfer, hasStrayBit}
+use Rattle.parts.specs.Tests.{transferringWith, isOpen, isOutsideLimits, isDisowned, isBrokenTransfer, hasStrayBit}
 use Rattle.parts.specs.declared.setup.Setup.{Setup}
 use Rattle.parts.specs.declared.holding.Hold.the-variants.{None, Plain, Strong}
 use Rattle.parts.specs.declared.holding.Holding.{Holding}
+use Rattle.parts.specs.declared.transfer.Parameters.{Parameters}
 use Rattle.parts.specs.declared.transfer.Transfer.{Transfer}
 use Rattle.drive.specs.Refusal.{row11}
 use Rattle.events.specs.State.{holdOf, pendingIn, selectedIn, driveIn}
@@ -33,17 +35,17 @@ opening false still opens full true h = sym (or-true (not opens || full))
 opening false still opens full false h = sym (or-false (not opens || full))
 
 -- control 0 opens nothing
-none-opens : (control : ℕ) → eqb control 0 ≡ true → (isWrite (controlOf control) || isRead (controlOf control)) ≡ false
-unfolding controlOf pick
+none-opens : (control : ℕ) → eqb control 0 ≡ true → (takesWords (controlOf control) || givesWords (controlOf control)) ≡ false
+unfolding controlOf codeOf pick
 none-opens control e = rw (eqb-true control 0 e)
 
 -- a broken transfer is opened amiss, or open with nobody selected
-broken-by : (s : Setup) (h : Holding) (control moved : ℕ)
-    → isBrokenTransfer s h (transferring control moved)
-    ≡ (isMisopened s control moved || isOpen (transferring control moved) && eqb (h .selected) nobody)
+broken-by : (s : Setup) (h : Holding) (control moved : ℕ) (p : Parameters)
+    → isBrokenTransfer s h (transferringWith control moved p)
+    ≡ (isMisopened s control moved || isOpen (transferringWith control moved p) && eqb (h .selected) nobody)
 unfolding isBrokenTransfer isMisopened
-broken-by s h control moved =
-    opening (eqb control 0) (eqb moved 0) (isWrite (controlOf control) || isRead (controlOf control)) (leb (wordsToCome s control) moved) (eqb (h .selected) nobody) (none-opens control)
+broken-by s h control moved p =
+    opening (eqb control 0) (eqb moved 0) (takesWords (controlOf control) || givesWords (controlOf control)) (leb (wordsToCome s control) moved) (eqb (h .selected) nobody) (none-opens control)
 
 -- with no control, words moved are amiss
 open-tests : (none still rest : Bool) → pick none (not still) rest ≡ false → not (none && still) ≡ not none
@@ -53,9 +55,9 @@ open-tests true false rest e = absurd (true≢false e)
 open-tests false still rest e = refl
 
 -- one that is not opened amiss is open where there is a control
-open-by : (s : Setup) (control moved : ℕ) → isMisopened s control moved ≡ false → isOpen (transferring control moved) ≡ not (eqb control 0)
+open-by : (s : Setup) (control moved : ℕ) (p : Parameters) → isMisopened s control moved ≡ false → isOpen (transferringWith control moved p) ≡ not (eqb control 0)
 unfolding isMisopened
-open-by s control moved e = open-tests (eqb control 0) (eqb moved 0) _ e
+open-by s control moved p e = open-tests (eqb control 0) (eqb moved 0) _ e
 
 -- ---- who holds the drive
 
@@ -153,8 +155,8 @@ unsound-words state =
     rw (← (stray-by (getD state 16 0)), ← (stray-by (getD state 17 0)))
     (regroup (not (withinLimits (d .setup))) (ltb nobody (d .holding .selected)) (ltb nobody (d .holding .owner)) (not (isPlace (d .setup) (d .place)))
     (not (isTarget (d .setup) (d .target))) (isDisowned (d .holding) (d .transfer)) _ (hasStrayBit (d .pending0)) (hasStrayBit (d .pending1)) _ _ _
-    (broken-by (d .setup) (d .holding) control moved)
-    (λ e. held-by (ltb (getD state 9 0) 3) (getD state 7 0) (getD state 8 0) (getD state 9 0) control (d .transfer) refl (open-by (d .setup) control moved e)))
+    (broken-by (d .setup) (d .holding) control moved (d .transfer .parameters))
+    (λ e. held-by (ltb (getD state 9 0) 3) (getD state 7 0) (getD state 8 0) (getD state 9 0) control (d .transfer) refl (open-by (d .setup) control moved (d .transfer .parameters) e)))
 
 -- and with the set-up that a callee told, but where the code reads its words
 pub unsound-with : (s : Setup) (state : List ℕ) → s ≡ driveIn state .setup

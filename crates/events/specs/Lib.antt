@@ -6,6 +6,7 @@ pub mod Exactly
 pub mod WrongAnswers
 -- what the private functions go by: nothing that a reader of the rules needs
 pub mod Unsound
+pub mod Open
 pub mod Fit
 pub mod Turn
 pub mod Copy

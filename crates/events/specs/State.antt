@@ -1,4 +1,4 @@
--- The drive's state as 18 words of 16 bits, in the order of `include/pantoglide.h`.
+-- The drive's state as 21 words of 16 bits, in the order of `include/pantoglide.h`.
 use Prim.Native.Nat.{ℕ, _+_, _*_, _/_, _%_}
 use mathlib.Core.Bool.{Bool}
 use mathlib.Core.List.{List, [], _∷_, _++_}
@@ -7,7 +7,7 @@ use lib.ListN.{getD, take, drop}
 use Rattle.laws.specs.Pick.{pick}
 use Rattle.parts.specs.Holding.{held}
 use Rattle.parts.specs.Pending.{pendingOf}
-use Rattle.parts.specs.Tests.{transferring}
+use Rattle.parts.specs.Tests.{transferringWith, parameters}
 use Rattle.parts.specs.declared.holding.Hold.{Hold}
 use Rattle.parts.specs.declared.holding.Hold.the-variants.{None, Plain, Strong}
 use Rattle.parts.specs.declared.pending.Pending.{Pending}
@@ -36,7 +36,7 @@ pendingIn word = pendingOf (word / 256) (word % 256)
 abbrev pub setupWords : Setup → List ℕ
 setupWords s = s .cylinders ∷ s .heads ∷ s .sectors ∷ s .header ∷ s .field1 ∷ s .field2 ∷ s .address ∷ []
 
--- Words 7 to 17, those that events change. Ports are 0, 1 and 2 for nobody; the control of no open transfer is 0.
+-- Words 7 to 20, those that events change. Ports are 0, 1 and 2 for nobody; the control of no open transfer is 0.
 unfoldable pub movingWords : Drive → List ℕ
 movingWords d =
     d .holding .selected
@@ -50,6 +50,9 @@ movingWords d =
     ∷ d .transfer .moved
     ∷ pendingWord (d .pending0)
     ∷ pendingWord (d .pending1)
+    ∷ d .transfer .parameters .word0
+    ∷ d .transfer .parameters .word1
+    ∷ d .transfer .parameters .word2
     ∷ []
 
 unfoldable pub stateWords : Drive → List ℕ
@@ -71,14 +74,14 @@ driveIn state =
       holding = held (selectedIn state) (getD state 8 0) (holdOf (getD state 9 0));
       place = atPlace (getD state 10 0) (getD state 11 0) (getD state 12 0);
       target = getD state 13 0;
-      transfer = transferring (getD state 14 0) (getD state 15 0);
+      transfer = transferringWith (getD state 14 0) (getD state 15 0) (parameters (getD state 18 0) (getD state 19 0) (getD state 20 0));
       pending0 = pendingIn (getD state 16 0);
       pending1 = pendingIn (getD state 17 0);
     }
 
--- The state words with those that events change replaced; those beyond 18 stay.
+-- The state words with those that events change replaced; those beyond 21 stay.
 unfoldable pub movedTo : List ℕ → Drive → List ℕ
-movedTo state d = take 7 state ++ movingWords d ++ drop 18 state
+movedTo state d = take 7 state ++ movingWords d ++ drop 21 state
 
 -- The words after events that lead to a drive. Where the hold is none of the three, every event is refused and the words stay.
 unfoldable pub stateAfter : List ℕ → Drive → List ℕ

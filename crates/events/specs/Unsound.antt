@@ -3,7 +3,7 @@ use Prim.Native.Nat.{ℕ, _/_, _%_}
 use mathlib.Core.Bool.{Bool, not, _||_}
 use lib.Dec.{ltb, leb, eqb}
 use Rattle.laws.specs.Pick.{pick}
-use Rattle.parts.specs.Control.{controlOf, isWrite, isRead, wordsToCome}
+use Rattle.parts.specs.Control.{controlOf, takesWords, givesWords, wordsToCome}
 use Rattle.parts.specs.Holding.{nobody}
 use Rattle.parts.specs.declared.setup.Setup.{Setup}
 
@@ -11,7 +11,7 @@ use Rattle.parts.specs.declared.setup.Setup.{Setup}
 unfoldable pub isMisopened : Setup → ℕ → ℕ → Bool
 isMisopened s control moved =
     pick (eqb control 0) (not (eqb moved 0))
-    (not (isWrite (controlOf control) || isRead (controlOf control)) || leb (wordsToCome s control) moved)
+    (not (takesWords (controlOf control) || givesWords (controlOf control)) || leb (wordsToCome s control) moved)
 
 -- Nobody selected: an owner just where there is a hold, and no transfer. Else the selected port is the owner.
 unfoldable pub isMisheld : ℕ → ℕ → ℕ → ℕ → Bool

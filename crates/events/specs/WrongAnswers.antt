@@ -92,11 +92,11 @@ pub record WrongAnswers : Type 0 where
   pub readAFieldTooEarly : Handles (moving 0xC1 0) (sent 0 5 0 0) (sector 7 1 2 3) zeros (Word 7) (moving 0xC1 1) (sector 7 1 2 3) zeros → ⊥
   -- ---- `power_up_words`
   -- Address and field 2 changed over.
-  pub addressForFieldTwo : PowersUp bench (replicate 18 0) 0 (stateWords (atRest (setupOf 2 2 3 1 2 3 1))) → ⊥
-  -- A state of 17 words is taken.
-  pub stateOf17Taken : PowersUp bench (replicate 17 0) 0 (take 17 (stateWords (atRest bench))) → ⊥
+  pub addressForFieldTwo : PowersUp bench (replicate 21 0) 0 (stateWords (atRest (setupOf 2 2 3 1 2 3 1))) → ⊥
+  -- A state of 20 words is taken.
+  pub stateOf20Taken : PowersUp bench (replicate 20 0) 0 (take 20 (stateWords (atRest bench))) → ⊥
   -- 9, and the state is written all the same.
-  pub refusedYetWritten : PowersUp headless (replicate 18 0) 9 (stateWords (atRest headless)) → ⊥
+  pub refusedYetWritten : PowersUp headless (replicate 21 0) 9 (stateWords (atRest headless)) → ⊥
   -- ---- `answer_event`
   -- A takeover's notice is written as that of the port that took over.
   pub noticeToTheWinner : Answers (stateWords (selectedBy 0 None)) (sent 1 1 0x31 0)

@@ -15,7 +15,7 @@ const LAST_HOLD: u16 = 2;
 
 // What rows 11 and 10 say of the state, 0 where both let it pass.
 pub(crate) fn judge(state: &[u16], sectors: &[u16], staging: &[u16]) -> u8
-    requires { ⌜ 18 ≤ length (now state) ⌝ }
+    requires { ⌜ 21 ≤ length (now state) ⌝ }
     ensures { λ r. ⌜ r ≡ judgement (driveIn (now (state .entry))) (now (sectors .entry)) (now (staging .entry)) ⌝ }
 {
     if is_unsound(state) {
@@ -29,7 +29,7 @@ pub(crate) fn judge(state: &[u16], sectors: &[u16], staging: &[u16]) -> u8
 }
 
 fn is_unsound(state: &[u16]) -> bool
-    requires { ⌜ 18 ≤ length (now state) ⌝ }
+    requires { ⌜ 21 ≤ length (now state) ⌝ }
     ensures { λ r. ⌜ r ≡ row11 (driveIn (now (state .entry))) ⌝ }
 {
     let setup = state::setup_in(state);
@@ -53,9 +53,10 @@ fn is_unsound(state: &[u16]) -> bool
     !setup.is_place(state::place_in(state)) | !setup.is_target(state[layout::TARGET])
 }
 
-// A transfer with a control that opens none, or with all its words moved or more. Two arms, since one for both is tested in full by every event.
+// A transfer with a control that opens none, or with all its words moved or more. Two arms, since one for both is tested in full by every event. A code
+// below 80 that opens none has no words.
 fn is_misopened(state: &[u16], control: u16, moved: u16) -> bool
-    requires { ⌜ 18 ≤ length (now state) ⌝ }
+    requires { ⌜ 21 ≤ length (now state) ⌝ }
     ensures { λ r. ⌜ r ≡ isMisopened (driveIn (now (state .entry)) .setup) control moved ⌝ }
 {
     if control == 0 {
@@ -67,7 +68,10 @@ fn is_misopened(state: &[u16], control: u16, moved: u16) -> bool
     if parts::is_read(control) {
         return coming::is_through(state, control, moved);
     }
-    true
+    if parts::is_data(control) {
+        return true;
+    }
+    parts::parameter_words(control) <= moved
 }
 
 // Nobody selected: an owner and a hold are there together, and no transfer. Else the selected port is the owner.

@@ -1,5 +1,6 @@
 // What each kind does that leaves the lent words: its own tests, then its work.
 use crate::answer;
+use crate::layout;
 use crate::pending;
 use crate::place;
 use crate::request;
@@ -12,7 +13,8 @@ ghost use Prim.Native.Nat.{_≤_};
 ghost use Rattle.parts.specs.Kind.{Kind, Work, wordOf, placeOf};
 ghost use Rattle.drive.specs.Answer.{normal};
 ghost use Rattle.drive.specs.State.{told};
-ghost use Rattle.drive.specs.Drive.{selected, deselected, afterReset, ended};
+ghost use Rattle.drive.specs.Drive.{selected, deselected, afterReset};
+ghost use Rattle.drive.specs.Command.{endedEarly};
 ghost use Rattle.drive.specs.Request.{dataControl, positioned, targeted, statusRead};
 ghost use Rattle.drive.specs.Able.{unlessOwnRow};
 ghost use Rattle.events.specs.State.{driveIn};
@@ -72,7 +74,7 @@ pub(crate) fn on_reset(state: &mut [u16], event: Event) -> Answer
 
 pub(crate) fn on_end(state: &mut [u16], event: Event) -> Answer
     requires { ⌜ Fit (now state) ⌝ }
-    ensures { λ r. ⌜ Did (now (state .entry)) (unlessOwnRow (Kind.Use Work.End) (driveIn (now (state .entry))) event (told (Answer.Status normal) (ended (driveIn (now (state .entry)))))) r (now (state .exit)) ⌝ }
+    ensures { λ r. ⌜ Did (now (state .entry)) (unlessOwnRow (Kind.Use Work.End) (driveIn (now (state .entry))) event (told (Answer.Status normal) (endedEarly (driveIn (now (state .entry)))))) r (now (state .exit)) ⌝ }
 {
     let formed = parts::none_at_all(event);
     let selected = timing::is_selected(&state[..], event.port);
@@ -81,7 +83,11 @@ pub(crate) fn on_end(state: &mut [u16], event: Event) -> Answer
     if n != 0 {
         return Answer::Refused(n);
     }
-    place::end_transfer(state);
+    if parts::is_data(state[layout::CONTROL]) {
+        place::end_transfer(state);
+        return Answer::Status(answer::NORMAL);
+    }
+    place::close(state);
     Answer::Status(answer::NORMAL)
 }
 

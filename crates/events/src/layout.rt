@@ -35,3 +35,6 @@ pub(crate) const MOVED: usize = 15;
 pub(crate) const PENDING_0: usize = 16;
 
 pub(crate) const PENDING_1: usize = 17;
+
+// The words of a command before its last: three.
+pub(crate) const PARAMETERS: usize = 18;

@@ -4,6 +4,7 @@ mod answer_words;
 mod batch;
 mod by_value;
 mod coming;
+mod command;
 mod event;
 mod judge;
 mod kinds;

@@ -1,10 +1,12 @@
 // The words of the position and of the open transfer.
 use crate::layout;
 use parts::Place;
+ghost use Prim.Native.Nat.{_≤_};
 ghost use mathlib.Core.Path.{_≡_};
-ghost use Rattle.parts.specs.Tests.{transferring};
-ghost use Rattle.drive.specs.State.{withPlace, withTransfer};
-ghost use Rattle.drive.specs.Drive.{ended, atItsTarget, headStepped};
+ghost use lib.ListN.{length};
+ghost use Rattle.drive.specs.State.{withPlace};
+ghost use Rattle.drive.specs.Drive.{ended, closed, atItsTarget, headStepped};
+ghost use Rattle.events.specs.Open.{transferOn};
 ghost use Rattle.events.specs.State.{driveIn, movedTo};
 ghost use Rattle.events.specs.Fit.{Fit};
 
@@ -15,16 +17,27 @@ pub(crate) fn end_transfer(state: &mut [u16])
 {
     let next = parts::next_of(state[layout::SECTOR], state[layout::SECTORS]);
     state[layout::SECTOR] = next;
-    state[layout::CONTROL] = 0;
-    state[layout::MOVED] = 0;
+    put_transfer(state, 0);
 }
 
-pub(crate) fn put_transfer(state: &mut [u16], control: u16, moved: u16)
+// A command or response ends: the position stays.
+pub(crate) fn close(state: &mut [u16])
     requires { ⌜ Fit (now state) ⌝ }
-    ensures { λ _. ⌜ now (state .exit) ≡ movedTo (now (state .entry)) (withTransfer (driveIn (now (state .entry))) (transferring control moved)) ⌝ }
+    ensures { λ _. ⌜ now (state .exit) ≡ movedTo (now (state .entry)) (closed (driveIn (now (state .entry)))) ⌝ }
+{
+    put_transfer(state, 0);
+}
+
+// No word of it has moved, and none of a command is kept. Control 0 is no transfer.
+pub(crate) fn put_transfer(state: &mut [u16], control: u16)
+    requires { ⌜ 21 ≤ length (now state) ⌝ }
+    ensures { λ _. ⌜ now (state .exit) ≡ transferOn (now (state .entry)) control ⌝ }
 {
     state[layout::CONTROL] = control;
-    state[layout::MOVED] = moved;
+    state[layout::MOVED] = 0;
+    state[layout::PARAMETERS] = 0;
+    state[layout::PARAMETERS + 1] = 0;
+    state[layout::PARAMETERS + 2] = 0;
 }
 
 pub(crate) fn put_place(state: &mut [u16], place: Place)

@@ -1,4 +1,4 @@
-// Kinds 3, 7 and 8: a data control, a position, a target.
+// Kinds 3, 7 and 8: a control, a position, a target.
 use crate::answer;
 use crate::layout;
 use crate::pending;
@@ -13,16 +13,23 @@ ghost use Rattle.drive.specs.Request.{opened, opening, dataControl, positioned,
 ghost use Rattle.events.specs.State.{driveIn};
 ghost use Rattle.events.specs.Fit.{Fit, Did};
 
+// The code that reads status is never answered C.
+const READ_STATUS: u16 = 0x44;
+
 pub(crate) fn ask(state: &mut [u16], port: u8, control: u16) -> Answer
     requires { ⌜ Fit (now state) × (port ≤ 1) ⌝ }
     ensures { λ r. ⌜ Did (now (state .entry)) (dataControl (driveIn (now (state .entry))) port control) r (now (state .exit)) ⌝ }
 {
+    if control == READ_STATUS {
+        return open(state, control);
+    }
     if pending::is_unsolicited(&state[..], port) {
         return Answer::Status(answer::UNSOLICITED_EXCEPTION);
     }
     let kind = parts::control_of(control);
     match kind {
         Control::Write | Control::Read => open_there(state, port, control),
+        Control::Command | Control::Response => open(state, control),
         Control::StepHead => {
             place::step_head(state);
             Answer::Status(answer::NORMAL)
@@ -60,7 +67,7 @@ fn open(state: &mut [u16], control: u16) -> Answer
         return Answer::Status(answer::NORMAL);
     }
     let here = state::place_in(&state[..]);
-    place::put_transfer(state, control, 0);
+    place::put_transfer(state, control);
     Answer::Opened(words as u16, here)
 }
 

@@ -1,8 +1,9 @@
-// The 18 words of the state: read into a drive, and written from one.
+// The 21 words of the state: read into a drive, and written from one.
 use crate::layout;
 use drive::Drive;
 use parts::Hold;
 use parts::Holding;
+use parts::Parameters;
 use parts::Pending;
 use parts::Place;
 use parts::Setup;
@@ -13,7 +14,7 @@ ghost use lib.ListN.{length};
 ghost use Rattle.laws.specs.Lists.{writtenOver};
 ghost use Rattle.events.specs.State.{holdWord, holdOf, pendingWord, pendingIn, selectedIn, driveIn, stateWords, movedTo};
 
-pub(crate) const STATE_WORDS: usize = 18;
+pub(crate) const STATE_WORDS: usize = 21;
 
 const LAST_HOLD: u16 = 2;
 
@@ -21,7 +22,7 @@ const LAST_HOLD: u16 = 2;
 const NO_PORT: u16 = 3;
 
 pub(crate) fn drive_in(state: &[u16]) -> Drive
-    requires { ⌜ 18 ≤ length (now state) ⌝ }
+    requires { ⌜ 21 ≤ length (now state) ⌝ }
     ensures { λ r. ⌜ r ≡ driveIn (now (state .entry)) ⌝ }
 {
     let selected = selected_in(state);
@@ -30,6 +31,7 @@ pub(crate) fn drive_in(state: &[u16]) -> Drive
     let pending1 = pending_in(state[layout::PENDING_1]);
     let setup = setup_in(state);
     let place = place_in(state);
+    let transfer = transfer_in(state);
     Drive {
         setup,
         holding: Holding {
@@ -39,17 +41,14 @@ pub(crate) fn drive_in(state: &[u16]) -> Drive
         },
         place,
         target: state[layout::TARGET],
-        transfer: Transfer {
-            control: state[layout::CONTROL],
-            moved: state[layout::MOVED],
-        },
+        transfer,
         pending0,
         pending1,
     }
 }
 
 pub(crate) fn setup_in(state: &[u16]) -> Setup
-    requires { ⌜ 18 ≤ length (now state) ⌝ }
+    requires { ⌜ 21 ≤ length (now state) ⌝ }
     ensures { λ r. ⌜ r ≡ driveIn (now (state .entry)) .setup ⌝ }
 {
     Setup {
@@ -64,7 +63,7 @@ pub(crate) fn setup_in(state: &[u16]) -> Setup
 }
 
 pub(crate) fn place_in(state: &[u16]) -> Place
-    requires { ⌜ 18 ≤ length (now state) ⌝ }
+    requires { ⌜ 21 ≤ length (now state) ⌝ }
     ensures { λ r. ⌜ r ≡ driveIn (now (state .entry)) .place ⌝ }
 {
     Place {
@@ -74,14 +73,31 @@ pub(crate) fn place_in(state: &[u16]) -> Place
     }
 }
 
+pub(crate) fn transfer_in(state: &[u16]) -> Transfer
+    requires { ⌜ 21 ≤ length (now state) ⌝ }
+    ensures { λ r. ⌜ r ≡ driveIn (now (state .entry)) .transfer ⌝ }
+{
+    let parameters = Parameters {
+        word0: state[layout::PARAMETERS],
+        word1: state[layout::PARAMETERS + 1],
+        word2: state[layout::PARAMETERS + 2],
+    };
+    Transfer {
+        control: state[layout::CONTROL],
+        moved: state[layout::MOVED],
+        parameters,
+    }
+}
+
 // The words that events change; the set-up's stay.
 pub(crate) fn put_moved(drive: Drive, state: &mut [u16])
-    requires { ⌜ 18 ≤ length (now state) ⌝ }
+    requires { ⌜ 21 ≤ length (now state) ⌝ }
     ensures { λ _. ⌜ now (state .exit) ≡ movedTo (now (state .entry)) drive ⌝ }
 {
     let h = drive.holding;
     let p = drive.place;
     let t = drive.transfer;
+    let kept = t.parameters;
     let hold = h.hold;
     let pending0 = drive.pending0;
     let pending1 = drive.pending1;
@@ -99,11 +115,14 @@ pub(crate) fn put_moved(drive: Drive, state: &mut [u16])
     state[layout::MOVED] = t.moved;
     state[layout::PENDING_0] = octets0;
     state[layout::PENDING_1] = octets1;
+    state[layout::PARAMETERS] = kept.word0;
+    state[layout::PARAMETERS + 1] = kept.word1;
+    state[layout::PARAMETERS + 2] = kept.word2;
 }
 
-// All 18 words.
+// All 21 words.
 pub(crate) fn put_state(drive: Drive, state: &mut [u16])
-    requires { ⌜ 18 ≤ length (now state) ⌝ }
+    requires { ⌜ 21 ≤ length (now state) ⌝ }
     ensures { λ _. ⌜ now (state .exit) ≡ writtenOver (now (state .entry)) (stateWords drive) ⌝ }
 {
     let s = drive.setup;
@@ -118,7 +137,7 @@ pub(crate) fn put_state(drive: Drive, state: &mut [u16])
 }
 
 fn selected_in(state: &[u16]) -> u16
-    requires { ⌜ 18 ≤ length (now state) ⌝ }
+    requires { ⌜ 21 ≤ length (now state) ⌝ }
     ensures { λ r. ⌜ r ≡ selectedIn (now (state .entry)) ⌝ }
 {
     if state[layout::HOLD] <= LAST_HOLD {

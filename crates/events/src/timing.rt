@@ -1,26 +1,35 @@
 // Whether an event of kinds 2 to 9 comes at its time: the rows 8, 2 and 7, on the words of a state that row 11 lets pass.
 use crate::layout;
-ghost use Prim.Native.Nat.{_/_};
 ghost use mathlib.Core.Path.{_≡_};
 ghost use mathlib.Core.Bool.{not, _||_};
 ghost use mathlib.Core.List.{[], _∷_};
 ghost use lib.Dec.{eqb};
 ghost use Rattle.laws.specs.Rows.{first, _when_};
-ghost use Rattle.parts.specs.Tests.{isWriteOpen, isReadOpen};
+ghost use Rattle.parts.specs.Tests.{isTaking, isGiving};
 ghost use Rattle.events.specs.State.{driveIn};
+ghost use Rattle.events.specs.Open.{whatIsOpen};
 ghost use Rattle.events.specs.Fit.{Fit};
 
-// What is open, by the upper two bits of the control: writes are from 84 to 9F and reads from C0 to DF.
+// What is open: of what is, bit 6 of the control tells words to the host from words of the host.
 pub(crate) const NONE_OPEN: u16 = 0;
 
-pub(crate) const WRITE_OPEN: u16 = 2;
+pub(crate) const TAKES_WORDS: u16 = 1;
 
-pub(crate) const READ_OPEN: u16 = 3;
+pub(crate) const GIVES_WORDS: u16 = 2;
+
+fn what_is_open(control: u16) -> u16
+    ensures { λ r. ⌜ r ≡ whatIsOpen control ⌝ }
+{
+    if control == 0 {
+        return NONE_OPEN;
+    }
+    TAKES_WORDS + control / 64 % 2
+}
 
 // The refusal of an event that asks for its port selected and just this open, else 0. A word is read where the tests before it let the event pass.
 pub(crate) fn refusal(state: &[u16], port: u8, formed: bool, wanted: u16) -> u8
     requires { ⌜ Fit (now state) ⌝ }
-    ensures { λ r. ⌜ r ≡ first (8 when not formed ∷ 2 when not (eqb (driveIn (now (state .entry)) .holding .selected) port) ∷ 7 when not (eqb (driveIn (now (state .entry)) .transfer .control / 64) wanted) ∷ []) ⌝ }
+    ensures { λ r. ⌜ r ≡ first (8 when not formed ∷ 2 when not (eqb (driveIn (now (state .entry)) .holding .selected) port) ∷ 7 when not (eqb (whatIsOpen (driveIn (now (state .entry)) .transfer .control)) wanted) ∷ []) ⌝ }
 {
     if !formed {
         return parts::MALFORMED;
@@ -28,7 +37,7 @@ pub(crate) fn refusal(state: &[u16], port: u8, formed: bool, wanted: u16) -> u8
     if !is_selected(state, port) {
         return parts::NOT_SELECTED;
     }
-    if state[layout::CONTROL] / 64 != wanted {
+    if what_is_open(state[layout::CONTROL]) != wanted {
         return parts::TRANSFER_OPEN_OR_NOT;
     }
     0
@@ -43,7 +52,7 @@ pub(crate) fn is_selected(state: &[u16], port: u8) -> bool
 
 pub(crate) fn is_one_open(state: &[u16]) -> bool
     requires { ⌜ Fit (now state) ⌝ }
-    ensures { λ r. ⌜ r ≡ (isWriteOpen (driveIn (now (state .entry)) .transfer) || isReadOpen (driveIn (now (state .entry)) .transfer)) ⌝ }
+    ensures { λ r. ⌜ r ≡ (isTaking (driveIn (now (state .entry)) .transfer) || isGiving (driveIn (now (state .entry)) .transfer)) ⌝ }
 {
     state[layout::CONTROL] != 0
 }

@@ -1,6 +1,8 @@
-// Kinds 4 and 5, an open transfer: words from the host are staged, and committed at the last one; words to the host are taken from the sector.
+// Kinds 4 and 5: words of a write are staged, and committed at the last one; words of a read are taken from the sector. Those of commands and responses
+// are handed on.
 use crate::answer;
 use crate::coming;
+use crate::command;
 use crate::layout;
 use crate::place;
 use crate::sizes;
@@ -10,13 +12,14 @@ use crate::words;
 use drive::Answer;
 use parts::Event;
 use parts::Setup;
-ghost use Prim.Native.Nat.{_-_, _<_};
+ghost use Prim.Native.Nat.{_-_, _<_, _≤_};
 ghost use mathlib.Core.Path.{_≡_};
 ghost use mathlib.Core.Bool.{true};
 ghost use Rattle.parts.specs.Setup.{sectorStart};
-ghost use Rattle.parts.specs.Control.{controlOf, isWrite, wordsToCome};
+ghost use Rattle.parts.specs.Control.{controlOf, isWrite, isData, dataWords};
 ghost use Rattle.parts.specs.Kind.{Kind, Work, wordOf};
-ghost use Rattle.drive.specs.Transfer.{miscompares, committed, staged, wordStaged, wordTaken};
+ghost use Rattle.drive.specs.Transfer.{miscompares, committed, staged, wordTaken};
+ghost use Rattle.drive.specs.Command.{wordFromHost, wordToHost};
 ghost use Rattle.drive.specs.Able.{Able, Room, ReadsAt, unlessOwnRow, unlessOwnRowIn};
 ghost use Rattle.events.specs.State.{driveIn};
 ghost use Rattle.events.specs.Fit.{Fits, Did, DidIn};
@@ -31,15 +34,18 @@ pub(crate) fn on_word_from_host(
     sectors: &mut [u16],
     staging: &mut [u16],
 ) -> Answer
-    requires { ⌜ Fits (now state) (now sectors) (now staging) ⌝ }
-    ensures { λ r. ⌜ DidIn (now (state .entry)) (unlessOwnRowIn (Kind.Use Work.WordFromHost) (driveIn (now (state .entry))) event (now (sectors .entry)) (now (staging .entry)) (wordStaged (driveIn (now (state .entry))) (wordOf event) (now (sectors .entry)) (now (staging .entry)))) r (now (state .exit)) (now (sectors .exit)) (now (staging .exit)) ⌝ }
+    requires { ⌜ Fits (now state) (now sectors) (now staging) × (event .port ≤ 1) ⌝ }
+    ensures { λ r. ⌜ DidIn (now (state .entry)) (unlessOwnRowIn (Kind.Use Work.WordFromHost) (driveIn (now (state .entry))) event (now (sectors .entry)) (now (staging .entry)) (wordFromHost (driveIn (now (state .entry))) (event .port) (wordOf event) (now (sectors .entry)) (now (staging .entry)))) r (now (state .exit)) (now (sectors .exit)) (now (staging .exit)) ⌝ }
 {
     let formed = parts::none_after_2(event);
-    let n = timing::refusal(&state[..], event.port, formed, timing::WRITE_OPEN);
+    let n = timing::refusal(&state[..], event.port, formed, timing::TAKES_WORDS);
     if n != 0 {
         return Answer::Refused(n);
     }
     let control = state[layout::CONTROL];
+    if !parts::is_data(control) {
+        return command::send(state, event.port, parts::word_of(event));
+    }
     let moved = state[layout::MOVED] as usize;
     staging[moved] = parts::word_of(event);
     after_word(state, control, moved + 1, sectors, &staging[..])
@@ -143,19 +149,22 @@ pub(crate) fn on_take_word(
     sectors: &[u16],
     staging: &[u16],
 ) -> Answer
-    requires { ⌜ Fits (now state) (now sectors) (now staging) ⌝ }
-    ensures { λ r. ⌜ Did (now (state .entry)) (unlessOwnRow (Kind.Use Work.TakeWord) (driveIn (now (state .entry))) event (wordTaken (driveIn (now (state .entry))) (now (sectors .entry)))) r (now (state .exit)) ⌝ }
+    requires { ⌜ Fits (now state) (now sectors) (now staging) × (event .port ≤ 1) ⌝ }
+    ensures { λ r. ⌜ Did (now (state .entry)) (unlessOwnRow (Kind.Use Work.TakeWord) (driveIn (now (state .entry))) event (wordToHost (driveIn (now (state .entry))) (event .port) (now (sectors .entry)))) r (now (state .exit)) ⌝ }
 {
     let formed = parts::none_at_all(event);
-    let n = timing::refusal(&state[..], event.port, formed, timing::READ_OPEN);
+    let n = timing::refusal(&state[..], event.port, formed, timing::GIVES_WORDS);
     if n != 0 {
         return Answer::Refused(n);
+    }
+    if !parts::is_data(state[layout::CONTROL]) {
+        return command::respond(state, event.port);
     }
     take(state, sectors, staging)
 }
 
 fn take(state: &mut [u16], sectors: &[u16], staging: &[u16]) -> Answer
-    requires { ⌜ Fits (now state) (now sectors) (now staging) × Able (driveIn (now state)) (now sectors) (now staging) ⌝ }
+    requires { ⌜ Fits (now state) (now sectors) (now staging) × Able (driveIn (now state)) (now sectors) (now staging) × (isData (driveIn (now state) .transfer .control) ≡ true) ⌝ }
     ensures { λ r. ⌜ Did (now (state .entry)) (wordTaken (driveIn (now (state .entry))) (now (sectors .entry))) r (now (state .exit)) ⌝ }
 {
     let control = state[layout::CONTROL];
@@ -164,7 +173,7 @@ fn take(state: &mut [u16], sectors: &[u16], staging: &[u16]) -> Answer
     let start = sizes::sector_start(setup, state::place_in(&state[..]));
     let at = start + word_offset(setup, control, moved);
     let word = sectors[at];
-    if moved as usize + 1 == coming::words_to_come(&state[..], control) {
+    if moved as usize + 1 == coming::data_words(&state[..], control) {
         place::end_transfer(state);
         return Answer::LastWord(word);
     }
@@ -174,7 +183,7 @@ fn take(state: &mut [u16], sectors: &[u16], staging: &[u16]) -> Answer
 
 // Where word k of a read stands in its sector.
 fn word_offset(setup: Setup, control: u16, moved: u16) -> usize
-    requires { ⌜ moved < wordsToCome setup control ⌝ }
+    requires { ⌜ moved < dataWords setup control ⌝ }
     ensures { λ r. ⌜ ReadsAt setup control moved r ⌝ }
 {
     let header = parts::part_of(parts::header_passes(control), setup.header);

@@ -5,9 +5,9 @@ use mathlib.Core.Path.{_≡_, refl, sym, _∙_}
 use mathlib.Core.Bool.{Bool, true, false, not, _&&_, _||_, and-false, true≢false}
 use native.Mathlib.Omega.{arith}
 use borrow.Author.Tests.{ltb-true, ltb-false, le-ltb, ne-eqb, leb-false, not-true}
-use lib.Dec.{ltb, eqb}
+use lib.Dec.{ltb, leb, eqb}
 use Rattle.laws.specs.Pick.{pick}
-use Rattle.laws.proofs.Tests.{and-r}
+use Rattle.laws.proofs.Tests.{and-l, and-r}
 use Rattle.laws.proofs.Lists.{everyBelow, every-below}
 use Rattle.parts.specs.Control.{controlOf, isWrite, isRead, takesWords, givesWords, isData, isAtTarget}
 use Rattle.parts.specs.Command.{codeOf, parameterWords}
@@ -98,3 +98,32 @@ unfolding controlOf codeOf pick
 codes-in-place c low opens =
     let test : ℕ → Bool = λ n. not (takesWords (controlOf n) || givesWords (controlOf n)) || not (isAtTarget n) in
     not-true (isAtTarget c) (rw opens at (every-below 128 test refl c (leb-false 0x80 c low)))
+
+-- bit 6 of what opens: "When this bit is set, the information transfer will be directed to the controller."
+opens-as : ℕ → Bool
+opens-as c = agree (givesWords (controlOf c)) (eqb (c / 64 % 2) 1) && agree (takesWords (controlOf c)) (eqb (c / 64 % 2) 0)
+
+by-bit-6 : (c : ℕ) → (takesWords (controlOf c) || givesWords (controlOf c)) ≡ true → opens-as c ≡ true
+unfolding opens-as controlOf codeOf pick agree
+by-bit-6 c opens = by-size (ltb c 256) refl
+  where
+    by-size : (small : Bool) → ltb c 256 ≡ small → opens-as c ≡ true
+    by-size true e =
+        let test : ℕ → Bool = λ n. not (takesWords (controlOf n) || givesWords (controlOf n)) || opens-as n in
+        rw opens at (every-below 256 test refl c (ltb-true c 256 e))
+    by-size false e = absurd (true≢false (sym opens ∙ rw (invalid-beyond c (ltb-false c 256 e))))
+
+pub gives-by-bit-6 : (c : ℕ) → (takesWords (controlOf c) || givesWords (controlOf c)) ≡ true → givesWords (controlOf c) ≡ eqb (c / 64 % 2) 1
+unfolding opens-as
+gives-by-bit-6 c opens = agreed (givesWords (controlOf c)) (eqb (c / 64 % 2) 1) (and-l _ (agree (takesWords (controlOf c)) (eqb (c / 64 % 2) 0)) (by-bit-6 c opens))
+
+pub takes-by-bit-6 : (c : ℕ) → (takesWords (controlOf c) || givesWords (controlOf c)) ≡ true → takesWords (controlOf c) ≡ eqb (c / 64 % 2) 0
+unfolding opens-as
+takes-by-bit-6 c opens = agreed (takesWords (controlOf c)) (eqb (c / 64 % 2) 0) (and-r (agree (givesWords (controlOf c)) (eqb (c / 64 % 2) 1)) _ (by-bit-6 c opens))
+
+-- a command has four words at most
+pub commands-few : (c : ℕ) → isData c ≡ false → takesWords (controlOf c) ≡ true → leb (parameterWords c) 4 ≡ true
+unfolding controlOf codeOf parameterWords pick
+commands-few c low takes =
+    let test : ℕ → Bool = λ n. not (takesWords (controlOf n)) || leb (parameterWords n) 4 in
+    rw takes at (every-below 128 test refl c (leb-false 0x80 c low))

@@ -1,6 +1,7 @@
 -- `open` meets its contract.
 -- Assumes nothing.
-use Rattle.events.proofs.Done.{did-first, did-second}
+use Rattle.events.proofs.Done.{did-first, did-second, known}
+use Rattle.events.proofs.Changes.{transfer-put}
 use Rattle.drive.proofs.Sound.{sound}
 use Rattle.parts.proofs.Bounds.{limits, words-few}
 use Rattle.drive.specs.Request.{opened}
@@ -57,7 +58,8 @@ returns-2 c =
     let else1 : tie.Else1 = search in
     let after-words-to-come : tie.After-words-to-come = search in
     let after-setup-in : tie.After-setup-in = search in
-    did-second _ _ _ _ (sym (ne-eqb _ _ (λ z. (else1 .if1 .left) (rw (after-setup-in .setup-in .ensures) at (after-words-to-come .words-to-come .ensures) ∙ z)))) refl (record { answer = rw (after-place-in .place-in .ensures, after-words-to-come .words-to-come .ensures, after-setup-in .setup-in .ensures); state = (after-put-transfer .put-transfer .ensures) })
+    let start : tie.Start = search in
+    did-second _ _ _ _ (sym (ne-eqb _ _ (λ z. (else1 .if1 .left) (rw (after-setup-in .setup-in .ensures) at (after-words-to-come .words-to-come .ensures) ∙ z)))) refl (record { answer = rw (after-place-in .place-in .ensures, after-words-to-come .words-to-come .ensures, after-setup-in .setup-in .ensures); state = after-put-transfer .put-transfer .ensures ∙ transfer-put _ _ (start .pre .long) (known (start .pre)) })
 
 pub open-spec : {M : Type 1} → statement M
 open-spec =
