@@ -133,7 +133,7 @@ bounded-along m (e ∷ events) f =
 work-response : {d : Drive} {e : Event} {sectors : List ℕ} {work : Work} {o : Outcome} (octets : List ℕ) → Outcomes.Told d e sectors work o
     → paper (o .answer) .response ≡ some octets → octets ≡ responseTo (pendingOn d (e .port))
 unfolding paper
-work-response octets (Outcomes.anOpening q) h = absent refl h
+work-response octets (Outcomes.anOpening q w) h = absent refl h
 work-response octets (Outcomes.aWord high w p r) h = absent r h
 work-response octets (Outcomes.aResponseWord low w p r) h = absent r h
 work-response {d} {e} octets Outcomes.aResponse h = cc

@@ -2,18 +2,18 @@
 -- Assumes nothing.
 use Prim.Native.Nat.{ℕ, suc, _+_, _<_}
 use mathlib.Core.Path.{_≡_, refl, sym, ap, subst, _∙_}
-use mathlib.Core.Bool.{true, false, not, false≢true}
+use mathlib.Core.Bool.{true, false, not, _||_, false≢true}
 use mathlib.Core.List.{List, [], _∷_}
 use mathlib.Core.Option.{some, none}
 use native.Mathlib.Omega.{arith}
 use borrow.Author.Tests.{not-false, eqb-true}
 use Rattle.laws.proofs.Pick.{either, cases}
-use Rattle.parts.specs.Control.{isData, wordsToCome}
+use Rattle.parts.specs.Control.{controlOf, takesWords, givesWords, isData, wordsToCome}
 use Rattle.parts.specs.Kind.{Kind, Select, Deselect, Use, Reset, Unknown, Work, WordFromHost, End, kindOf}
-use Rattle.parts.specs.Tests.{isTaking}
+use Rattle.parts.specs.Tests.{transferring, isTaking}
 use Rattle.parts.specs.declared.setup.Place.{Place}
 use Rattle.parts.specs.declared.event.Event.{Event}
-use Rattle.drive.specs.State.{Result, postedOn}
+use Rattle.drive.specs.State.{Result, withTransfer, postedOn}
 use Rattle.drive.specs.Drive.{selected, deselected, afterReset, headStepped, closed, ended}
 use Rattle.drive.specs.Command.{parameterSent, wordFromHost, endedEarly}
 use Rattle.drive.specs.Answer.{paper}
@@ -21,6 +21,7 @@ use Rattle.drive.specs.Transfer.{wordStaged, staged}
 use Rattle.drive.specs.Refusal.{row7}
 use Rattle.drive.specs.Accepted.{isRefused}
 use Rattle.drive.specs.Run.{Machine, machine, answerTo, after, answers, final}
+use Rattle.drive.specs.Sessions.{Is}
 use Rattle.drive.specs.CutShort.{opensWrite, Words, Cuts, byEnd, byTakeover, byReset, OpensNoWrite, CutShort}
 use Rattle.drive.specs.CutShort as cut
 use Rattle.drive.specs.declared.drive.Drive.{Drive}
@@ -54,14 +55,22 @@ not-opened {place = place} h o =
     let z : _≡_ {A = ℕ} 0 1 = cc in
     omega arith
 
-opened-coming : {d : Drive} {e : Event} {sectors : List ℕ} {work : Work} {o : Outcome} {n : ℕ} {place : Place} → Outcomes.Told d e sectors work o
-    → o .answer ≡ Opened n place → Coming n 0 (o .drive)
+-- what was open then, and where
+pub record Opening (d : Drive) (e : Event) (n : ℕ) (next : Drive) : Type 0 where
+  pub at : Drive
+  pub sought : Outcomes.Sought d (e .a0) at
+  pub opens : (takesWords (controlOf (e .a0)) || givesWords (controlOf (e .a0))) ≡ true
+  pub words : wordsToCome (at .setup) (e .a0) ≡ n
+  pub drive : next ≡ withTransfer at (transferring (e .a0) 0)
+
+opened-there : {d : Drive} {e : Event} {sectors : List ℕ} {work : Work} {o : Outcome} {n : ℕ} {place : Place} → Outcomes.Told d e sectors work o
+    → o .answer ≡ Opened n place → Opening d e n (o .drive)
 unfolding paper
-opened-coming (Outcomes.anOpening q) h = record { moved = refl; words = cc }
-opened-coming (Outcomes.aWord high w p r) h = absurd (not-opened p h)
-opened-coming (Outcomes.aResponseWord low w p r) h = absurd (not-opened p h)
-opened-coming Outcomes.aResponse h = absurd (not-opened refl h)
-opened-coming (Outcomes.nothing w p r) h = absurd (not-opened p h)
+opened-there (Outcomes.anOpening q w) h = record { at = _; sought = q; opens = w; words = cc; drive = refl }
+opened-there (Outcomes.aWord high w p r) h = absurd (not-opened p h)
+opened-there (Outcomes.aResponseWord low w p r) h = absurd (not-opened p h)
+opened-there Outcomes.aResponse h = absurd (not-opened refl h)
+opened-there (Outcomes.nothing w p r) h = absurd (not-opened p h)
 
 opened-quietly : {d : Drive} {e : Event} {sectors staging : List ℕ} {work : Work} {r : Result} {n : ℕ} {place : Place} → Outcomes.WorkDone d e sectors staging work r
     → r .outcome .answer ≡ Opened n place → r .sectors ≡ sectors
@@ -72,7 +81,7 @@ opened-quietly (Outcomes.completed high z) h = absurd (not-opened refl h)
 opened-quietly (Outcomes.more high z) h = refl
 
 opened-by : (k : Kind) (m : Machine) (e : Event) {n : ℕ} {place : Place} → (doneBy k m e) .outcome .answer ≡ Opened n place
-    → Unfinished n 0 (m .sectors) (left (doneBy k m e))
+    → Opening (m .drive) e n ((left (doneBy k m e)) .drive) × ((left (doneBy k m e)) .sectors ≡ m .sectors)
 unfolding paper
 opened-by Select m e h = absurd (not-opened refl h)
 opened-by Deselect m e h = absurd (not-opened refl h)
@@ -80,12 +89,14 @@ opened-by Reset m e h = absurd (not-opened refl h)
 opened-by Unknown m e h = absurd (not-opened refl h)
 opened-by (Use work) m e h =
     let done = Outcomes.work-done (m .drive) e (m .sectors) (m .staging) work in
-    going (opened-coming (Outcomes.work-told done) h) (opened-quietly done h)
+    (opened-there (Outcomes.work-told done) h, opened-quietly done h)
 
-opened : (m : Machine) (e : Event) {n : ℕ} {place : Place} → answerTo m e ≡ Opened n place → Unfinished n 0 (m .sectors) (after m e)
+pub opened : (m : Machine) (e : Event) {n : ℕ} {place : Place} → answerTo m e ≡ Opened n place
+    → Opening (m .drive) e n ((after m e) .drive) × ((after m e) .sectors ≡ m .sectors)
 unfolding paper
 opened m e {n} {place} =
-    by-cases (λ answer next. answer ≡ Opened n place → Unfinished n 0 (m .sectors) next) m e (λ r z h. absurd (not-opened refl h)) (λ k z p h. opened-by k m e h)
+    by-cases (λ answer next. answer ≡ Opened n place → Opening (m .drive) e n (next .drive) × (next .sectors ≡ m .sectors)) m e
+    (λ r z h. absurd (not-opened refl h)) (λ k z p h. opened-by k m e h)
 
 -- one more word, of a write or a command that has another to come behind it
 staged-on : {n j : ℕ} {sectors : List ℕ} (m : Machine) (e : Event) → suc j < n → Coming n j (m .drive) → m .sectors ≡ sectors
@@ -125,16 +136,22 @@ one-word {n} {j} {sectors} m e more u a z =
     by-word (over w s) t = over-on m e w s t
     by-word (going c s) t = staged-on m e more c s
 
-words-sent : {n j k : ℕ} {sectors : List ℕ} {m : Machine} {events : List Event} → Unfinished n j sectors m → Words m events k → j + k < n
-    → (final m events) .sectors ≡ sectors
-unfolding final
-words-sent u cut.none h = same-sectors u
-words-sent {n} {j} {k} {sectors} {m} u (cut.refused {e = e} r w) h = words-sent (subst (Unfinished n j sectors) (sym (refused-changes-nothing m e r)) u) w h
-words-sent {m = m} u (cut.word {e = e} a z w) h = words-sent (one-word m e (omega arith) u a z) w (omega arith)
+-- what each word before the last carries on is so after all of them
+module _ (P : ℕ → Machine → Type 0) (Q : Machine → Type 0) (n : ℕ) (enough : (j : ℕ) (m : Machine) → P j m → Q m)
+    (step : (j : ℕ) (m : Machine) (e : Event) → suc j < n → P j m → isRefused (answerTo m e) ≡ false → Is (Use WordFromHost) e → P (suc j) (after m e)) where
+  pub words-sent : (j : ℕ) {k : ℕ} (m : Machine) {events : List Event} → P j m → Words m events k → j + k < n → Q (final m events)
+  unfolding final
+  words-sent j m p cut.none h = enough j m p
+  words-sent j m p (cut.refused {e = e} r w) h = words-sent j (after m e) (subst (P j) (sym (refused-changes-nothing m e r)) p) w h
+  words-sent j m p (cut.word {e = e} a z w) h = words-sent (suc j) (after m e) (step j m e (omega arith) p a z) w (omega arith)
 
 unfinished : (m : Machine) (opening : Event) {n k : ℕ} {place : Place} {sent : List Event} → answerTo m opening ≡ Opened n place
     → Words (after m opening) sent k → k < n → (final (after m opening) sent) .sectors ≡ m .sectors
-unfinished m opening o w h = words-sent (opened m opening o) w (omega arith)
+unfinished m opening {n} o w h =
+    let first = opened m opening o in
+    words-sent (λ j next. Unfinished n j (m .sectors) next) (λ next. next .sectors ≡ m .sectors) n (λ j next u. same-sectors u)
+    (λ j next e more u a z. one-word next e more u a z) 0 (after m opening)
+    (going (record { moved = rw (first .0 .drive); words = rw (first .0 .drive) (first .0 .words) }) (first .1)) w (omega arith)
 
 -- ---- where no write is open
 

@@ -55,7 +55,7 @@ sought-inside {d} p (Outcomes.atTarget a z) = at-target-kept (sound d (p .sound)
 opening-told : {d : Drive} {e : Event} {sectors staging : List ℕ} {work : Work} {o : Outcome} → Passable d sectors staging → Outcomes.Told d e sectors work o
     → (place : Place) → paper (o .answer) .place ≡ some place → OpeningTold (d .setup) (e .a0) (standingOf d) (paper (o .answer)) place
 unfolding paper
-opening-told {d} {e} p (Outcomes.anOpening {at = at} q) place h =
+opening-told {d} {e} p (Outcomes.anOpening {at = at} q w) place h =
     let there : at .place ≡ place = cc in
     record {
       follows = sym there ∙ ap (λ (w : Standing). w .place) (sym (sought-there q));
@@ -117,7 +117,7 @@ word-at {d} {sectors} {staging} port word p high t e =
 word-told : {d : Drive} {e : Event} {sectors staging : List ℕ} {work : Work} {o : Outcome} → Passable d sectors staging → row7 work d ≡ false
     → Outcomes.Told d e sectors work o → (word : ℕ) → paper (o .answer) .word ≡ some word → Taken (machine d sectors staging) (e .port) word
 unfolding paper
-word-told p t (Outcomes.anOpening q) word h = absent refl h
+word-told p t (Outcomes.anOpening q w) word h = absent refl h
 word-told {d} {e} {sectors} p t (Outcomes.aWord high w n r) word h = let it : word ≡ Outcomes.wordAt d sectors = cc in word-at (e .port) word p high t it
 word-told {d} {e} p t (Outcomes.aResponseWord low w n r) word h =
     let it : word ≡ Outcomes.responseAt d (e .port) = cc in

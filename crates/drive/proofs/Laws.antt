@@ -76,12 +76,18 @@ by-cases P m e refused done =
     let k = kindOf (e .kind) in
     by-refusal P (refusalOf k (m .drive) e (m .sectors) (m .staging)) m (doneBy k m e) refused (λ z. done k refl (passed-all k m e z))
 
--- an accepted event whose kind is known
+-- an event whose kind is known
+pub by-kind : (P : Answer → Machine → Type 0) (k : Kind) (m : Machine) (e : Event) → kindOf (e .kind) ≡ k → ((n : ℕ) → P (Refused (suc n)) m)
+    → (AllPassed k m e → P ((doneBy k m e) .outcome .answer) (left (doneBy k m e))) → P (answerTo m e) (after m e)
+by-kind P k m e z refused done =
+    by-cases P m e (λ n y. refused n)
+    (λ k′ y p. subst (λ (j : Kind). AllPassed j m e → P ((doneBy j m e) .outcome .answer) (left (doneBy j m e))) (sym z ∙ y) done p)
+
+-- and an accepted one
 pub accepted-by : (P : Answer → Machine → Type 0) (k : Kind) (m : Machine) (e : Event) → kindOf (e .kind) ≡ k → isRefused (answerTo m e) ≡ false
     → (AllPassed k m e → P ((doneBy k m e) .outcome .answer) (left (doneBy k m e))) → P (answerTo m e) (after m e)
 accepted-by P k m e z accepted done =
-    by-cases (λ answer next. isRefused answer ≡ false → P answer next) m e (λ n y r. absurd (true≢false r))
-    (λ k′ y p r. subst (λ (j : Kind). AllPassed j m e → P ((doneBy j m e) .outcome .answer) (left (doneBy j m e))) (sym z ∙ y) done p) accepted
+    by-kind (λ answer next. isRefused answer ≡ false → P answer next) k m e z (λ n r. absurd (true≢false r)) (λ p r. done p) accepted
 
 -- ---- kinds 3 to 9 leave the set-up, who is selected and the owner, and their answers are no refusals
 

@@ -14,7 +14,7 @@ use Rattle.laws.proofs.Tests.{and-l, and-r}
 use Rattle.parts.specs.Setup.{sectorStart, sectorAt, isPlace, isTarget, noTarget}
 use Rattle.parts.specs.Command.{loadDriveFunction, readStatus, codeOf, parameterWords, functionIn}
 use Rattle.parts.specs.Control.{controlOf, isWrite, isRead, takesWords, givesWords, isData, isAtTarget, wordsToCome, wordsRead}
-use Rattle.parts.specs.Pending.{OneBit, bit7, bit6, bit5, bit4, nothingPending, faulted, octet0}
+use Rattle.parts.specs.Pending.{invalidParameter, unsupportedBusControl, OneBit, bit7, bit6, bit5, bit4, nothingPending, faulted, octet0}
 use Rattle.drive.specs.Answer.{paper, normal, headerMiscompare, operationException, unsolicitedException}
 use Rattle.drive.specs.State.{atPlace, withPlace, withTarget, withTransfer, pendingOn, postedOn, told, Result, result}
 use Rattle.parts.specs.Tests.{transferring, movedOn}
@@ -53,6 +53,17 @@ pub data Obeyed (d : Drive) (last : ℕ) : Drive → Type 0 where
       → isPlace (d .setup) (placeSought (d .transfer) (d .place) last) ≡ true → isTarget (d .setup) (targetSought (d .transfer) (d .target) last) ≡ true
       → Obeyed d last (withTarget (withPlace (closed d) (placeSought (d .transfer) (d .place) last)) (targetSought (d .transfer) (d .target) last))
 
+-- a bad command, and the bit that it sets
+pub data Disobeyed (d : Drive) (last : ℕ) : ℕ → Type 0 where
+  actsOnMore : functionIn last ≡ ActsOnMore → Disobeyed d last unsupportedBusControl
+  notListed : functionIn last ≡ NotListed → Disobeyed d last invalidParameter
+  outside : eqb (d .transfer .control) loadDriveFunction ≡ false → Disobeyed d last invalidParameter
+
+pub its-bit : {d : Drive} {last bit : ℕ} → Disobeyed d last bit → OneBit bit
+its-bit (actsOnMore q) = bit5
+its-bit (notListed q) = bit6
+its-bit (outside z) = bit6
+
 -- the next word of an open response
 abbrev pub responseAt : Drive → ℕ → ℕ
 responseAt d port = getD (wordsTold (d .transfer .control) (pendingOn d port) (d .place) (d .target)) (d .transfer .moved) 0
@@ -61,7 +72,7 @@ pub data Exchanged (d : Drive) (e : Event) : Work → Outcome → Type 0 where
   kept : eqb (d .transfer .moved + 1) (wordsToCome (d .setup) (d .transfer .control)) ≡ false
       → Exchanged d e WordFromHost (told Done (withTransfer d (withParameter (d .transfer) (wordOf e))))
   obeys : {at : Drive} → Obeyed d (wordOf e) at → Exchanged d e WordFromHost (told (Status normal) at)
-  disobeys : {bit : ℕ} → OneBit bit
+  disobeys : {bit : ℕ} → Disobeyed d (wordOf e) bit
       → Exchanged d e WordFromHost (told (Status operationException) (postedOn (closed d) (e .port) (faulted (pendingOn (closed d) (e .port)) bit)))
   tells : eqb (d .transfer .moved + 1) (wordsToCome (d .setup) (d .transfer .control)) ≡ false
       → Exchanged d e TakeWord (told (Word (responseAt d (e .port))) (withTransfer d (movedOn (d .transfer) (d .transfer .moved + 1))))
@@ -171,19 +182,19 @@ module _ (d : Drive) (e : Event) (sectors staging : List ℕ) where
   function-done Release q z = obeys (byFunction z q releases)
   function-done NoOperation q z = obeys (byFunction z q idles)
   function-done Recalibrate q z = obeys (byFunction z q recalibrates)
-  function-done ActsOnMore q z = disobeys bit5
-  function-done NotListed q z = disobeys bit6
+  function-done ActsOnMore q z = disobeys (actsOnMore q)
+  function-done NotListed q z = disobeys (notListed q)
 
-  parameter-sent : Exchanged d e WordFromHost (parameterSent d (e .port) (wordOf e))
+  pub parameter-sent : Exchanged d e WordFromHost (parameterSent d (e .port) (wordOf e))
   unfolding parameterSent obeyed seeking badRequest closed
   parameter-sent =
       cases (Exchanged d e WordFromHost) _
       (λ last. cases (Exchanged d e WordFromHost) _ (λ z. function-done (functionIn (wordOf e)) refl z)
       (λ z. cases (Exchanged d e WordFromHost) _
-      (λ i. obeys (bySeek z (and-l _ (isTarget (d .setup) _) i) (and-r (isPlace (d .setup) _) _ i))) (λ i. disobeys bit6)))
+      (λ i. obeys (bySeek z (and-l _ (isTarget (d .setup) _) i) (and-r (isPlace (d .setup) _) _ i))) (λ i. disobeys (outside z))))
       (λ more. kept more)
 
-  response-taken : Exchanged d e TakeWord (responseTaken d (e .port))
+  pub response-taken : Exchanged d e TakeWord (responseTaken d (e .port))
   unfolding responseTaken
   response-taken = cases (Exchanged d e TakeWord) _ tellsLast tells
 
@@ -209,7 +220,7 @@ module _ (d : Drive) (e : Event) (sectors staging : List ℕ) where
 -- ---- what the answer tells beside a status
 
 pub data Told (d : Drive) (e : Event) (sectors : List ℕ) : Work → Outcome → Type 0 where
-  anOpening : {at : Drive} → Sought d (e .a0) at
+  anOpening : {at : Drive} → Sought d (e .a0) at → (takesWords (controlOf (e .a0)) || givesWords (controlOf (e .a0))) ≡ true
       → Told d e sectors DataControl (told (Opened (wordsToCome (at .setup) (e .a0)) (at .place)) (withTransfer at (transferring (e .a0) 0)))
   aWord : {o : Outcome} → isData (d .transfer .control) ≡ true → paper (o .answer) .word ≡ some (wordAt d sectors) → paper (o .answer) .place ≡ none → paper (o .answer) .response ≡ none
       → Told d e sectors TakeWord o
@@ -226,7 +237,7 @@ quiet-told (unsolicited q) = nothing refl refl refl
 quiet-told (bad q b) = nothing refl refl refl
 quiet-told (stepped k) = nothing refl refl refl
 quiet-told (nothingToCome q w) = nothing refl refl refl
-quiet-told (opens q o z) = anOpening q
+quiet-told (opens q o z) = anOpening q o
 quiet-told (takenLast high) = aWord high refl refl refl
 quiet-told (taken high z) = aWord high refl refl refl
 quiet-told (ends high) = nothing refl refl refl

@@ -109,7 +109,7 @@ module _ (m : Machine) (e : Event) (port : ℕ) (real : port ≤ 1) (octets : Ar
   exchange-left z own (Outcomes.kept y) = gained (nothing-new _)
   exchange-left z own (Outcomes.obeys (Outcomes.byFunction y q f)) = gained (function-left port f)
   exchange-left z own (Outcomes.obeys (Outcomes.bySeek y i j)) = gained (nothing-new _)
-  exchange-left z own (Outcomes.disobeys b) = gained (posted-more (closed (m .drive)) (e .port) port _ (faulted-more _ b))
+  exchange-left z own (Outcomes.disobeys b) = gained (posted-more (closed (m .drive)) (e .port) port _ (faulted-more _ (Outcomes.its-bit b)))
   exchange-left z own (Outcomes.tells y) = gained (nothing-new _)
   exchange-left z own (Outcomes.tellsLast y) =
       cases (λ (d : Drive). PendingFrame m e port (pendingOn d port)) (eqb (m .drive .transfer .control) readStatus)

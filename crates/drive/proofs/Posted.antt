@@ -54,7 +54,7 @@ module _ (P : Pending → Type 0) (q : Postable P) where
   exchange-keeps o (Outcomes.kept z) = o
   exchange-keeps o (Outcomes.obeys (Outcomes.byFunction z r f)) = function-keeps o f
   exchange-keeps o (Outcomes.obeys (Outcomes.bySeek z i j)) = o
-  exchange-keeps {d} {e} o (Outcomes.disobeys b) = posted (closed d) (e .port) _ o (q .fault _ b (on-either P (closed d) (e .port) o))
+  exchange-keeps {d} {e} o (Outcomes.disobeys b) = posted (closed d) (e .port) _ o (q .fault _ (Outcomes.its-bit b) (on-either P (closed d) (e .port) o))
   exchange-keeps o (Outcomes.tells z) = o
   exchange-keeps {d} {e} o (Outcomes.tellsLast z) = either (OnBoth P) _ (posted (closed d) (e .port) nothingPending o (q .nothing)) o
   exchange-keeps o Outcomes.cut = o

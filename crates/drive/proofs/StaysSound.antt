@@ -66,7 +66,7 @@ exchange-sound {d} p n t (Outcomes.kept z) =
 exchange-sound {d} p n t (Outcomes.obeys (Outcomes.byFunction z q f)) = function-sound (closed-kept (sound d (p .sound))) n f
 exchange-sound {d} p n t (Outcomes.obeys (Outcomes.bySeek z i j)) = target-kept (place-kept (closed-kept (sound d (p .sound))) i) j
 exchange-sound {d} {e} p n t (Outcomes.disobeys b) =
-    let s = closed-kept (sound d (p .sound)) in posted-kept (e .port) _ s (fault-stray _ b (pending-stray (e .port) s))
+    let s = closed-kept (sound d (p .sound)) in posted-kept (e .port) _ s (fault-stray _ (Outcomes.its-bit b) (pending-stray (e .port) s))
 exchange-sound {d} p n t (Outcomes.tells z) =
     let r = not-false (isGiving (d .transfer)) t in
     transfer-kept (sound d (p .sound)) n (rw r (or-true (isTaking (d .transfer)))) (one-more (d .transfer .moved) _ (able-to-read p r .moved) z)
