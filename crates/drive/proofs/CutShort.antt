@@ -6,7 +6,7 @@ use mathlib.Core.Bool.{true, false, not, _||_, false≢true}
 use mathlib.Core.List.{List, [], _∷_}
 use mathlib.Core.Option.{some, none}
 use native.Mathlib.Omega.{arith}
-use borrow.Author.Tests.{not-false, eqb-true}
+use borrow.Author.Tests.{eqb-true}
 use Rattle.laws.proofs.Pick.{either, cases}
 use Rattle.parts.specs.Control.{controlOf, takesWords, givesWords, isData, wordsToCome}
 use Rattle.parts.specs.Kind.{Kind, Select, Deselect, Use, Reset, Unknown, Work, WordFromHost, End, kindOf}

@@ -29,5 +29,7 @@ pub mod Demand3Examples
 pub mod NeverDead
 pub mod Computing
 pub mod CommandCases
+pub mod Commands
+pub mod CommandRuns
 pub mod WrongAnswers
 pub mod WrongRuns

@@ -54,10 +54,10 @@ use Rattle.drive.proofs.StaysSound.{sound-after}
 
 -- ---- an event that passes all rows does what its kind does
 
-record Does (m : Machine) (e : Event) (r : Result) : Type 0 where
-  answer : answerTo m e ≡ r .outcome .answer
-  next : after m e ≡ left r
-  sound : IsSound (left r)
+pub record Does (m : Machine) (e : Event) (r : Result) : Type 0 where
+  pub answer : answerTo m e ≡ r .outcome .answer
+  pub next : after m e ≡ left r
+  pub sound : IsSound (left r)
 
 does : {m : Machine} {e : Event} {r : Result} → IsSound m → handled (m .drive) e (m .sectors) (m .staging) ≡ r → Does m e r
 unfolding answerTo after
@@ -70,22 +70,26 @@ accepted-does k {m} {e} s real z p d =
     does s (handled-by-kind (m .drive) e (m .sectors) (m .staging) k s (le-ltb 1 (e .port) real) z ∙ rw (none-given (ownRows k (m .drive) e) p) d)
 
 -- and the run goes on from there
-follows : {m : Machine} {e : Event} {r : Result} {events : List Event} {answered : List Answer} {end : Machine} → Does m e r → Ran (left r) events answered end
+pub follows : {m : Machine} {e : Event} {r : Result} {events : List Event} {answered : List Answer} {end : Machine} → Does m e r → Ran (left r) events answered end
     → Ran m (e ∷ events) (r .outcome .answer ∷ answered) end
 unfolding answers final
 follows d ran = record { answered = rw (d .answer, d .next, ran .answered); ended = rw (d .next) (ran .ended) }
 
+pub nothing-follows : {m : Machine} → Ran m [] [] m
+unfolding answers final
+nothing-follows = record { answered = refl; ended = refl }
+
 -- kinds 3 to 9: tests 8, 2 and 7
-work-does : (work : Work) {m : Machine} {e : Event} {r : Result} → IsSound m → e .port ≤ 1 → kindOf (e .kind) ≡ Use work → row8 (Use work) e ≡ false
+pub work-does : (work : Work) {m : Machine} {e : Event} {r : Result} → IsSound m → e .port ≤ 1 → kindOf (e .kind) ≡ Use work → row8 (Use work) e ≡ false
     → m .drive .holding .selected ≡ e .port → row7 work (m .drive) ≡ false → doneBy (Use work) m e ≡ r → Does m e r
 work-does work {m} {e} s real z formed mine timely d =
     accepted-does (Use work) s real z (formed, (rw (eq-eqb (m .drive .holding .selected) (e .port) mine), (timely, tt))) d
 
 -- what leaves the lent words, and a machine with another drive
-abbrev quietly : Machine → Outcome → Result
+abbrev pub quietly : Machine → Outcome → Result
 quietly m o = result o (m .sectors) (m .staging)
 
-abbrev withDrive : Machine → Drive → Machine
+abbrev pub withDrive : Machine → Drive → Machine
 withDrive m d = machine d (m .sectors) (m .staging)
 
 -- ---- Reset, Select, Read status
@@ -111,10 +115,10 @@ there : Machine → ℕ → Place → Drive
 there m port p = withPlace (ready m port) p
 
 -- what the data control and Position ask of the drive
-record Ready (d : Drive) (port : ℕ) : Type 0 where
-  selected : d .holding .selected ≡ port
-  idle : isOneOpen d ≡ false
-  quiet : pendingOn d port .octet1 ≡ 0
+pub record Ready (d : Drive) (port : ℕ) : Type 0 where
+  pub selected : d .holding .selected ≡ port
+  pub idle : isOneOpen d ≡ false
+  pub quiet : pendingOn d port .octet1 ≡ 0
 
 module _ (m : Machine) (port : ℕ) (real : port ≤ 1) (s : IsSound m) where
   reset-does : Does m (sent port 10 0 0) (quietly m (told Done (afterReset (m .drive))))
@@ -155,7 +159,7 @@ module _ {m : Machine} {port : ℕ} (real : port ≤ 1) (s : IsSound m) (r : Rea
   unfolding positioned pick
   position-told p h = rw (r .quiet, h)
 
-  position-does : (p : Place) → isPlace (m .drive .setup) p ≡ true → Does m (positionSent port p) (quietly m (told (Status normal) (withPlace (m .drive) p)))
+  pub position-does : (p : Place) → isPlace (m .drive .setup) p ≡ true → Does m (positionSent port p) (quietly m (told (Status normal) (withPlace (m .drive) p)))
   unfolding kindOf pick
   position-does p h =
       work-does Position s real refl refl (r .selected) (r .idle) (rw (div-add-mod' (p .cylinder) 256) (ap (quietly m) (position-told p h)))
@@ -206,7 +210,7 @@ module _ (d : Drive) (port : ℕ) (sectors : List ℕ) (real : port ≤ 1) (mine
       (complete d sectors (sets staging moved (word ∷ later)))
   unfolding writing complete answers final
   words-follow moved word [] staging h s =
-      follows (word-does moved staging word s (the-last moved staging word (omega arith))) (record { answered = refl; ended = refl })
+      follows (word-does moved staging word s (the-last moved staging word (omega arith))) nothing-follows
   words-follow moved word (next ∷ later) staging h s =
       let now = word-does moved staging word s (one-more moved staging word (omega arith)) in
       follows now (words-follow (suc moved) next later (set staging moved word) (omega arith) (now .sound))
