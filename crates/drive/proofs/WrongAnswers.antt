@@ -1,8 +1,9 @@
--- The wrong answers of `power_up`, `Drive::select`, `Drive::deselect` and `Drive::reset` break their promises, by computation.
+-- The wrong answers of `power_up` and of the methods of `Drive` break their promises, by computation.
 -- Assumes nothing.
 use Prim.Native.Nat.{ℕ}
 use mathlib.Core.Path.{refl, ap}
 use Rattle.laws.proofs.Differ.{told-apart}
+use Rattle.parts.specs.Holding.{paper}
 use Rattle.drive.specs.Power.{refusalIn}
 use Rattle.drive.specs.WrongAnswers.{WrongAnswers}
 use Rattle.drive.specs.declared.drive.Drive.{Drive}
@@ -13,6 +14,10 @@ use Rattle.drive.proofs.Computing.{computing}
 abbrev sectorOf : Powered → ℕ
 sectorOf (Up d) = d .place .sector
 sectorOf (Refused n) = 0
+
+-- the hold on paper
+abbrev holdOf : Drive → ℕ
+holdOf d = paper (d .holding .hold)
 
 pub wrong-answers : WrongAnswers
 unfolding computing
@@ -28,4 +33,10 @@ wrong-answers =
       freesTheHeld = λ h. told-apart 2 0 refl (ap (λ (d : Drive). d .holding .owner) h);
       resetKeepsTheTarget = λ h. told-apart 2 0xFFFF refl (ap (λ (d : Drive). d .target) h);
       resetPostsNothing = λ h. told-apart 0 0x80 refl (ap (λ (d : Drive). d .pending0 .octet1) h);
+      reserveLowers = λ h. told-apart 2 3 refl (ap holdOf h);
+      reserveMakesNone = λ h. told-apart 0 2 refl (ap holdOf h);
+      priorityMakesPlain = λ h. told-apart 2 3 refl (ap holdOf h);
+      priorityDisowns = λ h. told-apart 2 0 refl (ap (λ (d : Drive). d .holding .owner) h);
+      releaseFrees = λ h. told-apart 2 0 refl (ap (λ (d : Drive). d .holding .selected) h);
+      releaseLeavesPlain = λ h. told-apart 2 0 refl (ap holdOf h);
     }

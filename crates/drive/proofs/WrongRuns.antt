@@ -5,7 +5,6 @@ use Prim.Native.Nat.{ℕ, _≤_}
 use mathlib.Core.Path.{_≡_, refl, sym, ap, _∙_}
 use mathlib.Core.Bool.{Bool, true, false, true≢false, false≢true, _&&_}
 use mathlib.Core.List.{List, [], _∷_, _++_, map, append-nil}
-use mathlib.Core.Option.{Option, some, none}
 use native.Mathlib.Omega.{arith}
 use borrow.Author.Tests.{eq-eqb}
 use lib.Dec.{eqb}
@@ -174,4 +173,11 @@ wrong-runs =
       strangerDeselects = λ h. false≢true (sessions-own h nobody);
       refusalMoves = λ h. told-apart 0 1 refl (ap (λ (m : Machine). m .drive .place .sector) (h .sameEnd));
       findsItselfUnsound = λ h. let over : 11 ≤ 8 = h .0 in omega arith;
+      badPositionMoves = λ h. told-apart 0 1 refl (ap (λ (m : Machine). m .drive .place .cylinder) (h .sameEnd));
+      cutShortMoves = λ h. told-apart 1 0 refl (ap (λ (p : Place). p .cylinder) (h .1 .1 .1 .1 .1 .1 .0 (atPlace 1 0 0) refl .follows));
+      commandStaged = λ h. told-apart 0 1 refl (ap (λ (m : Machine). getD (m .staging) 1 0) (h .sameEnd));
+      commandWritten = λ h. told-apart 0 7 refl (h .word 0 (omega arith));
+      commandMovesOn = λ h. told-apart 1 0 refl (ap (λ (p : Place). p .sector) (h .1 .1 .1 .0 (atPlace 0 0 1) refl .follows));
+      statusClearedEarly = λ h. told-apart 0x80 0 refl (ap (λ (m : Machine). m .drive .pending0 .octet1) (h .sameEnd));
+      reserveForgotten = λ h. told-apart 6 0 refl (ap (refusalAt 4) (h .sameAnswers));
     }

@@ -3,14 +3,14 @@ use Prim.Native.Nat.{ℕ}
 use mathlib.Core.Path.{_≡_}
 use mathlib.Core.List.{[]}
 use lib.ListN.{replicate}
-use Rattle.parts.specs.Holding.{held}
+use Rattle.parts.specs.Holding.{nobody, held}
 use Rattle.parts.specs.Pending.{resetComplete, alternatePortPrioritySelect, pendingOf, nothingPending}
 use Rattle.parts.specs.Tests.{transferring}
 use Rattle.parts.specs.declared.holding.Hold.{Hold}
-use Rattle.parts.specs.declared.holding.Hold.the-variants.{None, Plain}
+use Rattle.parts.specs.declared.holding.Hold.the-variants.{None, Plain, Strong}
 use Rattle.parts.specs.declared.pending.Pending.{Pending}
 use Rattle.drive.specs.State.{atPlace, withHolding, withPlace, withTarget, withTransfer, withPending}
-use Rattle.drive.specs.Drive.{selected, deselected, afterReset}
+use Rattle.drive.specs.Drive.{selected, deselected, afterReset, reserved, unreserved, priorityReserved}
 use Rattle.drive.specs.Power.{atRest, setupOf, PoweredUp}
 use Rattle.drive.specs.Cases.{bench}
 use Rattle.drive.specs.declared.drive.Drive.{Drive}
@@ -57,3 +57,18 @@ pub record WrongAnswers : Type 0 where
   pub resetKeepsTheTarget : resetDone (withTarget (atRest bench) 2) ≡ afterReset (withTarget (atRest bench) 2) → ⊥
   -- A reset that leaves nothing pending.
   pub resetPostsNothing : atRest bench ≡ afterReset (atRest bench) → ⊥
+  -- ---- `Drive::reserve`
+  -- A Reserve that lowers a strong hold: it makes "at least" a plain one.
+  pub reserveLowers : selectedBy 0 Plain ≡ reserved (selectedBy 0 Strong) → ⊥
+  -- A Reserve that makes no hold.
+  pub reserveMakesNone : selectedBy 0 None ≡ reserved (selectedBy 0 None) → ⊥
+  -- ---- `Drive::priority_reserve`
+  -- A Priority Reserve that makes a plain hold.
+  pub priorityMakesPlain : selectedBy 0 Plain ≡ priorityReserved (selectedBy 0 None) → ⊥
+  -- A Priority Reserve that takes the owner away.
+  pub priorityDisowns : withHolding (atRest bench) (held 0 nobody Strong) ≡ priorityReserved (selectedBy 0 None) → ⊥
+  -- ---- `Drive::release`
+  -- A Release that frees the drive at once: that is for Deselect.
+  pub releaseFrees : atRest bench ≡ unreserved (selectedBy 0 Plain) → ⊥
+  -- A Release that leaves a plain hold of a strong one.
+  pub releaseLeavesPlain : selectedBy 0 Plain ≡ unreserved (selectedBy 0 Strong) → ⊥

@@ -3,9 +3,10 @@ use Prim.Native.Nat.{ℕ}
 use mathlib.Core.Path.{_≡_}
 use mathlib.Core.List.{List, [], _∷_, _++_, map}
 use lib.ListN.{replicate}
-use Rattle.parts.specs.Pending.{alternatePortPrioritySelect, pendingOf, nothingPending}
+use Rattle.parts.specs.Pending.{alternatePortPrioritySelect, resetComplete, invalidParameter, pendingOf, nothingPending}
 use Rattle.parts.specs.Tests.{transferring, noTransfer}
 use Rattle.parts.specs.declared.holding.Hold.the-variants.{None}
+use Rattle.parts.specs.declared.pending.Pending.{Pending}
 use Rattle.parts.specs.declared.transfer.Transfer.{Transfer}
 use Rattle.parts.specs.declared.event.Event.{Event}
 use Rattle.drive.specs.State.{atPlace, withPlace, withTransfer, withPending}
@@ -20,6 +21,7 @@ use Rattle.drive.specs.StaysSound.{Never11Or10}
 use Rattle.drive.specs.Demand3.{StruckOut, LastWrite, MeetsDemand3}
 use Rattle.drive.specs.Calls.{Calls}
 use Rattle.drive.specs.Cases.{benchWith, p8, p10, p11, p12}
+use Rattle.drive.specs.CommandCases.{positionLoaded, positionBad, wordsKept, cutByEnd}
 use Rattle.drive.specs.NeverDead.{sent, wordSent, wholeSectorWritten}
 use Rattle.drive.specs.WrongAnswers.{selectedBy}
 use Rattle.drive.specs.declared.answer.Answer.{Answer}
@@ -64,9 +66,12 @@ abbrev left : ℕ → ℕ → Transfer → List ℕ → List ℕ → Machine
 left port sector transfer first staging =
     machine (withTransfer (withPlace (selectedBy port None) (atPlace 0 0 sector)) transfer) (first ++ replicate 44 0) staging
 
--- The same, with the notice of a takeover pending on port 0.
+-- The same, with this pending on port 0 and on port 1; and with the notice of a takeover pending on port 0.
+abbrev owing : Machine → Pending → Pending → Machine
+owing m p q = machine (withPending (m .drive) p q) (m .sectors) (m .staging)
+
 abbrev noticed : Machine → Machine
-noticed m = machine (withPending (m .drive) (pendingOf alternatePortPrioritySelect 0) nothingPending) (m .sectors) (m .staging)
+noticed m = owing m (pendingOf alternatePortPrioritySelect 0) nothingPending
 
 abbrev untouched : List ℕ
 untouched = 7 ∷ 0 ∷ 0 ∷ 0 ∷ []
@@ -196,6 +201,64 @@ refusalMoves = record { events = sent 0 1 0x30 0 ∷ sent 1 1 0x30 0 ∷ []; tol
 abbrev pub findsItselfUnsound : WrongRun
 findsItselfUnsound = record { events = sent 0 1 0x30 0 ∷ []; told = Refused 11 ∷ []; end = powerUp }
 
+-- ---- commands and responses
+
+-- The cylinder has moved.
+abbrev onCylinder1 : Transfer → Machine
+onCylinder1 transfer = machine (withTransfer (withPlace (selectedBy 0 None) (atPlace 1 0 0)) transfer) (powerUp .sectors) zeros
+
+-- "A place or target outside the drive: bit 6." The head is outside, and the cylinder moves all the same.
+abbrev pub badPositionMoves : WrongRun
+badPositionMoves =
+    record { events = positionBad .events; told = positionBad .answers; end = owing (onCylinder1 noTransfer) (pendingOf 0 invalidParameter) nothingPending }
+
+-- "a command cut short has no effect beyond its opening": the cylinder has moved, as the next opening tells.
+abbrev pub cutShortMoves : WrongRun
+cutShortMoves =
+    let opening = Opened 2 (atPlace 1 0 0) in
+    record { events = cutByEnd .events ++ (sent 0 3 0xC1 0 ∷ []); told = cutByEnd .answers ++ (opening ∷ []); end = onCylinder1 (transferring 0xC1 0) }
+
+-- "never staged": the words of a command go to staging,
+abbrev pub commandStaged : WrongRun
+commandStaged =
+    record { events = wordsKept .events; told = wordsKept .answers; end = machine (wordsKept .end) (powerUp .sectors) (0 ∷ 1 ∷ 1 ∷ 0 ∷ []) }
+
+-- and at the last one to the sector, like those of a write.
+abbrev pub commandWritten : WrongRun
+commandWritten =
+    record {
+      events = wordsKept .events ++ (wordSent 0 2 ∷ []);
+      told = wordsKept .answers ++ (Status 0 ∷ []);
+      end = machine (positionLoaded .end) ((0 ∷ 1 ∷ 1 ∷ 2 ∷ []) ++ replicate 44 0) zeros;
+    }
+
+-- "a command's end doesn't make the sector the next": after 06, a read opens at sector 1.
+abbrev pub commandMovesOn : WrongRun
+commandMovesOn =
+    record {
+      events = sent 0 1 0x30 0 ∷ sent 0 3 0x06 0 ∷ wordSent 0 0xFFFF ∷ sent 0 3 0xC1 0 ∷ [];
+      told = Done ∷ Opened 1 (atPlace 0 0 0) ∷ Status 0 ∷ Opened 2 (atPlace 0 0 1) ∷ [];
+      end = left 0 1 (transferring 0xC1 0) untouched zeros;
+    }
+
+-- "clears at its last word": 44 clears at its first.
+abbrev pub statusClearedEarly : WrongRun
+statusClearedEarly =
+    record {
+      events = sent 0 10 0 0 ∷ sent 0 1 0x30 0 ∷ sent 0 3 0x44 0 ∷ sent 0 5 0 0 ∷ [];
+      told = Done ∷ Done ∷ Opened 4 (atPlace 0 0 0) ∷ Word 0x4080 ∷ [];
+      end = owing (left 0 0 (transferring 0x44 1) untouched zeros) nothingPending (pendingOf resetComplete 0);
+    }
+
+-- "Reserve by the selected port makes at least a plain hold": Priority Select alone gets the drive after it.
+abbrev pub reserveForgotten : WrongRun
+reserveForgotten =
+    record {
+      events = sent 0 1 0x30 0 ∷ sent 0 3 0x01 0 ∷ wordSent 0 0x1414 ∷ sent 0 2 0 0 ∷ sent 1 1 0x31 0 ∷ [];
+      told = Done ∷ Opened 1 (atPlace 0 0 0) ∷ Status 0 ∷ Done ∷ Done ∷ [];
+      end = left 1 0 noTransfer untouched zeros;
+    }
+
 pub record WrongRuns : Type 0 where
   -- These are the parts of demand 3: what one of them refuses, no drive that meets it does.
   pub parts : {start end : Machine} {events : List Event} {told : List Answer} → MeetsDemand3 start events told end
@@ -227,3 +290,10 @@ pub record WrongRuns : Type 0 where
   pub strangerDeselects : Never WholeSessions strangerDeselects
   pub refusalMoves : Never StruckOut refusalMoves
   pub findsItselfUnsound : Never NeverUnsound findsItselfUnsound
+  pub badPositionMoves : Never StruckOut badPositionMoves
+  pub cutShortMoves : Never Openings cutShortMoves
+  pub commandStaged : Never StruckOut commandStaged
+  pub commandWritten : Never LastWrite commandWritten
+  pub commandMovesOn : Never Openings commandMovesOn
+  pub statusClearedEarly : Never StruckOut statusClearedEarly
+  pub reserveForgotten : Never StruckOut reserveForgotten
