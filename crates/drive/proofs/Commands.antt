@@ -34,6 +34,7 @@ use Rattle.drive.specs.Sessions.{Is}
 use Rattle.drive.specs.CutShort.{Cuts, byEnd, byTakeover, byReset}
 use Rattle.drive.specs.Commands.{holdAfter, holdLeft, HoldsByCommand, KeptOut, CommandsKeepOut, cutAlone, CommandCutShort}
 use Rattle.drive.specs.declared.drive.Drive.{Drive}
+use Rattle.drive.specs.declared.answer.Answer.{Answer}
 use Rattle.drive.specs.declared.answer.Outcome.{Outcome}
 use Rattle.drive.proofs.Own.{able-to-write}
 use Rattle.drive.proofs.Laws.{by-kind, accepted-by, doneBy, left, AllPassed}
@@ -70,6 +71,10 @@ unfolding wordsToCome parameterWords pick
 function-word d f = rw (eqb-true (d .transfer .control) loadDriveFunction f)
 
 module _ (d : Drive) (e : Event) (sectors staging : List ℕ) (p : Passable d sectors staging) where
+  -- a function that changes no hold, or none at all
+  still : d .holding ≡ withHold (d .holding) (pick (loads d) (d .holding .hold) (d .holding .hold))
+  still = either (λ (hold : Hold). d .holding ≡ withHold (d .holding) hold) _ refl refl
+
   exchange-leaves : {work : Work} {o : Outcome} → row7 work d ≡ false → Outcomes.Exchanged d e work o → Leaves d e work (o .drive)
   unfolding pick postedOn closed statusCleared
   exchange-leaves t (Outcomes.kept z) =
@@ -82,10 +87,8 @@ module _ (d : Drive) (e : Event) (sectors staging : List ℕ) (p : Passable d se
       }
   exchange-leaves t (Outcomes.obeys (Outcomes.byFunction z q f)) = record { holding = rw (z, q) (function-leaves f .0); sector = function-leaves f .1 }
   exchange-leaves t (Outcomes.obeys (Outcomes.bySeek z i j)) = record { holding = rw z; sector = sought-sector (d .transfer) (d .place) (wordOf e) }
-  exchange-leaves t (Outcomes.disobeys (Outcomes.actsOnMore q)) =
-      record { holding = rw q (either (λ (hold : Hold). d .holding ≡ withHold (d .holding) hold) (loads d) refl refl); sector = refl }
-  exchange-leaves t (Outcomes.disobeys (Outcomes.notListed q)) =
-      record { holding = rw q (either (λ (hold : Hold). d .holding ≡ withHold (d .holding) hold) (loads d) refl refl); sector = refl }
+  exchange-leaves t (Outcomes.disobeys (Outcomes.actsOnMore q)) = record { holding = rw q still; sector = refl }
+  exchange-leaves t (Outcomes.disobeys (Outcomes.notListed q)) = record { holding = rw q still; sector = refl }
   exchange-leaves t (Outcomes.disobeys (Outcomes.outside z)) = record { holding = rw z; sector = refl }
   exchange-leaves t (Outcomes.tells z) = record { holding = refl; sector = refl }
   exchange-leaves t (Outcomes.tellsLast z) =
@@ -195,6 +198,10 @@ record Inside (d : Drive) (c k : ℕ) (m : Machine) : Type 0 where
   kept : Parameters
   drive : m .drive ≡ withTransfer d (transferringWith c k kept)
 
+-- the drive is left as the cut alone leaves it
+abbrev Alone : Event → Drive → Answer → Machine → Type 0
+Alone cut d answer next = next .drive ≡ cutAlone (kindOf (cut .kind)) cut d
+
 module _ (d : Drive) (c n : ℕ) (low : isData c ≡ false) (words : wordsToCome (d .setup) c ≡ n) where
   one-kept : (k : ℕ) (p : Parameters) (port word : ℕ) (sectors staging : List ℕ) → suc k < n
       → (wordFromHost (withTransfer d (transferringWith c k p)) port word sectors staging) .outcome .drive
@@ -217,15 +224,15 @@ module _ (d : Drive) (c n : ℕ) (low : isData c ≡ false) (words : wordsToCome
       cases (λ (at : Drive). withTransfer (withHolding at (grantedTo port octet)) noTransfer ≡ selected d port octet) (isOwnedByOther (d .holding) port)
       (λ z. rw z) (λ z. rw z)
 
-  cut-alone : (cut : Event) (k : ℕ) (m : Machine) → Inside d c k m → Cuts m cut → (after m cut) .drive ≡ cutAlone (kindOf (cut .kind)) cut d
+  cut-alone : (cut : Event) (k : ℕ) (m : Machine) → Inside d c k m → Cuts m cut → Alone cut d (answerTo m cut) (after m cut)
   unfolding endedEarly closed afterReset pick
   cut-alone cut k m i (byEnd z a) =
-      accepted-by (λ answer next. next .drive ≡ cutAlone (kindOf (cut .kind)) cut d) (Use End) m cut z a (λ p. rw (z, i .drive, low))
+      accepted-by (Alone cut d) (Use End) m cut z a (λ p. rw (z, i .drive, low))
   cut-alone cut k m i (byTakeover z a) =
-      accepted-by (λ answer next. next .drive ≡ cutAlone (kindOf (cut .kind)) cut d) Select m cut z a
+      accepted-by (Alone cut d) Select m cut z a
       (λ p. rw (z, i .drive) (selected-anew (transferringWith c k (i .kept)) (cut .port) (cut .a0)))
   cut-alone cut k m i (byReset z a) =
-      accepted-by (λ answer next. next .drive ≡ cutAlone (kindOf (cut .kind)) cut d) Reset m cut z a (λ p. rw (z, i .drive))
+      accepted-by (Alone cut d) Reset m cut z a (λ p. rw (z, i .drive))
 
 -- a code opens where the drive stands
 in-place : {d at : Drive} {c : ℕ} → isData c ≡ false → (takesWords (controlOf c) || givesWords (controlOf c)) ≡ true → Outcomes.Sought d c at → at ≡ d
@@ -237,6 +244,6 @@ command-cut-short m opening cut n k place words low o w h =
     let first = opened m opening o .0 in
     let here = in-place low (first .opens) (first .sought) in
     let come : wordsToCome (m .drive .setup) (opening .a0) ≡ n = subst (λ (d : Drive). wordsToCome (d .setup) (opening .a0) ≡ n) here (first .words) in
-    words-sent (Inside (m .drive) (opening .a0)) (λ short. Cuts short cut → (after short cut) .drive ≡ cutAlone (kindOf (cut .kind)) cut (m .drive)) n
+    words-sent (Inside (m .drive) (opening .a0)) (λ short. Cuts short cut → Alone cut (m .drive) (answerTo short cut) (after short cut)) n
     (cut-alone (m .drive) (opening .a0) n low come cut) (one-word (m .drive) (opening .a0) n low come) 0 (after m opening)
     (record { kept = noParameters; drive = first .drive ∙ ap (λ (d : Drive). withTransfer d (transferring (opening .a0) 0)) here }) w (omega arith)
