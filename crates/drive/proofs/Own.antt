@@ -57,7 +57,7 @@ opens-none = refl
 is-open : (t : Transfer) → (isTaking t || isGiving t) ≡ true → isOpen t ≡ true
 is-open t h = rw (ne-eqb (t .control) 0 (λ z. true≢false (sym h ∙ rw z opens-none)))
 
-word-to-come : (s : Setup) (h : Holding) (t : Transfer) → isBrokenTransfer s h t ≡ false → (isTaking t || isGiving t) ≡ true → t .moved < wordsToCome s (t .control)
+pub word-to-come : (s : Setup) (h : Holding) (t : Transfer) → isBrokenTransfer s h t ≡ false → (isTaking t || isGiving t) ≡ true → t .moved < wordsToCome s (t .control)
 unfolding isBrokenTransfer
 word-to-come s h t b o =
     let rest : (eqb (h .selected) nobody || not (isTaking t || isGiving t) || leb (wordsToCome s (t .control)) (t .moved)) ≡ false = rw (is-open t o) at b in

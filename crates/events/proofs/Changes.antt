@@ -11,10 +11,11 @@ use lib.ListN.{length, getD, set}
 use Rattle.laws.specs.Pick.{pick}
 use Rattle.parts.specs.Setup.{following}
 use Rattle.parts.specs.Tests.{transferring, movedOn}
+use Rattle.parts.specs.Pending.{nothingPending}
 use Rattle.parts.specs.declared.pending.Pending.{Pending}
 use Rattle.parts.specs.declared.setup.Place.{Place}
 use Rattle.drive.specs.State.{atPlace, withPlace, withTarget, withTransfer, pendingOn, postedOn}
-use Rattle.drive.specs.Drive.{ended, atItsTarget, headStepped}
+use Rattle.drive.specs.Drive.{ended, closed, atItsTarget, headStepped}
 use Rattle.drive.specs.Command.{keptAs, withParameter}
 use Rattle.events.specs.Open.{transferOn}
 use Rattle.events.specs.State.{holdWord, holdOf, holdIsKnown, pendingWord, pendingIn, selectedIn, driveIn, movingWords, movedTo}
@@ -160,6 +161,17 @@ unfolding movedTo movingWords driveIn selectedIn pick postedOn
 posted-1 p =
     by-words (λ (s : List ℕ). holdIsKnown s ≡ true → set s 17 (pendingWord p) ≡ movedTo s (postedOn (driveIn s) 1 p))
     (λ w0 w1 w2 w3 w4 w5 w6 w7 w8 w9 w10 w11 w12 w13 w14 w15 w16 w17 w18 w19 w20 rest k. rw (k, hold-kept w9 k, pending-kept w16))
+
+pub status-ended : (port : ℕ) (state : List ℕ) → port ≤ 1 → 21 ≤ length state → holdIsKnown state ≡ true
+    → transferOn (set state (16 + port) 0) 0 ≡ movedTo state (postedOn (closed (driveIn state)) port nothingPending)
+unfolding transferOn movedTo movingWords driveIn selectedIn pick postedOn closed pendingWord
+status-ended zero state h =
+    by-words (λ (s : List ℕ). holdIsKnown s ≡ true → transferOn (set s 16 0) 0 ≡ movedTo s (postedOn (closed (driveIn s)) 0 nothingPending))
+    (λ w0 w1 w2 w3 w4 w5 w6 w7 w8 w9 w10 w11 w12 w13 w14 w15 w16 w17 w18 w19 w20 rest k. rw (k, hold-kept w9 k, pending-kept w17)) state
+status-ended (suc zero) state h =
+    by-words (λ (s : List ℕ). holdIsKnown s ≡ true → transferOn (set s 17 0) 0 ≡ movedTo s (postedOn (closed (driveIn s)) 1 nothingPending))
+    (λ w0 w1 w2 w3 w4 w5 w6 w7 w8 w9 w10 w11 w12 w13 w14 w15 w16 w17 w18 w19 w20 rest k. rw (k, hold-kept w9 k, pending-kept w16)) state
+status-ended (suc (suc port)) state h = absurd (omega arith)
 
 pub posted : (port : ℕ) (p : Pending) (state : List ℕ) → port ≤ 1 → 21 ≤ length state → holdIsKnown state ≡ true
     → set state (16 + port) (pendingWord p) ≡ movedTo state (postedOn (driveIn state) port p)

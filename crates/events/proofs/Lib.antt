@@ -10,6 +10,7 @@ pub mod Unsoundness
 pub mod Transfers
 pub mod Committing
 pub mod Asking
+pub mod Exchanges
 pub mod Timely
 pub mod Octets
 pub mod Back

@@ -5,12 +5,15 @@ use mathlib.Core.Path.{_≡_, refl, sym, _∙_}
 use mathlib.Core.Bool.{Bool, true, false, not, _&&_, _||_, and-false, or-true, or-false, or-assoc, true≢false}
 use mathlib.Core.List.{List}
 use native.Mathlib.Omega.{arith}
-use borrow.Author.Tests.{lt-ltb, le-ltb, ltb-true, ltb-false, eqb-true, eqb-false, ne-eqb}
+use borrow.Author.Tests.{lt-ltb, le-ltb, ltb-true, ltb-false, le-leb, eqb-true, eqb-false, ne-eqb}
 use lib.Dec.{ltb, leb, eqb}
 use lib.ListN.{getD}
 use Rattle.laws.specs.Pick.{pick}
-use Rattle.parts.specs.Command.{codeOf}
-use Rattle.parts.specs.Control.{controlOf, takesWords, givesWords, wordsToCome}
+use Rattle.laws.proofs.Tests.{and-l}
+use Rattle.parts.specs.Command.{codeOf, parameterWords}
+use Rattle.parts.specs.Control.{controlOf, isWrite, isRead, takesWords, givesWords, isData, dataWords, wordsToCome}
+use Rattle.parts.proofs.ByBits.{writes-take, reads-give, write-is-data, read-is-data, codes-open}
+use Rattle.parts.proofs.Bounds.{data-words, code-words}
 use Rattle.parts.specs.Holding.{nobody, holds, held}
 use Rattle.parts.specs.Setup.{withinLimits, isPlace, isTarget}
 use Rattle.parts.specs.Tests.{transferringWith, isOpen, isOutsideLimits, isDisowned, isBrokenTransfer, hasStrayBit}
@@ -46,6 +49,32 @@ broken-by : (s : Setup) (h : Holding) (control moved : ℕ) (p : Parameters)
 unfolding isBrokenTransfer isMisopened
 broken-by s h control moved p =
     opening (eqb control 0) (eqb moved 0) (takesWords (controlOf control) || givesWords (controlOf control)) (leb (wordsToCome s control) moved) (eqb (h .selected) nobody) (none-opens control)
+
+-- what is amiss of a control that is not 0: of a data transfer, of a code below 80
+abbrev pub controlAmiss : Setup → ℕ → ℕ → Bool
+controlAmiss s control moved = not (takesWords (controlOf control) || givesWords (controlOf control)) || leb (wordsToCome s control) moved
+
+pub write-amiss : (s : Setup) (c moved : ℕ) → isWrite (controlOf c) ≡ true → controlAmiss s c moved ≡ leb (dataWords s c) moved
+write-amiss s c moved w = rw (and-l (takesWords (controlOf c)) (isData c) (sym (writes-take c) ∙ w), data-words s c (write-is-data c w))
+
+pub read-amiss : (s : Setup) (c moved : ℕ) → isRead (controlOf c) ≡ true → controlAmiss s c moved ≡ leb (dataWords s c) moved
+read-amiss s c moved r =
+    rw (and-l (givesWords (controlOf c)) (isData c) (sym (reads-give c) ∙ r), or-true (takesWords (controlOf c)), data-words s c (read-is-data c r))
+
+not-both : (a b : Bool) → b ≡ true → (a && b) ≡ false → a ≡ false
+not-both false b h e = refl
+not-both true b h e = absurd (true≢false (sym h ∙ e))
+
+pub data-amiss : (s : Setup) (c moved : ℕ) → isData c ≡ true → isWrite (controlOf c) ≡ false → isRead (controlOf c) ≡ false → controlAmiss s c moved ≡ true
+data-amiss s c moved high w r =
+    rw (not-both (takesWords (controlOf c)) (isData c) high (sym (writes-take c) ∙ w), not-both (givesWords (controlOf c)) (isData c) high (sym (reads-give c) ∙ r))
+
+pub code-amiss : (s : Setup) (c moved : ℕ) → isData c ≡ false → controlAmiss s c moved ≡ leb (parameterWords c) moved
+code-amiss s c moved low = rw (codes-open c low, code-words s c low) (by-words (eqb (parameterWords c) 0) refl)
+  where
+    by-words : (none : Bool) → eqb (parameterWords c) 0 ≡ none → (not (not none) || leb (parameterWords c) moved) ≡ leb (parameterWords c) moved
+    by-words true e = sym (le-leb (parameterWords c) moved (omega (arith, eqb-true (parameterWords c) 0 e)))
+    by-words false e = refl
 
 -- with no control, words moved are amiss
 open-tests : (none still rest : Bool) → pick none (not still) rest ≡ false → not (none && still) ≡ not none

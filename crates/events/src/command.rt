@@ -37,7 +37,7 @@ pub(crate) fn send(state: &mut [u16], port: u8, word: u16) -> Answer
         place::close(state);
         return obey(state, port, t, word);
     }
-    let at = layout::PARAMETERS + moved as usize;
+    let at = layout::PARAMETER_0 + moved as usize;
     state[at] = word;
     state[layout::MOVED] = moved + 1;
     Answer::Done

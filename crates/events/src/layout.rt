@@ -36,5 +36,9 @@ pub(crate) const PENDING_0: usize = 16;
 
 pub(crate) const PENDING_1: usize = 17;
 
-// The words of a command before its last: three.
-pub(crate) const PARAMETERS: usize = 18;
+// The words of a command before its last.
+pub(crate) const PARAMETER_0: usize = 18;
+
+pub(crate) const PARAMETER_1: usize = 19;
+
+pub(crate) const PARAMETER_2: usize = 20;

@@ -35,9 +35,9 @@ pub(crate) fn put_transfer(state: &mut [u16], control: u16)
 {
     state[layout::CONTROL] = control;
     state[layout::MOVED] = 0;
-    state[layout::PARAMETERS] = 0;
-    state[layout::PARAMETERS + 1] = 0;
-    state[layout::PARAMETERS + 2] = 0;
+    state[layout::PARAMETER_0] = 0;
+    state[layout::PARAMETER_1] = 0;
+    state[layout::PARAMETER_2] = 0;
 }
 
 pub(crate) fn put_place(state: &mut [u16], place: Place)

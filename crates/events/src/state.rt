@@ -78,9 +78,9 @@ pub(crate) fn transfer_in(state: &[u16]) -> Transfer
     ensures { λ r. ⌜ r ≡ driveIn (now (state .entry)) .transfer ⌝ }
 {
     let parameters = Parameters {
-        word0: state[layout::PARAMETERS],
-        word1: state[layout::PARAMETERS + 1],
-        word2: state[layout::PARAMETERS + 2],
+        word0: state[layout::PARAMETER_0],
+        word1: state[layout::PARAMETER_1],
+        word2: state[layout::PARAMETER_2],
     };
     Transfer {
         control: state[layout::CONTROL],
@@ -115,9 +115,9 @@ pub(crate) fn put_moved(drive: Drive, state: &mut [u16])
     state[layout::MOVED] = t.moved;
     state[layout::PENDING_0] = octets0;
     state[layout::PENDING_1] = octets1;
-    state[layout::PARAMETERS] = kept.word0;
-    state[layout::PARAMETERS + 1] = kept.word1;
-    state[layout::PARAMETERS + 2] = kept.word2;
+    state[layout::PARAMETER_0] = kept.word0;
+    state[layout::PARAMETER_1] = kept.word1;
+    state[layout::PARAMETER_2] = kept.word2;
 }
 
 // All 21 words.

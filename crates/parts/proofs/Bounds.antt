@@ -80,7 +80,7 @@ words-within s c h = rw h (data-words-within s c)
 few : (test : Bool) (n : ℕ) {m : ℕ} → n ≤ 5 → m ≤ 5 → pick test n m ≤ 5
 few test n h k = either (λ (j : ℕ). j ≤ 5) test h k
 
-parameters-few : (c : ℕ) → parameterWords c ≤ 5
+pub parameters-few : (c : ℕ) → parameterWords c ≤ 5
 unfolding parameterWords
 parameters-few c =
     few (eqb c loadDriveFunction) 1 (omega arith)
@@ -92,9 +92,12 @@ parameters-few c =
     (few (eqb c readCurrentSectorAddress) 1 (omega arith)
     (few (eqb c readCurrentPosition) 5 (omega arith) (omega arith))))))))
 
-pub code-words-few : (s : Setup) (c : ℕ) → isData c ≡ false → wordsToCome s c ≤ 5
+pub code-words : (s : Setup) (c : ℕ) → isData c ≡ false → wordsToCome s c ≡ parameterWords c
 unfolding wordsToCome pick
-code-words-few s c h = rw h (parameters-few c)
+code-words s c h = rw h
+
+pub code-words-few : (s : Setup) (c : ℕ) → isData c ≡ false → wordsToCome s c ≤ 5
+code-words-few s c h = rw (code-words s c h) (parameters-few c)
 
 -- a write takes the header's words and those of the fields that it names
 pub write-words : (s : Setup) (c : ℕ) → isWrite (controlOf c) ≡ true → wordsToCome s c ≡ s .header + part (namesField1 c) (s .field1) + part (namesField2 c) (s .field2)

@@ -1,46 +1,55 @@
+-- `end_response` meets its contract.
+-- Assumes nothing.
+use mathlib.Core.Path.{refl, _∙_}
+use borrow.Author.Tests.{eq-eqb, ne-eqb}
+use lib.ListN.{length-set}
+use Rattle.laws.specs.Pick.{pick}
+use Rattle.drive.specs.Command.{statusCleared}
+use Rattle.events.specs.Open.{transferOn}
+use Rattle.events.proofs.Changes.{status-ended}
+use Rattle.events.proofs.Done.{known}
 use borrow.Author.Needs.{needs}
 use Rattle.events.proofs.command.end_response.Statement.{statement}
 use Rattle.events.proofs.command.end_response.Tie as tie
-use Rattle.events.proofs.command.end_response.Reads as reads
-use Rattle.events.proofs.command.end_response.Lts as lts
-use Rattle.events.proofs.place.close.Reads as close-reads
-use Rattle.events.proofs.place.put_transfer.Reads as put-transfer-reads
 
--- src/command.rt:147:18
 add-at : tie.Need-add-at
 add-at c = search needs
 
--- src/command.rt:148:9
 mul-state : tie.Need-mul-state
 mul-state c = search needs
 
--- src/command.rt:148:9
 slice-write-state : tie.Need-slice-write-state
 slice-write-state c = search needs
 
--- src/command.rt:149:9
 put-transfer-requires : tie.Need-put-transfer-requires
 put-transfer-requires c κs = search needs
 
--- src/command.rt:150:9
 same-length : tie.Need-same-length
-same-length c = ?
+unfolding transferOn
+same-length c =
+    let put : tie.After-put-transfer = search in
+    rw (put .put-transfer .ensures) (simp length-set refl)
 
--- src/command.rt:150:9
 returns : tie.Need-returns
-returns c = ?
+unfolding statusCleared pick
+returns c =
+    let put : tie.After-put-transfer = search in
+    let status : tie.Then1 = search in
+    let start : tie.Start = search in
+    put .put-transfer .ensures ∙ rw (eq-eqb _ _ (status .if1 .taken)) (status-ended _ _ (start .pre .1) (start .pre .0 .long) (known (start .pre .0)))
 
--- src/command.rt:152:5
 close-requires : tie.Need-close-requires
 close-requires c κs = search needs
 
--- src/command.rt:142:1
 same-length-2 : tie.Need-same-length-2
 same-length-2 c = search needs
 
--- src/command.rt:142:1
 returns-2 : tie.Need-returns-2
-returns-2 c = ?
+unfolding statusCleared pick
+returns-2 c =
+    let close′ : tie.After-close = search in
+    let other : tie.Else1 = search in
+    rw (ne-eqb _ _ (other .if1 .left)) (close′ .close .ensures)
 
 pub end-response-spec : {M : Type 1} → statement M
 end-response-spec =

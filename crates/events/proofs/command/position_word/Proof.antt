@@ -1,44 +1,58 @@
+-- `position_word` meets its contract.
+-- Assumes nothing.
+use Rattle.drive.specs.Command.{positionTold}
+use lib.ListN.{getD}
+use Prim.Native.Nat.{ℕ}
+use mathlib.Core.Path.{_≡_}
+use native.Mathlib.Omega.{arith}
+use Rattle.events.specs.State.{driveIn}
 use borrow.Author.Needs.{needs}
 use Rattle.events.proofs.command.position_word.Statement.{statement}
 use Rattle.events.proofs.command.position_word.Tie as tie
-use Rattle.events.proofs.command.position_word.Reads as reads
-use Rattle.events.proofs.command.position_word.Lts as lts
 
--- src/command.rt:185:14
 shared-slice-read-result : tie.Need-shared-slice-read-result
 shared-slice-read-result c = search needs
 
--- src/command.rt:186:14
 shared-slice-read-result-2 : tie.Need-shared-slice-read-result-2
 shared-slice-read-result-2 c = search needs
 
--- src/command.rt:187:14
 shared-slice-read-result-3 : tie.Need-shared-slice-read-result-3
 shared-slice-read-result-3 c = search needs
 
--- src/command.rt:188:14
 shared-slice-read-result-4 : tie.Need-shared-slice-read-result-4
 shared-slice-read-result-4 c = search needs
 
--- src/command.rt:179:1
 returns : tie.Need-returns
-returns c = search needs
+returns c =
+    let at : tie.At-match-keys1 = search in
+    rw (at .match .keys1)
 
--- src/command.rt:179:1
 returns-2 : tie.Need-returns-2
-returns-2 c = ?
+unfolding driveIn
+returns-2 c =
+    let at : tie.At-match-keys2 = search in
+    rw (at .match .keys2)
 
--- src/command.rt:179:1
 returns-3 : tie.Need-returns-3
-returns-3 c = ?
+unfolding driveIn
+returns-3 c =
+    let at : tie.At-match-keys3 = search in
+    rw (at .match .keys3)
 
--- src/command.rt:179:1
 returns-4 : tie.Need-returns-4
-returns-4 c = ?
+unfolding driveIn
+returns-4 c =
+    let at : tie.At-match-keys4 = search in
+    rw (at .match .keys4)
 
--- src/command.rt:179:1
 returns-5 : tie.Need-returns-5
-returns-5 c = ?
+unfolding driveIn
+returns-5 c =
+    let at : tie.At-match-rest = search in
+    let start : tie.Start = search in
+    let none = at .match .rest in
+    let four : start .args .moved ≡ 4 = omega (arith, none .0 .0 .0 .1, none .0 .0 .1, none .0 .1, none .1, start .pre .1) in
+    rw four
 
 pub position-word-spec : {M : Type 1} → statement M
 position-word-spec =

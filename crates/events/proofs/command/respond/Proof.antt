@@ -1,59 +1,77 @@
+-- `respond` meets its contract.
+-- Assumes nothing.
+use mathlib.Core.Path.{refl, sym, ap, _∙_}
+use native.Mathlib.Omega.{arith}
+use borrow.Author.Tests.{eq-eqb, ne-eqb}
+use Rattle.parts.proofs.Bounds.{code-words, parameters-few}
+use Rattle.drive.specs.Command.{responseTaken}
+use Rattle.drive.specs.declared.answer.Answer.the-variants.{Word, LastWord}
+use Rattle.events.specs.State.{driveIn}
+use Rattle.events.proofs.Changes.{word-moved}
+use Rattle.events.proofs.Done.{did-first, did-second, known}
+use Rattle.events.proofs.Exchanges.{told-within}
 use borrow.Author.Needs.{needs}
 use Rattle.events.proofs.command.respond.Statement.{statement}
 use Rattle.events.proofs.command.respond.Tie as tie
-use Rattle.events.proofs.command.respond.Reads as reads
-use Rattle.events.proofs.command.respond.Lts as lts
-use Rattle.events.proofs.command.end_response.Reads as end-response-reads
-use Rattle.events.proofs.command.word_told.Reads as word-told-reads
-use Rattle.parts.proofs.parameter_words.Reads as parameter-words-reads
 
--- src/command.rt:130:19
 slice-read-control : tie.Need-slice-read-control
 slice-read-control c = search needs
 
--- src/command.rt:131:17
 slice-read-moved : tie.Need-slice-read-moved
 slice-read-moved c = search needs
 
--- src/command.rt:132:9
 word-told-requires : tie.Need-word-told-requires
-word-told-requires c κs = ?
+unfolding driveIn
+word-told-requires c κs =
+    let start : tie.Start = search in
+    (start .pre .0, start .pre .1, told-within (start .pre .0) (start .pre .2) (start .pre .3))
 
--- src/command.rt:133:8
 add-if1 : tie.Need-add-if1
-add-if1 c = ?
+unfolding driveIn
+add-if1 c =
+    let start : tie.Start = search in
+    omega (arith, told-within (start .pre .0) (start .pre .2) (start .pre .3), parameters-few (driveIn (start .args .state .now) .transfer .control))
 
--- src/command.rt:133:21
 parameter-words-requires : tie.Need-parameter-words-requires
 parameter-words-requires c κs = search needs
 
--- src/command.rt:134:9
 end-response-requires : tie.Need-end-response-requires
 end-response-requires c κs = search needs
 
--- src/command.rt:135:9
 same-length : tie.Need-same-length
 same-length c = search needs
 
--- src/command.rt:135:9
 returns : tie.Need-returns
-returns c = ?
+unfolding responseTaken driveIn
+returns c =
+    let ended : tie.After-end-response = search in
+    let last : tie.Then1 = search in
+    let asked : tie.After-parameter-words = search in
+    let word : tie.After-word-told = search in
+    let start : tie.Start = search in
+    did-first _ _ _ _ (sym (eq-eqb _ _ (last .if1 .taken ∙ asked .parameter-words .ensures ∙ sym (code-words _ _ (start .pre .2))))) refl
+    (record { answer = ap LastWord (word .word-told .ensures); state = ended .end-response .ensures })
 
--- src/command.rt:137:28
 add-state : tie.Need-add-state
-add-state c = ?
+unfolding driveIn
+add-state c =
+    let start : tie.Start = search in
+    omega (arith, told-within (start .pre .0) (start .pre .2) (start .pre .3), parameters-few (driveIn (start .args .state .now) .transfer .control))
 
--- src/command.rt:137:5
 slice-write-state : tie.Need-slice-write-state
 slice-write-state c = search needs
 
--- src/command.rt:126:1
 same-length-2 : tie.Need-same-length-2
 same-length-2 c = search needs
 
--- src/command.rt:126:1
 returns-2 : tie.Need-returns-2
-returns-2 c = ?
+unfolding responseTaken driveIn
+returns-2 c =
+    let asked : tie.After-parameter-words = search in
+    let word : tie.After-word-told = search in
+    let start : tie.Start = search in
+    did-second _ _ _ _ (sym (ne-eqb _ _ (λ e. c .if1 .left (e ∙ code-words _ _ (start .pre .2) ∙ sym (asked .parameter-words .ensures))))) refl
+    (record { answer = ap Word (word .word-told .ensures); state = word-moved _ _ (start .pre .0 .long) (known (start .pre .0)) })
 
 pub respond-spec : {M : Type 1} → statement M
 respond-spec =

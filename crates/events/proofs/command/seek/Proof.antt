@@ -1,53 +1,64 @@
+-- `seek` meets its contract.
+-- Assumes nothing.
+use mathlib.Core.Path.{sym, _∙_}
+use Rattle.parts.proofs.Bounds.{limits}
+use Rattle.drive.proofs.Sound.{sound}
+use Rattle.drive.specs.Command.{seeking}
+use Rattle.events.specs.State.{driveIn}
+use Rattle.events.proofs.Done.{did-second}
+use Rattle.events.proofs.Exchanges.{sought-by, did-seek}
 use borrow.Author.Needs.{needs}
 use Rattle.events.proofs.command.seek.Statement.{statement}
 use Rattle.events.proofs.command.seek.Tie as tie
-use Rattle.events.proofs.command.seek.Reads as reads
-use Rattle.events.proofs.command.seek.Lts as lts
-use Rattle.events.proofs.command.put_aim.Reads as put-aim-reads
-use Rattle.events.proofs.pending.fault.Reads as fault-reads
-use Rattle.events.proofs.state.setup_in.Reads as setup-in-reads
-use Rattle.parts.proofs.setup.Setup.is_place.Reads as is-place-reads
-use Rattle.parts.proofs.setup.Setup.is_target.Reads as is-target-reads
 
--- src/command.rt:69:9
 setup-in-requires : tie.Need-setup-in-requires
 setup-in-requires c κs = search needs
 
--- src/command.rt:73:17
 slice-read-t12 : tie.Need-slice-read-t12
 slice-read-t12 c = search needs
 
--- src/command.rt:75:22
 is-place-requires : tie.Need-is-place-requires
 is-place-requires c κs = search needs
 
--- src/command.rt:75:46
 is-target-requires : tie.Need-is-target-requires
 is-target-requires c κs = search needs
 
--- src/command.rt:76:9
 put-aim-requires : tie.Need-put-aim-requires
 put-aim-requires c κs = search needs
 
--- src/command.rt:77:9
 same-length : tie.Need-same-length
 same-length c = search needs
 
--- src/command.rt:77:9
 returns : tie.Need-returns
-returns c = ?
+unfolding driveIn
+returns c =
+    let put : tie.After-put-aim = search in
+    let inside : tie.Then1 = search in
+    let target : tie.After-is-target = search in
+    let place : tie.After-is-place = search in
+    let setup : tie.After-setup-in = search in
+    let start : tie.Start = search in
+    did-seek _ _ (start .args .high) (start .args .low) _ _ (start .pre .0) (rw (target .is-target .ensures, place .is-place .ensures, setup .setup-in .ensures)) (inside .if1 .taken) (put .put-aim .ensures)
 
--- src/command.rt:79:5
 fault-requires : tie.Need-fault-requires
-fault-requires c κs = search needs
+fault-requires c κs =
+    let start : tie.Start = search in
+    (start .pre .0, start .pre .1)
 
--- src/command.rt:65:1
 same-length-2 : tie.Need-same-length-2
 same-length-2 c = search needs
 
--- src/command.rt:65:1
 returns-2 : tie.Need-returns-2
-returns-2 c = ?
+unfolding seeking driveIn
+returns-2 c =
+    let bad : tie.After-fault = search in
+    let outside : tie.Else1 = search in
+    let target : tie.After-is-target = search in
+    let place : tie.After-is-place = search in
+    let setup : tie.After-setup-in = search in
+    let start : tie.Start = search in
+    did-second _ _ _ _ (rw (target .is-target .ensures, place .is-place .ensures, setup .setup-in .ensures) (sought-by _ (start .args .high) (start .args .low) _ _ _ (limits _ (sound _ (start .pre .0 .sound) .limits)))) (outside .if1 .left)
+    (bad .fault .ensures)
 
 pub seek-spec : {M : Type 1} → statement M
 seek-spec =

@@ -1,72 +1,103 @@
+-- `send` meets its contract.
+-- Assumes nothing.
+use Prim.Native.Nat.{ℕ, _+_}
+use mathlib.Core.Path.{_≡_, refl, sym, _∙_}
+use native.Mathlib.Omega.{arith}
+use borrow.Author.Tests.{eq-eqb, ne-eqb}
+use lib.ListN.{length-set}
+use Rattle.parts.specs.Command.{parameterWords}
+use Rattle.parts.proofs.Bounds.{code-words, parameters-few}
+use Rattle.drive.specs.Command.{obeyed, parameterSent}
+use Rattle.drive.specs.declared.drive.Drive.{Drive}
+use Rattle.events.specs.State.{driveIn}
+use Rattle.events.proofs.Asking.{closed-fit, did-closed}
+use Rattle.events.proofs.Changes.{parameter-kept}
+use Rattle.events.proofs.Done.{did-first, did-second, known}
+use Rattle.events.proofs.Exchanges.{moved-within, kept-few, moved-word}
 use borrow.Author.Needs.{needs}
 use Rattle.events.proofs.command.send.Statement.{statement}
 use Rattle.events.proofs.command.send.Tie as tie
-use Rattle.events.proofs.command.send.Reads as reads
-use Rattle.events.proofs.command.send.Lts as lts
-use Rattle.events.proofs.command.obey.Reads as obey-reads
-use Rattle.events.proofs.place.close.Reads as close-reads
-use Rattle.events.proofs.state.transfer_in.Reads as transfer-in-reads
-use Rattle.parts.proofs.parameter_words.Reads as parameter-words-reads
 
--- src/command.rt:34:9
 transfer-in-requires : tie.Need-transfer-in-requires
 transfer-in-requires c κs = search needs
 
--- src/command.rt:36:8
 add-if1 : tie.Need-add-if1
-add-if1 c = ?
+add-if1 c =
+    let t : tie.After-transfer-in = search in
+    let start : tie.Start = search in
+    rw (t .transfer-in .ensures) (omega (arith, moved-within (start .pre .0) (start .pre .2) (rw (start .pre .3)), parameters-few (driveIn (start .args .state .now) .transfer .control)))
 
--- src/command.rt:36:21
 parameter-words-requires : tie.Need-parameter-words-requires
 parameter-words-requires c κs = search needs
 
--- src/command.rt:37:9
 close-requires : tie.Need-close-requires
 close-requires c κs = search needs
 
--- src/command.rt:38:9
 obey-requires : tie.Need-obey-requires
-obey-requires c κs = ?
+obey-requires c κs =
+    let closed′ : tie.After-close = search in
+    let start : tie.Start = search in
+    (closed-fit (start .pre .0) (closed′ .close .ensures), start .pre .1)
 
--- src/command.rt:38:9
 same-length : tie.Need-same-length
 same-length c = search needs
 
--- src/command.rt:38:9
 returns : tie.Need-returns
-returns c = ?
+unfolding parameterSent
+returns c =
+    let done : tie.After-obey = search in
+    let closed′ : tie.After-close = search in
+    let last : tie.Then1 = search in
+    let asked : tie.After-parameter-words = search in
+    let t : tie.After-transfer-in = search in
+    let start : tie.Start = search in
+    did-first _ _ _ _ (sym (eq-eqb _ _ (rw (t .transfer-in .ensures) at (last .if1 .taken ∙ asked .parameter-words .ensures) ∙ sym (code-words _ _ (start .pre .2))))) refl
+    (did-closed (λ (d : Drive). obeyed (driveIn (start .args .state .now) .transfer) d (start .args .port) (start .args .word)) (start .pre .0) (closed′ .close .ensures) (rw (t .transfer-in .ensures) at (done .obey .ensures)))
 
--- src/command.rt:40:35
 cast-at : tie.Need-cast-at
 cast-at c = search needs
 
--- src/command.rt:40:14
 add-at : tie.Need-add-at
 add-at c = search needs
 
--- src/command.rt:41:5
 mul-state : tie.Need-mul-state
 mul-state c = search needs
 
--- src/command.rt:41:5
 slice-write-state : tie.Need-slice-write-state
-slice-write-state c = ?
+slice-write-state c =
+    let more : tie.Else1 = search in
+    let asked : tie.After-parameter-words = search in
+    let t : tie.After-transfer-in = search in
+    let start : tie.Start = search in
+    let d = driveIn (start .args .state .now) in
+    let other : (d .transfer .moved + 1 ≡ parameterWords (d .transfer .control)) → ⊥ = λ e. more .if1 .left (rw (t .transfer-in .ensures) (e ∙ sym (rw (t .transfer-in .ensures) at (asked .parameter-words .ensures)))) in
+    rw (t .transfer-in .ensures) (omega (arith, kept-few (start .pre .0) (start .pre .2) (start .pre .3) other, start .pre .0 .long))
 
--- src/command.rt:42:28
 add-state : tie.Need-add-state
-add-state c = ?
+add-state c =
+    let t : tie.After-transfer-in = search in
+    let start : tie.Start = search in
+    rw (t .transfer-in .ensures) (omega (arith, moved-within (start .pre .0) (start .pre .2) (rw (start .pre .3)), parameters-few (driveIn (start .args .state .now) .transfer .control)))
 
--- src/command.rt:42:5
 slice-write-state-2 : tie.Need-slice-write-state-2
-slice-write-state-2 c = ?
+slice-write-state-2 c =
+    let start : tie.Start = search in
+    simp length-set (omega (arith, start .pre .0 .long))
 
--- src/command.rt:30:1
 same-length-2 : tie.Need-same-length-2
 same-length-2 c = search needs
 
--- src/command.rt:30:1
 returns-2 : tie.Need-returns-2
-returns-2 c = ?
+unfolding parameterSent
+returns-2 c =
+    let more : tie.Else1 = search in
+    let asked : tie.After-parameter-words = search in
+    let t : tie.After-transfer-in = search in
+    let start : tie.Start = search in
+    let d = driveIn (start .args .state .now) in
+    let other : (d .transfer .moved + 1 ≡ parameterWords (d .transfer .control)) → ⊥ = λ e. more .if1 .left (rw (t .transfer-in .ensures) (e ∙ sym (rw (t .transfer-in .ensures) at (asked .parameter-words .ensures)))) in
+    did-second _ _ _ _ (sym (ne-eqb _ _ (λ e. other (e ∙ code-words _ _ (start .pre .2))))) refl
+    (record { answer = refl; state = rw (t .transfer-in .ensures) (parameter-kept _ (start .args .word) (start .args .state .now) (kept-few (start .pre .0) (start .pre .2) (start .pre .3) other) (start .pre .0 .long) (known (start .pre .0)) (moved-word (start .args .state .now))) })
 
 pub send-spec : {M : Type 1} → statement M
 send-spec =

@@ -1,71 +1,83 @@
+-- `on_end` meets its contract.
+-- Assumes nothing.
+use mathlib.Core.Path.{refl, sym, _∙_}
+use Rattle.parts.specs.Kind.{End, Use}
+use Rattle.events.specs.State.{driveIn}
+use Rattle.events.proofs.Done.{did-accepted, did-refused}
+use Rattle.events.proofs.Exchanges.{did-ended, did-cut}
 use borrow.Author.Needs.{needs}
 use Rattle.events.proofs.kinds.on_end.Statement.{statement}
 use Rattle.events.proofs.kinds.on_end.Tie as tie
-use Rattle.events.proofs.kinds.on_end.Reads as reads
-use Rattle.events.proofs.kinds.on_end.Lts as lts
-use Rattle.events.proofs.place.close.Reads as close-reads
-use Rattle.events.proofs.place.end_transfer.Reads as end-transfer-reads
-use Rattle.events.proofs.timing.is_one_open.Reads as is-one-open-reads
-use Rattle.events.proofs.timing.is_selected.Reads as is-selected-reads
-use Rattle.parts.proofs.is_data.Reads as is-data-reads
-use Rattle.parts.proofs.none_at_all.Reads as none-at-all-reads
-use Rattle.parts.proofs.inside_refusal.Reads as inside-refusal-reads
 
--- src/kinds.rt:79:9
 none-at-all-requires : tie.Need-none-at-all-requires
 none-at-all-requires c κs = search needs
 
--- src/kinds.rt:80:9
 is-selected-requires : tie.Need-is-selected-requires
 is-selected-requires c κs = search needs
 
--- src/kinds.rt:81:19
 is-one-open-requires : tie.Need-is-one-open-requires
 is-one-open-requires c κs = search needs
 
--- src/kinds.rt:82:9
 inside-refusal-requires : tie.Need-inside-refusal-requires
 inside-refusal-requires c κs = search needs
 
--- src/kinds.rt:84:9
 same-length : tie.Need-same-length
 same-length c = search needs
 
--- src/kinds.rt:84:9
 returns : tie.Need-returns
-returns c = ?
+returns c =
+    let refused : tie.After-inside-refusal = search in
+    let one : tie.After-is-one-open = search in
+    let selected : tie.After-is-selected = search in
+    let formed : tie.After-none-at-all = search in
+    let start : tie.Start = search in
+    did-refused (Use End) _ _ _ _ (start .pre) (refused .inside-refusal .ensures ∙ rw (formed .none-at-all .ensures, selected .is-selected .ensures, one .is-one-open .ensures)) (c .if1 .taken)
 
--- src/kinds.rt:86:23
 slice-read-is-data : tie.Need-slice-read-is-data
 slice-read-is-data c = search needs
 
--- src/kinds.rt:86:8
 is-data-requires : tie.Need-is-data-requires
 is-data-requires c κs = search needs
 
--- src/kinds.rt:87:9
 end-transfer-requires : tie.Need-end-transfer-requires
 end-transfer-requires c κs = search needs
 
--- src/kinds.rt:88:9
 same-length-2 : tie.Need-same-length-2
 same-length-2 c = search needs
 
--- src/kinds.rt:88:9
 returns-2 : tie.Need-returns-2
-returns-2 c = ?
+unfolding driveIn
+returns-2 c =
+    let ended : tie.After-end-transfer = search in
+    let high : tie.Then2 = search in
+    let data′ : tie.After-is-data = search in
+    let passed : tie.Else1 = search in
+    let refused : tie.After-inside-refusal = search in
+    let one : tie.After-is-one-open = search in
+    let selected : tie.After-is-selected = search in
+    let formed : tie.After-none-at-all = search in
+    did-accepted (Use End) _ _ _ _ (refused .inside-refusal .ensures ∙ rw (formed .none-at-all .ensures, selected .is-selected .ensures, one .is-one-open .ensures)) (passed .if1 .left)
+    (did-ended _ (sym (data′ .is-data .ensures) ∙ high .if2 .taken) (ended .end-transfer .ensures))
 
--- src/kinds.rt:90:5
 close-requires : tie.Need-close-requires
 close-requires c κs = search needs
 
--- src/kinds.rt:75:1
 same-length-3 : tie.Need-same-length-3
 same-length-3 c = search needs
 
--- src/kinds.rt:75:1
 returns-3 : tie.Need-returns-3
-returns-3 c = ?
+unfolding driveIn
+returns-3 c =
+    let cut : tie.After-close = search in
+    let low : tie.Else2 = search in
+    let data′ : tie.After-is-data = search in
+    let passed : tie.Else1 = search in
+    let refused : tie.After-inside-refusal = search in
+    let one : tie.After-is-one-open = search in
+    let selected : tie.After-is-selected = search in
+    let formed : tie.After-none-at-all = search in
+    did-accepted (Use End) _ _ _ _ (refused .inside-refusal .ensures ∙ rw (formed .none-at-all .ensures, selected .is-selected .ensures, one .is-one-open .ensures)) (passed .if1 .left)
+    (did-cut _ (sym (data′ .is-data .ensures) ∙ low .if2 .left) (cut .close .ensures))
 
 pub on-end-spec : {M : Type 1} → statement M
 on-end-spec =

@@ -1,38 +1,45 @@
+-- `refusal` meets its contract.
+-- Assumes nothing.
+use Rattle.events.specs.State.{driveIn}
+use Rattle.laws.proofs.Pick.{flags, steps}
+use Rattle.laws.specs.Pick.{pick}
+use borrow.Author.Tests.{eq-eqb, ne-eqb}
 use borrow.Author.Needs.{needs}
 use Rattle.events.proofs.timing.refusal.Statement.{statement}
 use Rattle.events.proofs.timing.refusal.Tie as tie
-use Rattle.events.proofs.timing.refusal.Reads as reads
-use Rattle.events.proofs.timing.refusal.Lts as lts
-use Rattle.events.proofs.timing.is_selected.Reads as is-selected-reads
-use Rattle.events.proofs.timing.what_is_open.Reads as what-is-open-reads
 
--- src/timing.rt:35:9
 returns : tie.Need-returns
-returns c = ?
+returns c = search (steps, flags)
 
--- src/timing.rt:37:9
 is-selected-requires : tie.Need-is-selected-requires
 is-selected-requires c κs = search needs
 
--- src/timing.rt:38:9
 returns-2 : tie.Need-returns-2
-returns-2 c = ?
+returns-2 c = search (steps, flags)
 
--- src/timing.rt:40:21
 shared-slice-read-what-is-open : tie.Need-shared-slice-read-what-is-open
 shared-slice-read-what-is-open c = search needs
 
--- src/timing.rt:40:8
 what-is-open-requires : tie.Need-what-is-open-requires
 what-is-open-requires c κs = search needs
 
--- src/timing.rt:41:9
 returns-3 : tie.Need-returns-3
-returns-3 c = ?
+unfolding driveIn pick
+returns-3 c =
+    let formed : tie.Else1 = search in
+    let mine : tie.Else2 = search in
+    let selected : tie.After-is-selected = search in
+    let asked : tie.After-what-is-open = search in
+    rw (formed .if1 .left, ← (selected .is-selected .ensures), mine .if2 .left, ← (asked .what-is-open .ensures), ne-eqb _ _ (c .if3 .taken))
 
--- src/timing.rt:30:1
 returns-4 : tie.Need-returns-4
-returns-4 c = ?
+unfolding driveIn pick
+returns-4 c =
+    let formed : tie.Else1 = search in
+    let mine : tie.Else2 = search in
+    let selected : tie.After-is-selected = search in
+    let asked : tie.After-what-is-open = search in
+    rw (formed .if1 .left, ← (selected .is-selected .ensures), mine .if2 .left, ← (asked .what-is-open .ensures), eq-eqb _ _ (c .if3 .left))
 
 pub refusal-spec : {M : Type 1} → statement M
 refusal-spec =

@@ -1,61 +1,90 @@
+-- `on_take_word` meets its contract.
+-- Assumes nothing.
+use Rattle.drive.proofs.Own.{able-to-read}
+use Rattle.events.proofs.Done.{did-accepted, did-refused, fit}
+use Rattle.events.proofs.Exchanges.{did-read, did-respond}
+use Rattle.events.proofs.Timely.{number-as, timely-told}
+use Rattle.events.proofs.Transfers.{on-time}
+use Rattle.events.specs.State.{driveIn}
+use Rattle.parts.specs.Kind.{TakeWord, Use}
+use borrow.Author.Tests.{not-true, not-false}
+use mathlib.Core.Bool.{not}
+use mathlib.Core.Path.{ap, sym, _∙_}
 use borrow.Author.Needs.{needs}
 use Rattle.events.proofs.transfer.on_take_word.Statement.{statement}
 use Rattle.events.proofs.transfer.on_take_word.Tie as tie
-use Rattle.events.proofs.transfer.on_take_word.Reads as reads
-use Rattle.events.proofs.transfer.on_take_word.Lts as lts
-use Rattle.events.proofs.command.respond.Reads as respond-reads
-use Rattle.events.proofs.timing.refusal.Reads as refusal-reads
-use Rattle.events.proofs.transfer.take.Reads as take-reads
-use Rattle.parts.proofs.is_data.Reads as is-data-reads
-use Rattle.parts.proofs.none_at_all.Reads as none-at-all-reads
 
--- src/transfer.rt:155:9
 none-at-all-requires : tie.Need-none-at-all-requires
 none-at-all-requires c κs = search needs
 
--- src/transfer.rt:156:9
 refusal-requires : tie.Need-refusal-requires
 refusal-requires c κs = search needs
 
--- src/transfer.rt:158:9
 same-length : tie.Need-same-length
 same-length c = search needs
 
--- src/transfer.rt:158:9
 returns : tie.Need-returns
-returns c = ?
+returns c =
+    let after-refusal : tie.After-refusal = search in
+    let formed : tie.After-none-at-all = search in
+    let start : tie.Start = search in
+    did-refused (Use TakeWord) _ _ _ _ (fit (start .pre .0)) (number-as _ (after-refusal .refusal .ensures) (formed .none-at-all .ensures) (ap not (timely-told (fit (start .pre .0)) .gives))) (c .if1 .taken)
 
--- src/transfer.rt:160:24
 slice-read-is-data : tie.Need-slice-read-is-data
 slice-read-is-data c = search needs
 
--- src/transfer.rt:160:9
 is-data-requires : tie.Need-is-data-requires
 is-data-requires c κs = search needs
 
--- src/transfer.rt:161:9
 respond-requires : tie.Need-respond-requires
-respond-requires c κs = ?
+unfolding driveIn
+respond-requires c κs =
+    let low : tie.Then2 = search in
+    let data′ : tie.After-is-data = search in
+    let else1 : tie.Else1 = search in
+    let after-refusal : tie.After-refusal = search in
+    let start : tie.Start = search in
+    (fit (start .pre .0), start .pre .1, sym (data′ .is-data .ensures) ∙ not-true _ (low .if2 .taken), on-time _ _ (after-refusal .refusal .ensures) (else1 .if1 .left) (timely-told (fit (start .pre .0)) .gives))
 
--- src/transfer.rt:161:9
 same-length-2 : tie.Need-same-length-2
 same-length-2 c = search needs
 
--- src/transfer.rt:161:9
 returns-2 : tie.Need-returns-2
-returns-2 c = ?
+unfolding driveIn
+returns-2 c =
+    let told : tie.After-respond = search in
+    let low : tie.Then2 = search in
+    let data′ : tie.After-is-data = search in
+    let formed : tie.After-none-at-all = search in
+    let else1 : tie.Else1 = search in
+    let after-refusal : tie.After-refusal = search in
+    let start : tie.Start = search in
+    did-accepted (Use TakeWord) _ _ _ _ (number-as _ (after-refusal .refusal .ensures) (formed .none-at-all .ensures) (ap not (timely-told (fit (start .pre .0)) .gives))) (else1 .if1 .left) (did-respond _ _ (sym (data′ .is-data .ensures) ∙ not-true _ (low .if2 .taken)) (told .respond .ensures))
 
--- src/transfer.rt:163:5
 take-requires : tie.Need-take-requires
-take-requires c κs = ?
+unfolding driveIn
+take-requires c κs =
+    let high : tie.Else2 = search in
+    let data′ : tie.After-is-data = search in
+    let else1 : tie.Else1 = search in
+    let after-refusal : tie.After-refusal = search in
+    let start : tie.Start = search in
+    (start .pre .0, able-to-read (start .pre .0 .passable) (on-time _ _ (after-refusal .refusal .ensures) (else1 .if1 .left) (timely-told (fit (start .pre .0)) .gives)), sym (data′ .is-data .ensures) ∙ not-false _ (high .if2 .left))
 
--- src/transfer.rt:146:1
 same-length-3 : tie.Need-same-length-3
 same-length-3 c = search needs
 
--- src/transfer.rt:146:1
 returns-3 : tie.Need-returns-3
-returns-3 c = ?
+unfolding driveIn
+returns-3 c =
+    let taken : tie.After-take = search in
+    let formed : tie.After-none-at-all = search in
+    let high : tie.Else2 = search in
+    let data′ : tie.After-is-data = search in
+    let else1 : tie.Else1 = search in
+    let after-refusal : tie.After-refusal = search in
+    let start : tie.Start = search in
+    did-accepted (Use TakeWord) _ _ _ _ (number-as _ (after-refusal .refusal .ensures) (formed .none-at-all .ensures) (ap not (timely-told (fit (start .pre .0)) .gives))) (else1 .if1 .left) (did-read _ _ (sym (data′ .is-data .ensures) ∙ not-false _ (high .if2 .left)) (taken .take .ensures))
 
 pub on-take-word-spec : {M : Type 1} → statement M
 on-take-word-spec =
