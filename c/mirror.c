@@ -41,17 +41,18 @@ static void stop_if_refused(const char *what, uint8_t refusal) {
     }
 }
 
-/* An event with up to two argument octets. A host's word is accepted only while a write is open at
- * the state's place, and its status is normal only if it was the last and the write was committed
- * there. No other event changes a sector word. */
+/* An event with up to two argument octets. While a write is open, at the state's place, the status
+ * of a host's word is normal only if it was the last and the write was committed there. Nothing
+ * else changes a sector word, and so no word of a command, whose code is below PG_WRITE. */
 static void send(const char *what, uint8_t port, uint8_t kind, uint8_t a0, uint8_t a1) {
     size_t track = (size_t)state[PG_STATE_CYLINDER] * HEADS + state[PG_STATE_HEAD];
     size_t first = (track * SECTORS + state[PG_STATE_SECTOR]) * SECTOR_WORDS;
+    int is_write = kind == PG_WORD_FROM_HOST && state[PG_STATE_CONTROL] >= PG_WRITE;
 
     stop_if_refused(what, pg_event(state, LENGTH(state), port, kind, a0, a1, 0, 0, sectors,
                                    LENGTH(sectors), staging, LENGTH(staging), answer,
                                    LENGTH(answer)));
-    if (kind == PG_WORD_FROM_HOST && answer[PG_ANSWER_STATUS] == PG_STATUS_NORMAL) {
+    if (is_write && answer[PG_ANSWER_STATUS] == PG_STATUS_NORMAL) {
         memcpy(&mirror[first], &sectors[first], SECTOR_WORDS * sizeof mirror[0]);
         writes_mirrored++;
     }

@@ -3,8 +3,9 @@
  * afterwards. What the caller itself takes, measured with a call that returns at once, is taken
  * off, so that a figure is the return address, all that the call writes below it, and nothing else.
  *
- * The deepest of these counts: what hosts do and every refusal, one after another, and then octets
- * at random, on a state that is now and then disturbed. It prints a line for each call.
+ * The deepest of these counts: what hosts do and every refusal, one after another, then every code
+ * of a command or a response and every function, and then octets at random, on a state that is now
+ * and then disturbed. It prints a line for each call.
  *
  * It is for Linux on x86-64. Build it at the project's root, after `rt staticlib pantoglide`, with
  *
@@ -15,113 +16,71 @@
 #include <stdio.h>
 #include <stdlib.h>
 #include <string.h>
-#include <ucontext.h>
 
 #include "pantoglide.h"
+
+#include "depth.h"
 
 enum { CYLINDERS = 2, HEADS = 2, SECTORS = 3, HEADER = 1, FIELD_1 = 2, FIELD_2 = 1, ADDRESS = 3 };
 enum { SECTOR_WORDS = HEADER + FIELD_1 + FIELD_2, RETURN_ADDRESS = 8, RANDOM_CALLS = 20000 };
 #define DRIVE_WORDS (CYLINDERS * HEADS * SECTORS * SECTOR_WORDS)
 #define LENGTH(array) (sizeof(array) / sizeof(array)[0])
 
-/* Returns at once and writes nothing, whatever it is called with. */
-__asm__(".text\nnothing_power_up:\nnothing_event:\nnothing_run:\nnothing_line:\n"
-        "nothing_capture:\nnothing_make_capture:\nxorl %eax, %eax\nret\n");
-__typeof__(pg_power_up) nothing_power_up;
-__typeof__(pg_event) nothing_event;
-__typeof__(pg_run) nothing_run;
-__typeof__(pg_line) nothing_line;
-__typeof__(pg_capture) nothing_capture;
-__typeof__(pg_make_capture) nothing_make_capture;
+/* What calls change and the next call may look at. */
+struct drive { uint16_t state[PG_STATE_WORDS], sectors[DRIVE_WORDS]; uint8_t follower; };
 
-static uint16_t state[PG_STATE_WORDS], answer[PG_ANSWER_WORDS], staging[SECTOR_WORDS];
-static uint16_t sectors[DRIVE_WORDS];
-static uint8_t record[PG_RECORD_OCTETS], capture[2 * PG_RECORD_OCTETS + PG_TRAILER_OCTETS];
-static uint8_t follower, setting;
+static struct drive drive;
+static uint16_t *const state = drive.state;
+static uint16_t answer[PG_ANSWER_WORDS], staging[SECTOR_WORDS];
+static uint8_t setting, record[PG_RECORD_OCTETS];
+static uint8_t capture[2 * PG_RECORD_OCTETS + PG_TRAILER_OCTETS];
 static size_t state_length, sector_length, answer_length, record_length, follower_length;
 static size_t capture_length, first_record, record_count, size;
 
-static ucontext_t here, there;
-static uint8_t stack[16384];
 static int calls_nothing;
-static void (*callee)(void);
+#define CALL(name) (calls_nothing ? nothing_##name : pg_##name)
 
 static void power_up(void) {
-    __typeof__(pg_power_up) *call = calls_nothing ? nothing_power_up : pg_power_up;
-    call(CYLINDERS, HEADS, SECTORS, HEADER, FIELD_1, FIELD_2, record[4], sectors, sector_length,
-         staging, LENGTH(staging), state, state_length);
+    CALL(power_up)(CYLINDERS, HEADS, SECTORS, HEADER, FIELD_1, FIELD_2, record[4], drive.sectors,
+                   sector_length, staging, LENGTH(staging), state, state_length);
 }
 
 static void event(void) {
-    __typeof__(pg_event) *call = calls_nothing ? nothing_event : pg_event;
-    call(state, state_length, record[2], record[3], record[4], record[5], record[6], record[7],
-         sectors, sector_length, staging, LENGTH(staging), answer, answer_length);
+    CALL(event)(state, state_length, record[2], record[3], record[4], record[5], record[6],
+                record[7], drive.sectors, sector_length, staging, LENGTH(staging), answer,
+                answer_length);
 }
 
 static void run(void) {
-    __typeof__(pg_run) *call = calls_nothing ? nothing_run : pg_run;
-    call(state, state_length, record, record_length, sectors, sector_length, staging,
-         LENGTH(staging), answer, answer_length);
+    CALL(run)(state, state_length, record, record_length, drive.sectors, sector_length, staging,
+              LENGTH(staging), answer, answer_length);
 }
 
 static void line(void) {
-    __typeof__(pg_line) *call = calls_nothing ? nothing_line : pg_line;
-    call(&follower, follower_length, setting);
+    CALL(line)(&drive.follower, follower_length, setting);
 }
 
 static void find(void) {
-    __typeof__(pg_capture) *call = calls_nothing ? nothing_capture : pg_capture;
-    call(capture, capture_length, &first_record, &record_count);
+    CALL(capture)(capture, capture_length, &first_record, &record_count);
 }
 
 static void make(void) {
-    __typeof__(pg_make_capture) *call = calls_nothing ? nothing_make_capture : pg_make_capture;
-    call(record, sizeof record, record, record_length, capture, capture_length, &size);
-}
-
-/* Makes the caller's own part deeper than what the change of stacks writes. */
-static void enter(void) {
-    volatile uint8_t room[1024];
-
-    room[0] = 0;
-    callee();
-    room[0]++;
-}
-
-static size_t depth_over(uint8_t pattern) {
-    size_t untouched = 0;
-
-    memset(stack, pattern, sizeof stack);
-    getcontext(&there);
-    there.uc_stack.ss_sp = stack;
-    there.uc_stack.ss_size = sizeof stack;
-    there.uc_link = &here;
-    makecontext(&there, enter, 0);
-    swapcontext(&here, &there);
-    while (stack[untouched] == pattern) {
-        untouched++;
-    }
-    return sizeof stack - untouched;
+    CALL(make_capture)(record, sizeof record, record, record_length, capture, capture_length,
+                       &size);
 }
 
 /* Measured with two patterns, since an octet may be written over with the one that was there. The
  * second call finds what the first one found. */
 static size_t depth_of(void (*wrapped)(void)) {
-    static struct { uint16_t state[PG_STATE_WORDS], sectors[DRIVE_WORDS]; uint8_t follower; } saved;
+    struct drive saved = drive;
     size_t nothing, first, second;
 
-    callee = wrapped;
     calls_nothing = 1;
-    nothing = depth_over(0xA5);
+    nothing = depth_over(0xA5, wrapped);
     calls_nothing = 0;
-    memcpy(saved.state, state, sizeof state);
-    memcpy(saved.sectors, sectors, sizeof sectors);
-    saved.follower = follower;
-    first = depth_over(0xA5);
-    memcpy(state, saved.state, sizeof state);
-    memcpy(sectors, saved.sectors, sizeof sectors);
-    follower = saved.follower;
-    second = depth_over(0x5A);
+    first = depth_over(0xA5, wrapped);
+    drive = saved;
+    second = depth_over(0x5A, wrapped);
     return (first > second ? first : second) - nothing + RETURN_ADDRESS;
 }
 
@@ -138,20 +97,17 @@ static void note(size_t *deepest, void (*wrapped)(void)) {
 
 /* The same event as a call and as a run of one record, each from the same state. */
 static void note_event(const uint8_t octets[6]) {
-    uint16_t before[PG_STATE_WORDS], sectors_before[DRIVE_WORDS];
+    struct drive before = drive;
 
     memcpy(record + 2, octets, 6);
-    memcpy(before, state, sizeof state);
-    memcpy(sectors_before, sectors, sizeof sectors);
     note(&deepest_run, run);
-    memcpy(state, before, sizeof state);
-    memcpy(sectors, sectors_before, sizeof sectors);
+    drive = before;
     note(&deepest_event, event);
 }
 
 static void whole_slices(void) {
-    state_length = LENGTH(state);
-    sector_length = LENGTH(sectors);
+    state_length = PG_STATE_WORDS;
+    sector_length = DRIVE_WORDS;
     answer_length = LENGTH(answer);
     record_length = sizeof record;
     capture_length = sizeof capture;
@@ -159,6 +115,7 @@ static void whole_slices(void) {
 }
 
 enum { SELECT = PG_SELECT_ADDRESS(ADDRESS), TAKEOVER = SELECT | PG_SELECT_PRIORITY_SELECT };
+enum { CODE_BITS = PG_CODE_LOAD_POSITION | PG_CODE_READ_CURRENT_POSITION };
 enum { VERIFY = PG_WRITE | PG_HEADER_VERIFY | PG_FIELD_1, READ = PG_READ | PG_FIELD_2 };
 
 /* Port, kind and argument octets: every kind, accepted and refused, with every status. */
@@ -175,7 +132,11 @@ static const uint8_t script[][6] = {
     {0, PG_TAKE_WORD}, {0, PG_DATA_CONTROL, READ}, {0, PG_END}, {0, PG_DATA_CONTROL, VERIFY},
     {1, PG_SELECT, TAKEOVER}, {1, PG_DESELECT}, {0, PG_SELECT, SELECT},
     {0, PG_DATA_CONTROL, READ}, {0, PG_READ_STATUS}, {1, PG_RESET}, {1, PG_SELECT, SELECT},
-    {1, PG_TARGET}, {1, PG_READ_STATUS}, {1, PG_DESELECT}
+    {1, PG_TARGET}, {1, PG_READ_STATUS}, {1, PG_DATA_CONTROL, PG_CODE_LOAD_POSITION},
+    {1, PG_WORD_FROM_HOST}, {1, PG_TAKE_WORD}, {1, PG_READ_STATUS}, {1, PG_END},
+    {1, PG_DATA_CONTROL, PG_CODE_READ_STATUS}, {1, PG_TAKE_WORD}, {1, PG_WORD_FROM_HOST},
+    {1, PG_END}, {1, PG_DATA_CONTROL, PG_CODE_LOAD_CYLINDER}, {1, PG_WORD_FROM_HOST},
+    {0, PG_SELECT, TAKEOVER}, {0, PG_DATA_CONTROL, PG_CODE_READ_CURRENT_POSITION}, {1, PG_RESET}
 };
 
 static void power_ups(void) {
@@ -188,25 +149,58 @@ static void power_ups(void) {
     note(&deepest_power_up, power_up);
 }
 
-/* An event that 10 and then 11 refuse, and a run whose record is not whole. */
+static void note_too_short(size_t *length) {
+    --*length;
+    note_event(script[0]);
+    whole_slices();
+}
+
+/* Events that 10 and then 11 refuse, and a run whose record is not whole. */
 static void refused_events(void) {
     uint16_t hold = state[PG_STATE_HOLD];
 
-    state_length--;
-    note_event(script[0]);
-    whole_slices();
-    sector_length = 0;
-    note_event(script[0]);
-    whole_slices();
-    answer_length = 0;
-    note_event(script[0]);
-    whole_slices();
+    note_too_short(&state_length);
+    note_too_short(&sector_length);
+    note_too_short(&answer_length);
     state[PG_STATE_HOLD] = 3;
     note_event(script[0]);
     state[PG_STATE_HOLD] = hold;
     record_length = 7;
     note(&deepest_run, run);
     whole_slices();
+}
+
+/* Sends a code of port 0's and, while it is open, words with the same octet twice, and takes. */
+static void note_code(int code, int octet) {
+    uint8_t control[6] = {0, PG_DATA_CONTROL}, word[6] = {0, PG_WORD_FROM_HOST};
+    static const uint8_t take[6] = {0, PG_TAKE_WORD};
+
+    control[2] = (uint8_t)code;
+    word[2] = word[3] = (uint8_t)octet;
+    note_event(control);
+    while (state[PG_STATE_CONTROL] != 0) {
+        note_event(word);
+        note_event(take);
+    }
+}
+
+/* Every code, just after a reset, which is told by C, and then with good and bad words; and every
+ * function. */
+static void codes(void) {
+    static const uint8_t select[6] = {0, PG_SELECT, SELECT}, reset[6] = {0, PG_RESET};
+    int code, function;
+
+    for (code = 0; code < PG_WRITE; code++) {
+        note_event(reset);
+        note_event(select);
+        note_code(code, 0);
+        note_code(PG_CODE_READ_STATUS, 0);
+        note_code(code, 0);
+        note_code(code, 0xEE);
+    }
+    for (function = 0; function < 256; function++) {
+        note_code(PG_CODE_LOAD_DRIVE_FUNCTION, function);
+    }
 }
 
 static uint8_t random_octet(void) {
@@ -230,7 +224,9 @@ static void random_events(void) {
             octets[0] = random_octet() & 1;
             octets[2] = SELECT | (random_octet() & 3);
         } else if (octets[1] == PG_DATA_CONTROL) {
-            octets[2] = PG_WRITE | random_octet();
+            octets[2] = i % 4 ? PG_WRITE | random_octet() : random_octet() & CODE_BITS;
+        } else if (octets[1] == PG_WORD_FROM_HOST) {
+            octets[3] = random_octet() & 3;
         }
         note_event(octets);
         if (i % 8 == 0) {
@@ -249,7 +245,7 @@ static void lines(void) {
 
     for (octet = 0; octet < 256; octet++) {
         for (new_setting = 0; new_setting < 33; new_setting++) {
-            follower = (uint8_t)octet;
+            drive.follower = (uint8_t)octet;
             setting = (uint8_t)new_setting;
             note(&deepest_line, line);
         }
@@ -290,6 +286,7 @@ int main(void) {
     for (i = 0; i < LENGTH(script); i++) {
         note_event(script[i]);
     }
+    codes();
     random_events();
     lines();
     captures();

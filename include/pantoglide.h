@@ -1,10 +1,11 @@
-/* Pantoglide 1.0: the proved drive behind a C interface.
+/* Pantoglide 2.0: the proved drive behind a C interface.
  *
  * Two hosts share a drive, one on each of two IPI-2 ports, 0 and 1. The firmware hands each thing
  * that a host does to pg_event, with the words of the drive; the call does what the drive would do
  * and tells what to answer. This header is all that a caller needs to read. The rules are those of
- * the paper that the project calls document 01, which takes them from three papers on IPI: 001 (a
- * drive's manual), 003 (the physical level) and 004 (IPI-2). Octets are in hex.
+ * the paper that the project calls document 01, with commands and responses as request M-100 adds
+ * them. Both take them from three papers on IPI: 001 (a drive's manual), 003 (the physical level)
+ * and 004 (IPI-2). Octets are in hex.
  *
  *
  * WHAT IT NEEDS
@@ -20,9 +21,9 @@
  *     pg_capture 8       pg_make_capture 8
  *
  * c/stack.c measured it: on a stack filled with a pattern, how deep each call writes, over every
- * kind, status and refusal. Part of it lies below the stack pointer, in the 128 octets that the ABI
- * of x86-64 grants a function there (the red zone), so code that interrupts a call on the same
- * stack has to leave those alone.
+ * kind, code, function, status and refusal. Part of it lies below the stack pointer, in the 128
+ * octets that the ABI of x86-64 grants a function there (the red zone), so code that interrupts a
+ * call on the same stack has to leave those alone.
  *
  * Every input gets one of the answers named here, nothing has to be checked beforehand, and all
  * calls end.
@@ -45,7 +46,9 @@
  *
  * Saved states. A state may be kept, copied and handed back at any later time, with the sector and
  * staging words of that time. Every call judges the state anew, whoever made it, and refuses with
- * 11 one that is not sound. Whether the words are those that belong to it nobody can tell.
+ * 11 one that is not sound. Whether the words are those that belong to it nobody can tell. A state
+ * that version 1 kept has 18 words and is too short now; with three words 0 behind them it is the
+ * same state of this version.
  *
  * Byte order. A word is a number of 16 bits. Which of its two octets comes first on a medium, or in
  * a file that keeps the sectors, is the caller's. Events and captures have the high octet first.
@@ -62,7 +65,7 @@ extern "C" {
 
 /* The version of this header and of the archive it belongs to. The major number grows where a
  * program that was written for the last one may need a change; CHANGELOG.md says which. */
-#define PG_VERSION_MAJOR 1
+#define PG_VERSION_MAJOR 2
 #define PG_VERSION_MINOR 0
 
 /* ---- The drive ---------------------------------------------------------------------------- */
@@ -89,11 +92,14 @@ enum {
     PG_STATE_HEAD = 11,       /* the position, counted from 0 */
     PG_STATE_SECTOR = 12,     /* the position, counted from 0 */
     PG_STATE_TARGET = 13,     /* a sector, or PG_NO_TARGET */
-    PG_STATE_CONTROL = 14,    /* the data control of the open transfer, 0 if none is open */
+    PG_STATE_CONTROL = 14,    /* the octet that opened the open transfer, 0 if none is open */
     PG_STATE_MOVED = 15,      /* words the open transfer has moved, 0 if none is open */
     PG_STATE_PENDING_0 = 16,  /* for port 0: response octet 1 times 256 plus octet 2 */
     PG_STATE_PENDING_1 = 17,  /* for port 1: the same */
-    PG_STATE_WORDS = 18
+    PG_STATE_PARAMETER_0 = 18,  /* the first words of the open command, but never its last one; */
+    PG_STATE_PARAMETER_1 = 19,  /* 0 where they stand for nothing. Any value is sound. */
+    PG_STATE_PARAMETER_2 = 20,
+    PG_STATE_WORDS = 21
 };
 
 #define PG_NOBODY 2
@@ -105,7 +111,7 @@ enum {
 enum {
     PG_SELECT = 1,          /* a0: the selection octet */
     PG_DESELECT = 2,        /* none */
-    PG_DATA_CONTROL = 3,    /* a0: the data control octet */
+    PG_DATA_CONTROL = 3,    /* a0: the data control octet, or the code of a command or response */
     PG_WORD_FROM_HOST = 4,  /* a0, a1: the word, high octet first */
     PG_TAKE_WORD = 5,       /* none */
     PG_END = 6,             /* none */
@@ -127,7 +133,8 @@ enum {
  *
  * The sum of PG_SELECT_ADDRESS(n), n from 0 to 7, and either, both or none of the two others.
  *
- * A granted selection sets the hold, whatever hold the same port had before:
+ * A granted selection sets the hold, whatever hold the same port had before, by selection or by
+ * PG_FUNCTION_RESERVE:
  *
  *     Priority Hold   Priority Select   hold
  *     no              no or yes         PG_HOLD_NONE: Deselect frees the drive
@@ -171,8 +178,8 @@ enum { PG_HOLD_NONE = 0, PG_HOLD_PLAIN = 1, PG_HOLD_STRONG = 2 };
  *     90                       PG_STEP_HEAD: the head becomes the next, 0 after the last
  *     C0 to CF, D1 to DF       read
  *     D0                       PG_CONTROL_RESERVED: status 8, Invalid Bus Control
- *     00 to 7F, A0 to BF,      invalid: status 8, Invalid Bus Control
- *     E0 to FF
+ *     A0 to BF, E0 to FF       invalid: status 8, Invalid Bus Control
+ *     00 to 7F                 no data controls but codes of commands and responses, see below
  *
  * The answer that opens a transfer tells how many words will pass, and where. They pass in the
  * order header, field 1, field 2. A verify's count includes the header's words: the host sends the
@@ -202,20 +209,96 @@ enum { PG_HOLD_NONE = 0, PG_HOLD_PLAIN = 1, PG_HOLD_STRONG = 2 };
 #define PG_STEP_HEAD 0x90
 #define PG_CONTROL_RESERVED 0xD0
 
+/* The codes of commands and responses (004, 10.1), as a0 of PG_DATA_CONTROL. A command's words are
+ * sent with PG_WORD_FROM_HOST, a response's are taken with PG_TAKE_WORD. The opening tells their
+ * number, and as its place the position, which no code uses. A number of two words has the high one
+ * first; cylinder, head, sector and target are counted from 0.
+ *
+ *     code, PG_CODE_                words   what they are, and what is done at the last one
+ *     01 LOAD_DRIVE_FUNCTION        1 sent  a function in both octets: what it says, see below
+ *     04 LOAD_CYLINDER              2 sent  a cylinder, in two words: the position's
+ *     05 LOAD_HEAD                  1 sent  a head: the position's
+ *     06 LOAD_TARGET                1 sent  the target, or PG_NO_TARGET
+ *     07 LOAD_POSITION              4 sent  cylinder (two words), head, target: all three
+ *     44 READ_STATUS                4 taken the response's 8 octets, two in a word, high first; the
+ *                                           last one clears them, as PG_READ_STATUS does
+ *     46 READ_CURRENT_SECTOR        1 taken the position's sector
+ *     47 READ_CURRENT_POSITION      5 taken cylinder (two words), head, target or PG_NO_TARGET,
+ *                                           sector
+ *     02 03 41 42 43 45 48          none    Load Format Specification, Load Drive Specific
+ *                                           Information, Read Configuration, Read Format
+ *                                           Specification, Read Drive Specific Information, Read
+ *                                           Correction Vectors, Read Extended Status: they act on
+ *                                           more than this drive has. Status 8, Unsupported Bus
+ *                                           Control
+ *     00, 08 to 40, 49 to 7F        none    invalid: status 8, Invalid Bus Control
+ *
+ * A command is judged at its last word and not before. With a cylinder, head or target outside the
+ * drive (all bits of the number count) it is answered with status 8 and Invalid Parameter, and does
+ * nothing; else it is done, with status 0. Either way it is over. While a bit of response octet 1
+ * is pending, every code but 44, good or bad, is answered with C and does not open; words, takes
+ * and PG_END never are. PG_END ends a command or a response early with status 0: nothing was done,
+ * and nothing is cleared. A takeover and a reset end it too, and nothing was done. No code ever
+ * stages a word, changes a sector word or, however it ends, makes the sector the next.
+ *
+ * The words of a command before its last one are kept in PG_STATE_PARAMETER_0 and on. Those three
+ * words of the state are put to 0 by a granted PG_SELECT, by PG_RESET, and by every opening and
+ * every end of a transfer, be it of data or of a code; nothing else changes them. */
+#define PG_CODE_LOAD_DRIVE_FUNCTION 0x01
+#define PG_CODE_LOAD_CYLINDER 0x04
+#define PG_CODE_LOAD_HEAD 0x05
+#define PG_CODE_LOAD_TARGET 0x06
+#define PG_CODE_LOAD_POSITION 0x07
+#define PG_CODE_READ_STATUS 0x44
+#define PG_CODE_READ_CURRENT_SECTOR 0x46
+#define PG_CODE_READ_CURRENT_POSITION 0x47
+
+/* The functions of PG_CODE_LOAD_DRIVE_FUNCTION. The one word has the function in both octets, so
+ * a0 and a1 are both the function.
+ *
+ *     function, PG_FUNCTION_        what it does
+ *     13 PRIORITY_RESERVE           the hold becomes PG_HOLD_STRONG
+ *     14 RESERVE                    PG_HOLD_NONE becomes PG_HOLD_PLAIN, other holds stay
+ *     15 RELEASE                    the hold becomes PG_HOLD_NONE
+ *     20 NO_OPERATION               nothing
+ *     28 RECALIBRATE                the position's cylinder becomes 0; head, sector, target stay
+ *     10 11 12 16 18 to 1F 22 23    Disable and Enable Alternate Port, Disable Port, Notify
+ *     29 2B 2C 2D 41 to 4A 81       Alternate Port of Format Completion, interrupts, Spin Up and
+ *                                   Down, Execute Internal Diagnostic, Perform Sector Marking,
+ *                                   Disable and Enable Drive ECC, offsets, strobes, Disable
+ *                                   Read/Write Diagnostic Tests: they act on more than this drive
+ *                                   has. Status 8, Unsupported Bus Control
+ *     all others, and octets        none: status 8, Invalid Parameter
+ *     that differ
+ *
+ * There is one hold, whether a selection or a function made it: PG_DESELECT and the other port's
+ * PG_SELECT go by it as said above. PG_FUNCTION_RELEASE takes it away at once; the port then has
+ * the drive until its PG_DESELECT, or until the other port's Priority Select. The reserving port's
+ * own next selection sets the hold anew: with PG_SELECT_PRIORITY_HOLD it keeps the drive, without
+ * it the reservation is given up. */
+#define PG_FUNCTION_PRIORITY_RESERVE 0x13
+#define PG_FUNCTION_RESERVE 0x14
+#define PG_FUNCTION_RELEASE 0x15
+#define PG_FUNCTION_NO_OPERATION 0x20
+#define PG_FUNCTION_RECALIBRATE 0x28
+
 /* Where the position goes:
  *
- *     a transfer ends inside its session: at its      the next sector, 0 after the track's last;
- *     last word, with status 7, by PG_END, or at      cylinder and head stay
- *     once because no words are to come
+ *     a write or a read ends inside its session:      the next sector, 0 after the track's last;
+ *     at its last word, with status 7, by PG_END,     cylinder and head stay
+ *     or at once because no words are to come
  *     a control "at target" with a target             first to the target's sector, at the opening
  *     PG_STEP_HEAD                                    the next head, 0 after the last
  *     PG_POSITION with a place inside the drive       there
+ *     the last word of LOAD_CYLINDER, LOAD_HEAD,      to the cylinder, the head or both that were
+ *     LOAD_POSITION or RECALIBRATE, with status 0     asked for; the sector stays
+ *     every other word, take or end of a code         stays
  *     a takeover, PG_SELECT, PG_DESELECT              stays, in the middle of a transfer too
  *     PG_RESET                                        0/0/0
  *     a refusal, status 8, status C                   stays
  *
- * The target is a sector of whatever track the position is on. It stays until PG_TARGET changes it
- * or PG_RESET takes it away; using it does not. */
+ * The target is a sector of whatever track the position is on. It stays until PG_TARGET,
+ * LOAD_TARGET or LOAD_POSITION changes it or PG_RESET takes it away; using it does not. */
 
 /* ---- What the drive answers ----------------------------------------------------------------- */
 
@@ -239,9 +322,10 @@ enum {
 /* The drive status octets (004, 8.3.9). The drive never sends busy: refusal 6 stands for it.
  *
  * Kinds 3, 7 and 8 are answered with C, and do nothing, while a bit of response octet 1 is pending
- * on their port; else with 8 if they ask what cannot be done, which sets a bit of octet 2. Kinds 1,
- * 2 and 10, the opening of a transfer and a word before the last have no status. All else has 0,
- * but for status 7 of a verify. */
+ * on their port, but for PG_CODE_READ_STATUS; else with 8 if they ask what cannot be done, which
+ * sets a bit of octet 2. The last word of a command, kind 4, is answered with 8 in the same way and
+ * never with C. Kinds 1, 2 and 10, the opening of a transfer and a word before the last have no
+ * status. All else has 0, but for status 7 of a verify. */
 enum {
     PG_STATUS_NORMAL = 0x00,
     PG_STATUS_BUSY = 0x01,
@@ -251,17 +335,20 @@ enum {
 };
 
 /* The status response (001, figure 3-3): 8 octets, of which octets 3 to 7 are 0. PG_READ_STATUS
- * answers them and clears what was pending on its port. Nothing else clears that but PG_RESET,
- * which leaves Reset Complete alone on both ports. Octet 0 follows from the others.
+ * answers them and clears what was pending on its port, and so do the four words of
+ * PG_CODE_READ_STATUS, of which the last one clears. Nothing else clears that but PG_RESET, which
+ * leaves Reset Complete alone on both ports. Octet 0 follows from the others.
  *
  *     octet  bit   001's name                        set by
  *     0      40    UNSOLICITED EXCEPTION             octet 1 is not 0
  *     0      20    BUS CONTROL EXCEPTION             octet 2 is not 0
  *     1      80    RESET COMPLETE                    a reset from either port
  *     1      40    ALTERNATE PORT PRIORITY SELECT    the other port's takeover
- *     2      80    INVALID BUS CONTROL               an invalid control, or the reserved one
- *     2      40    INVALID PARAMETER                 a place or a target outside the drive
- *     2      20    UNSUPPORTED BUS CONTROL           80 to 83 and 91 to 93
+ *     2      80    INVALID BUS CONTROL               an invalid control or code, or D0
+ *     2      40    INVALID PARAMETER                 a place or a target outside the drive, or a
+ *                                                    function that is none
+ *     2      20    UNSUPPORTED BUS CONTROL           80 to 83, 91 to 93; codes and functions that
+ *                                                    act on more than this drive has
  *     2      10    BUS CONTROL CONTEXT               "at target" while there is no target */
 #define PG_RESPONSE_0_UNSOLICITED_EXCEPTION 0x40
 #define PG_RESPONSE_0_BUS_CONTROL_EXCEPTION 0x20
@@ -280,7 +367,8 @@ enum {
 #define PG_PENDING_RESET_COMPLETE 0x8000                  /* octet 1, RESET COMPLETE */
 #define PG_PENDING_ALTERNATE_PORT_PRIORITY_SELECT 0x4000  /* octet 1, the same name */
 #define PG_PENDING_INVALID_CONTROL 0x0080                 /* octet 2, INVALID BUS CONTROL */
-#define PG_PENDING_OUTSIDE_DRIVE 0x0040                   /* octet 2, INVALID PARAMETER */
+#define PG_PENDING_OUTSIDE_DRIVE 0x0040                   /* octet 2, INVALID PARAMETER, for a
+                                                             function that is none too */
 #define PG_PENDING_UNSUPPORTED_CONTROL 0x0020             /* octet 2, UNSUPPORTED BUS CONTROL */
 #define PG_PENDING_TARGET_MISSING 0x0010                  /* octet 2, BUS CONTROL CONTEXT */
 
@@ -293,8 +381,7 @@ enum {
     PG_REFUSED_WRONG_ADDRESS = 4,     /* Select: octet bit 7 is set or the address is not ours. */
     PG_REFUSED_MODE_CHANGE = 5,       /* Select: octet bit 3 or 2 is set. */
     PG_REFUSED_BUSY = 6,              /* Select: the other port has the drive and keeps it. */
-    PG_REFUSED_WRONG_MOMENT = 7,      /* Kind 4 with no write open, 5 with no read open, 6 with
-                                         neither, or 2, 3, 7, 8 or 9 with one open. */
+    PG_REFUSED_WRONG_MOMENT = 7,      /* A transfer is open, or none is, see below. */
     PG_REFUSED_MALFORMED = 8,         /* The kind is not 1 to 10 or an unused argument octet is not
                                          0; records are not whole, or too long for a capture; a
                                          setting is over 31. */
@@ -308,22 +395,36 @@ enum {
                                            the capture's length less 8. */
 };
 
-/* A state is sound unless
+/* When 7 is given, a command being open as a write is, and a response as a read is:
+ *
+ *     kind                       nothing open    a write or a      a read or a
+ *                                                command open      response open
+ *     2, 3, 7, 8, 9              goes on         7                 7
+ *     4 (a word from the host)   7               goes on           7
+ *     5 (a word taken)           7               7                 goes on
+ *     6 (end)                    7               goes on           goes on
+ *
+ * PG_CODE_READ_STATUS is no exception: it is refused, like PG_READ_STATUS, while something is open.
+ *
+ * A state is sound unless
  *
  *     a number is outside the limits named beside it;
  *     the position or the target is outside the drive;
  *     a port is selected that does not have the drive;
  *     there is a hold or an open transfer and no port has the drive;
  *     a port has the drive and is neither selected nor holding it;
- *     a transfer is open with nobody selected, with a control that opens none, or with as many
+ *     a transfer is open with nobody selected, with an octet that opens none, or with as many
  *     words moved as it has, or more; words are moved and no transfer is open; or
- *     a pending bit is set that has no name above. */
+ *     a pending bit is set that has no name above.
+ *
+ * The three parameter words may have any value in any state. */
 
 /* ---- The calls of the drive ------------------------------------------------------------------ */
 
 /* Powers a drive up: nobody selected, no hold, position 0/0/0, no target, nothing open, nothing
- * pending. sector_words must hold every sector, that is cylinders * heads * sectors *
- * (header + field_1 + field_2) words, staging_words one sector, and state PG_STATE_WORDS words.
+ * pending, the parameter words 0. sector_words must hold every sector, that is cylinders * heads *
+ * sectors * (header + field_1 + field_2) words, staging_words one sector, and state PG_STATE_WORDS
+ * words.
  *
  * Returns 9 if a number is outside its limits (see the state's words 0 to 6); otherwise 10 if one
  * of the three slices is too short; and then nothing is changed. Otherwise writes the state and
@@ -345,8 +446,8 @@ uint8_t pg_power_up(uint16_t cylinders, uint16_t heads, uint16_t sectors, uint16
  *
  * Otherwise does what the kind asks, writes the first PG_ANSWER_WORDS words of answer and returns
  * 0. Word number k of a write, from 0 in that transfer, is staged at staging_words[k], and no
- * other staging word changes. Sector words change only at the last word of a write: those of the
- * fields it names, and of the header if it writes that. */
+ * other staging word changes; a command's words are never staged. Sector words change only at the
+ * last word of a write: those of the fields it names, and of the header if it writes that. */
 uint8_t pg_event(uint16_t *state, size_t state_length, uint8_t port, uint8_t kind, uint8_t a0,
                  uint8_t a1, uint8_t a2, uint8_t a3, uint16_t *sector_words, size_t sector_length,
                  uint16_t *staging_words, size_t staging_length, uint16_t *answer,

@@ -1,6 +1,7 @@
 //! Random events that get far: mostly what a host would send next, with mistakes, takeovers and
 //! garbage among them.
 
+use super::commands::{code_octet, command_word};
 use super::plain::STATE_WORDS;
 use super::random::Random;
 
@@ -9,6 +10,8 @@ pub type EventOctets = [u8; 6];
 
 const NOBODY: u16 = 2;
 const NO_TARGET: u16 = 0xFFFF;
+/// The code of the response that tells the status.
+const READ_STATUS_CODE: u8 = 0x44;
 
 /// A state's words by name, as the generator looks at them. They need not be sound.
 struct View<'a> {
@@ -24,10 +27,11 @@ pub fn likely_event(
 ) -> EventOctets {
     let view = View { state, sectors };
     if random.one_in(view.patience()) {
-        return match random.below(4) {
-            0 => garbage(random),
-            1 | 2 => view.select(random),
-            _ => view.request(random),
+        return match random.below(16) {
+            0..4 => garbage(random),
+            4..11 => view.select(random),
+            11..15 => view.request(random),
+            _ => reset(random),
         };
     }
     if view.selected() == NOBODY {
@@ -59,6 +63,10 @@ fn garbage(random: &mut Random) -> EventOctets {
     event
 }
 
+fn reset(random: &mut Random) -> EventOctets {
+    [random.below(2) as u8, 10, 0, 0, 0, 0]
+}
+
 fn with_word(port: u8, kind: u8, word: u16) -> EventOctets {
     let [high, low] = word.to_be_bytes();
     [port, kind, high, low, 0, 0]
@@ -81,7 +89,7 @@ impl View<'_> {
     /// Once in so many events comes something unlikely; long transfers need more of it.
     fn patience(&self) -> usize {
         let longest = usize::from(self.state[4]) + usize::from(self.state[5]);
-        if self.control() == 0 || longest < 64 {
+        if self.control() < 0x80 || longest < 64 {
             16
         } else {
             4 * longest
@@ -102,40 +110,31 @@ impl View<'_> {
         let port = self.port();
         let unsolicited = self.state[16 + usize::from(port)] > 0xFF;
         if unsolicited && !random.one_in(4) {
-            return [port, 9, 0, 0, 0, 0];
+            let by_code = [port, 3, READ_STATUS_CODE, 0, 0, 0];
+            return random.pick(&[[port, 9, 0, 0, 0, 0], by_code]);
         }
         match random.below(64) {
-            0..40 => [port, 3, control_octet(random), 0, 0, 0],
+            0..24 => [port, 3, control_octet(random), 0, 0, 0],
+            24..40 => [port, 3, code_octet(random), 0, 0, 0],
             40..48 => self.position(random),
             48..54 => self.target(random),
             54..58 => [port, 2, 0, 0, 0, 0],
             58..61 => [port, 9, 0, 0, 0, 0],
             61 => [port, random.pick(&[4, 5, 6]), 0, 0, 0, 0],
-            62 => [random.below(2) as u8, 10, 0, 0, 0, 0],
+            62 => reset(random),
             _ => [1 - port, random.pick(&[2, 3, 4, 5, 6, 9]), 0, 0, 0, 0],
         }
     }
 
     fn position(&self, random: &mut Random) -> EventOctets {
-        let mut near = |count: u16| match random.below(12) {
-            0 => count,
-            1 => count.wrapping_sub(1),
-            _ => random.below(usize::from(count).max(1)) as u16,
-        };
-        let [high, low] = near(self.state[0]).to_be_bytes();
-        let (head, sector) = (near(self.state[1]) as u8, near(self.state[2]) as u8);
+        let [cylinders, heads, sectors, ..] = *self.state;
+        let [high, low] = near(random, cylinders).to_be_bytes();
+        let (head, sector) = (near(random, heads) as u8, near(random, sectors) as u8);
         [self.port(), 7, high, low, head, sector]
     }
 
     fn target(&self, random: &mut Random) -> EventOctets {
-        let sectors = self.state[2];
-        let target = match random.below(8) {
-            0 => NO_TARGET,
-            1 => random.pick(&[sectors, sectors.wrapping_add(1), 0xFFFE]),
-            2 => random.word(),
-            _ => random.below(usize::from(sectors).max(1)) as u16,
-        };
-        with_word(self.port(), 8, target)
+        with_word(self.port(), 8, likely_target(random, self.state[2]))
     }
 
     /// The next word of the open transfer, or its early end.
@@ -146,6 +145,9 @@ impl View<'_> {
         }
         if self.control() & 0x40 != 0 {
             return [port, 5, 0, 0, 0, 0];
+        }
+        if self.control() < 0x80 {
+            return with_word(port, 4, command_word(random, self.state));
         }
         let word = match self.stored_header_word() {
             Some(word) if !random.one_in(12) => word,
@@ -166,6 +168,24 @@ impl View<'_> {
         let number = track * sectors + usize::from(sector);
         let first = number * (header + field1 + field2);
         self.sectors.get(first + usize::from(moved)).copied()
+    }
+}
+
+/// A number below `count` more often than not, or at its edge.
+pub fn near(random: &mut Random, count: u16) -> u16 {
+    match random.below(12) {
+        0 => count,
+        1 => count.wrapping_sub(1),
+        _ => random.below(usize::from(count).max(1)) as u16,
+    }
+}
+
+pub fn likely_target(random: &mut Random, sectors: u16) -> u16 {
+    match random.below(8) {
+        0 => NO_TARGET,
+        1 => random.pick(&[sectors, sectors.wrapping_add(1), 0xFFFE]),
+        2 => random.word(),
+        _ => random.below(usize::from(sectors).max(1)) as u16,
     }
 }
 

@@ -12,16 +12,17 @@ use alloc::vec::Vec;
 pub enum Hold {
     /// A deselection frees the drive.
     None,
-    /// The drive stays the owner's after its deselection, until a selection with both priorities.
+    /// The drive stays the owner's after its deselection, until it gives the hold up, a selection
+    /// of the other port with both priorities, or a reset.
     Plain,
     /// The drive stays the owner's until it gives the hold up, or a reset.
     Strong,
 }
 
-/// An open transfer.
+/// An open transfer: of data, or a command or a response.
 #[derive(Clone, Copy, Debug, PartialEq, Eq)]
 pub struct Transfer {
-    /// The data control that opened it.
+    /// The octet that opened it.
     pub control: u8,
     /// How many of its words have passed.
     pub words_moved: u16,
@@ -193,8 +194,14 @@ impl<'a> Board<'a> {
 
     /// Octets 1 and 2 of the status response that wait for a port, nothing for other ports.
     pub fn pending(&self, port: u8) -> Option<[u8; 2]> {
-        let word = self.state[16..].get(usize::from(port))?;
+        let word = self.state[16..18].get(usize::from(port))?;
         Some(word.to_be_bytes())
+    }
+
+    /// The words of the open command before its last one, 0 where they stand for nothing.
+    pub fn parameters(&self) -> [u16; 3] {
+        let [.., first, second, third] = self.state;
+        [first, second, third]
     }
 }
 
@@ -210,6 +217,7 @@ impl fmt::Debug for Board<'_> {
             .field("target", &self.target())
             .field("transfer", &self.transfer())
             .field("pending", &[self.pending(0), self.pending(1)])
+            .field("parameters", &self.parameters())
             .field("sector_words", &self.sectors.len())
             .field("staging_words", &self.staging.len())
             .finish()

@@ -2,7 +2,7 @@
 //!
 //! A control is the sum of [`WRITE`] or [`READ`], of one of the `HEADER_` constants or [`AT_TARGET`]
 //! (a read may do without), and of the fields that pass. `include/pantoglide.h` has all octets in a
-//! table.
+//! table. Those below 80 are the codes of [`command`](crate::command).
 
 /// A write. It needs one of [`HEADER_VERIFY`], [`HEADER_MOVE`] and [`AT_TARGET`].
 pub const WRITE: u8 = 0x80;

@@ -9,13 +9,15 @@ pub enum Event {
     Select(u8),
     /// Ends the session. Without a hold the drive is free then.
     Deselect,
-    /// Opens a transfer, or steps the head, by an octet of [`control`](crate::control).
+    /// Opens a transfer, or steps the head, by an octet of [`control`](crate::control); opens a
+    /// command or a response by a code of [`command`](crate::command).
     DataControl(u8),
-    /// The next word of the open write. At the last one the write goes to its sector.
+    /// The next word of the open write or command. At the last one the write goes to its sector,
+    /// and the command is done.
     WordFromHost(u16),
-    /// Takes the next word of the open read.
+    /// Takes the next word of the open read or response.
     TakeWord,
-    /// Ends the open transfer early. A write has then written nothing.
+    /// Ends the open transfer early. A write has then written nothing, a command done nothing.
     End,
     /// Goes to a place.
     Position {

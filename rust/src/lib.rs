@@ -1,8 +1,9 @@
 //! The proved drive of Pantoglide for Rust.
 //!
 //! [`Board`] is a drive over sector and staging words that the caller lends, [`Capture`] a file of
-//! events, and [`Follower`] watches the control lines of one port. All hand every request to the
-//! archive of proved code that the project's `rt staticlib pantoglide` makes; [`raw`] has its calls
+//! events, and [`Follower`] watches the control lines of one port. [`Board::event`] takes what hosts
+//! do one by one; calls such as [`Board::reserve`] stand for a whole command. All hand every request
+//! to the archive of proved code that the project's `rt staticlib pantoglide` makes; [`raw`] has its calls
 //! as they are, on slices. Nothing in this interface is unsafe, and no input makes a call panic.
 //!
 //! ```
@@ -35,6 +36,7 @@ extern crate alloc;
 mod answer;
 mod board;
 mod capture;
+pub mod command;
 pub mod control;
 mod event;
 mod follower;
@@ -43,6 +45,7 @@ mod refusal;
 pub mod response;
 pub mod selection;
 mod setup;
+mod whole_commands;
 
 pub use answer::{Answer, Outcome, Place, Status};
 pub use board::{Board, Hold, Transfer};
@@ -51,3 +54,4 @@ pub use event::Event;
 pub use follower::{Follower, Move};
 pub use refusal::Refusal;
 pub use setup::Setup;
+pub use whole_commands::NotDone;

@@ -1,7 +1,7 @@
 //! The archive's calls on slices. `include/pantoglide.h` says what each returns and changes.
 
 /// Words of a state.
-pub const STATE_WORDS: usize = 18;
+pub const STATE_WORDS: usize = 21;
 /// Words of an answer.
 pub const ANSWER_WORDS: usize = 13;
 /// Octets of a capture's record.

@@ -88,7 +88,9 @@ fn sectors_unchanged(board: &Board) -> bool {
 #[test]
 fn power_up_is_quiet() {
     bench_case(&[], |board| {
-        let expected = [2, 2, 3, 1, 2, 1, 3, 2, 2, 0, 0, 0, 0, 0xFFFF, 0, 0, 0, 0];
+        let expected = [
+            2, 2, 3, 1, 2, 1, 3, 2, 2, 0, 0, 0, 0, 0xFFFF, 0, 0, 0, 0, 0, 0, 0,
+        ];
         assert_eq!(board.state(), &expected);
         assert_eq!((board.selected(), board.owner()), (None, None));
         assert_eq!((board.target(), board.transfer()), (None, None));

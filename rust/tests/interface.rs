@@ -1,6 +1,7 @@
 //! The wrapper's own parts: its constants are the header's, refusals say why, everything can be
 //! shown, and a run needs no allocation.
 
+use pantoglide::command::{self, Function};
 use pantoglide::raw::{self, ABSENT, ANSWER_WORDS};
 use pantoglide::{control, response, selection};
 use pantoglide::{Answer, Board, Event, Follower, Move, Refusal, Setup, Status};
@@ -66,6 +67,28 @@ fn the_octets_of_a_host_are_the_headers() {
     };
     assert_headers("PG_POSITION", position.octets().0.into());
     assert_eq!(position.octets().1, [1, 2, 3, 4]);
+}
+
+#[test]
+fn the_codes_and_functions_are_the_headers() {
+    for (name, code) in [
+        ("CODE_LOAD_DRIVE_FUNCTION", command::LOAD_DRIVE_FUNCTION),
+        ("CODE_LOAD_CYLINDER", command::LOAD_CYLINDER),
+        ("CODE_LOAD_HEAD", command::LOAD_HEAD),
+        ("CODE_LOAD_TARGET", command::LOAD_TARGET),
+        ("CODE_LOAD_POSITION", command::LOAD_POSITION),
+        ("CODE_READ_STATUS", command::READ_STATUS),
+        ("CODE_READ_CURRENT_SECTOR", command::READ_CURRENT_SECTOR),
+        ("CODE_READ_CURRENT_POSITION", command::READ_CURRENT_POSITION),
+        ("FUNCTION_PRIORITY_RESERVE", Function::PriorityReserve as u8),
+        ("FUNCTION_RESERVE", Function::Reserve as u8),
+        ("FUNCTION_RELEASE", Function::Release as u8),
+        ("FUNCTION_NO_OPERATION", Function::NoOperation as u8),
+        ("FUNCTION_RECALIBRATE", Function::Recalibrate as u8),
+    ] {
+        assert_headers(&format!("PG_{name}"), code.into());
+    }
+    assert_eq!(Function::Reserve.word(), 0x1414);
 }
 
 #[test]

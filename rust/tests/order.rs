@@ -14,10 +14,13 @@ const TOO_SHORT: u8 = 10;
 const UNSOUND: u8 = 11;
 
 /// The bench drive just powered up.
-const SOUND_STATE: [u16; STATE_WORDS] = [2, 2, 3, 1, 2, 1, 3, 2, 2, 0, 0, 0, 0, 0xFFFF, 0, 0, 0, 0];
+const SOUND_STATE: [u16; STATE_WORDS] = [
+    2, 2, 3, 1, 2, 1, 3, 2, 2, 0, 0, 0, 0, 0xFFFF, 0, 0, 0, 0, 0, 0, 0,
+];
 /// The same with a hold that is none of the three.
-const UNSOUND_STATE: [u16; STATE_WORDS] =
-    [2, 2, 3, 1, 2, 1, 3, 2, 2, 3, 0, 0, 0, 0xFFFF, 0, 0, 0, 0];
+const UNSOUND_STATE: [u16; STATE_WORDS] = [
+    2, 2, 3, 1, 2, 1, 3, 2, 2, 3, 0, 0, 0, 0xFFFF, 0, 0, 0, 0, 0, 0, 0,
+];
 
 /// How many words of each slice are lent.
 #[derive(Clone, Copy, Debug)]

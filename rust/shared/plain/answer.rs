@@ -44,3 +44,11 @@ pub enum Answer {
     /// The pending bits of a port: octet 1 of the response times 256 plus octet 2.
     Response(u16),
 }
+
+/// The first two words of the status response that tells pending bits; the other two are 0.
+#[inline(always)]
+pub fn response_words(pending: u16) -> [u16; 2] {
+    let [octet1, octet2] = pending.to_be_bytes();
+    let octet0 = u8::from(octet1 != 0) << 6 | u8::from(octet2 != 0) << 5;
+    [u16::from_be_bytes([octet0, octet1]), u16::from(octet2) << 8]
+}

@@ -1,7 +1,8 @@
 //! The drive: who holds it, where it stands, and what each event does.
 
 use super::answer::{Answer, Refusal, Status};
-use super::control::{Control, Meaning};
+use super::commands::Parameters;
+use super::control::Control;
 use super::setup::{Place, Setup};
 
 pub const NO_TARGET: u16 = 0xFFFF;
@@ -13,14 +14,14 @@ const ALTERNATE_PORT_PRIORITY_SELECT: u16 = 0x4000;
 const UNSOLICITED: u16 = RESET_COMPLETE | ALTERNATE_PORT_PRIORITY_SELECT;
 
 /// Octet 2, in the lower half.
-const INVALID_CONTROL: u16 = 0x80;
-const OUTSIDE_DRIVE: u16 = 0x40;
-const UNSUPPORTED_CONTROL: u16 = 0x20;
-const TARGET_MISSING: u16 = 0x10;
+pub(super) const INVALID_CONTROL: u16 = 0x80;
+pub(super) const INVALID_PARAMETER: u16 = 0x40;
+pub(super) const UNSUPPORTED_CONTROL: u16 = 0x20;
+pub(super) const TARGET_MISSING: u16 = 0x10;
 
 /// Every pending bit that the drive ever sets.
 pub const PENDING_BITS: u16 =
-    UNSOLICITED | INVALID_CONTROL | OUTSIDE_DRIVE | UNSUPPORTED_CONTROL | TARGET_MISSING;
+    UNSOLICITED | INVALID_CONTROL | INVALID_PARAMETER | UNSUPPORTED_CONTROL | TARGET_MISSING;
 
 const PRIORITY_SELECT: u8 = 0x01;
 const PRIORITY_HOLD: u8 = 0x02;
@@ -56,6 +57,7 @@ pub struct Drive<'a> {
     pub control: &'a mut u16,
     pub moved: &'a mut u16,
     pub pending: &'a mut [u16; 2],
+    pub parameters: Parameters<'a>,
 }
 
 /// The lent words.
@@ -118,7 +120,7 @@ impl Drive<'_> {
         *self.hold = Hold::None as u16;
         (*self.cylinder, *self.head, *self.sector) = (0, 0, 0);
         *self.target = NO_TARGET;
-        (*self.control, *self.moved) = (0, 0);
+        self.close();
         *self.pending = [pending; 2];
     }
 
@@ -135,7 +137,7 @@ impl Drive<'_> {
         match (kind, arguments) {
             (1, [octet, 0, 0, 0]) => self.select(port, octet),
             (2, [0, 0, 0, 0]) => self.deselect(port),
-            (3, [octet, 0, 0, 0]) => self.data_control(port, Control(octet)),
+            (3, [octet, 0, 0, 0]) => self.control(port, Control(octet)),
             (4, [high, low, 0, 0]) => {
                 self.word_from_host(port, u16::from_be_bytes([high, low]), medium)
             }
@@ -173,9 +175,9 @@ impl Drive<'_> {
             if !Hold::from_word(*self.hold).yields_to(octet) {
                 return Err(Refusal::Busy);
             }
-            (*self.control, *self.moved) = (0, 0);
             self.pending[other as usize] |= ALTERNATE_PORT_PRIORITY_SELECT;
         }
+        self.close();
         *self.selected = port as u16;
         *self.owner = port as u16;
         *self.hold = Hold::asked_by(octet) as u16;
@@ -193,117 +195,13 @@ impl Drive<'_> {
     }
 
     #[inline(always)]
-    fn data_control(&mut self, port: Port, control: Control) -> Outcome {
-        self.require_rest(port)?;
-        if self.has_unsolicited(port) {
-            return Ok(Answer::Status(Status::UnsolicitedException));
-        }
-        match control.meaning() {
-            Meaning::Invalid => Ok(self.exception(port, INVALID_CONTROL)),
-            Meaning::Unsupported => Ok(self.exception(port, UNSUPPORTED_CONTROL)),
-            Meaning::StepHead => {
-                *self.head = next(*self.head, *self.setup.heads);
-                Ok(Answer::Status(Status::Normal))
-            }
-            Meaning::Write | Meaning::Read => Ok(self.open(port, control)),
-        }
-    }
-
-    #[inline(always)]
-    fn open(&mut self, port: Port, control: Control) -> Answer {
-        if control.is_at_target() {
-            if *self.target == NO_TARGET {
-                return self.exception(port, TARGET_MISSING);
-            }
-            *self.sector = *self.target;
-        }
-        let words = control.words(&self.setup);
-        if words == 0 {
-            return self.finish(Status::Normal);
-        }
-        *self.control = control.0.into();
-        Answer::Opened {
-            words,
-            place: self.place(),
-        }
-    }
-
-    #[inline(always)]
-    fn word_from_host(&mut self, port: Port, word: u16, medium: &mut Medium) -> Outcome {
-        self.require_selected(port)?;
-        let control = self.open_control();
-        if !control.is_write() {
-            return Err(Refusal::WrongMoment);
-        }
-        medium.staging[usize::from(*self.moved)] = word;
-        *self.moved += 1;
-        if *self.moved == *self.setup.header
-            && control.verifies_header()
-            && !self.header_matches(medium)
-        {
-            return Ok(self.finish(Status::HeaderMiscompare));
-        }
-        if *self.moved < control.words(&self.setup) {
-            return Ok(Answer::Accepted);
-        }
-        self.commit(control, medium);
-        Ok(self.finish(Status::Normal))
-    }
-
-    #[inline(always)]
-    fn header_matches(&self, medium: &Medium) -> bool {
-        let header = usize::from(*self.setup.header);
-        let first = self.setup.first_word(self.place());
-        medium.sectors[first..][..header] == medium.staging[..header]
-    }
-
-    /// Puts the staged words of a write into the sector, a verified header left out.
-    #[inline(always)]
-    fn commit(&self, control: Control, medium: &mut Medium) {
-        let sector = &mut medium.sectors[self.setup.first_word(self.place())..];
-        let staged = &medium.staging[..usize::from(*self.moved)];
-        let (header, fields) = staged.split_at((*self.setup.header).into());
-        if !control.verifies_header() {
-            sector[..header.len()].copy_from_slice(header);
-        }
-        let first = control.offset(&self.setup, *self.setup.header);
-        sector[first..][..fields.len()].copy_from_slice(fields);
-    }
-
-    #[inline(always)]
-    fn take(&mut self, port: Port, sectors: &[u16]) -> Outcome {
-        self.require_selected(port)?;
-        let control = self.open_control();
-        if !control.is_read() {
-            return Err(Refusal::WrongMoment);
-        }
-        let offset = control.offset(&self.setup, *self.moved);
-        let word = sectors[self.setup.first_word(self.place()) + offset];
-        *self.moved += 1;
-        if *self.moved < control.words(&self.setup) {
-            return Ok(Answer::Word(word));
-        }
-        self.finish(Status::Normal);
-        Ok(Answer::LastWord(word))
-    }
-
-    #[inline(always)]
-    fn end(&mut self, port: Port) -> Outcome {
-        self.require_selected(port)?;
-        if *self.control == 0 {
-            return Err(Refusal::WrongMoment);
-        }
-        Ok(self.finish(Status::Normal))
-    }
-
-    #[inline(always)]
     fn position(&mut self, port: Port, place: Place) -> Outcome {
         self.require_rest(port)?;
         if self.has_unsolicited(port) {
             return Ok(Answer::Status(Status::UnsolicitedException));
         }
         if !self.setup.contains(place) {
-            return Ok(self.exception(port, OUTSIDE_DRIVE));
+            return Ok(self.exception(port, INVALID_PARAMETER));
         }
         (*self.cylinder, *self.head, *self.sector) = (place.cylinder, place.head, place.sector);
         Ok(Answer::Status(Status::Normal))
@@ -316,7 +214,7 @@ impl Drive<'_> {
             return Ok(Answer::Status(Status::UnsolicitedException));
         }
         if target != NO_TARGET && target >= *self.setup.sectors {
-            return Ok(self.exception(port, OUTSIDE_DRIVE));
+            return Ok(self.exception(port, INVALID_PARAMETER));
         }
         *self.target = target;
         Ok(Answer::Status(Status::Normal))
@@ -336,7 +234,7 @@ impl Drive<'_> {
     }
 
     #[inline(always)]
-    fn require_selected(&self, port: Port) -> Result<(), Refusal> {
+    pub(super) fn require_selected(&self, port: Port) -> Result<(), Refusal> {
         if *self.selected == port as u16 {
             Ok(())
         } else {
@@ -346,7 +244,7 @@ impl Drive<'_> {
 
     /// The port is selected and no transfer is open.
     #[inline(always)]
-    fn require_rest(&self, port: Port) -> Result<(), Refusal> {
+    pub(super) fn require_rest(&self, port: Port) -> Result<(), Refusal> {
         self.require_selected(port)?;
         match *self.control {
             0 => Ok(()),
@@ -355,19 +253,14 @@ impl Drive<'_> {
     }
 
     #[inline(always)]
-    fn has_unsolicited(&self, port: Port) -> bool {
+    pub(super) fn has_unsolicited(&self, port: Port) -> bool {
         self.pending[port as usize] & UNSOLICITED != 0
     }
 
     #[inline(always)]
-    fn exception(&mut self, port: Port, bit: u16) -> Answer {
+    pub(super) fn exception(&mut self, port: Port, bit: u16) -> Answer {
         self.pending[port as usize] |= bit;
         Answer::Status(Status::OperationException)
-    }
-
-    #[inline(always)]
-    fn open_control(&self) -> Control {
-        Control(*self.control as u8)
     }
 
     #[inline(always)]
@@ -378,17 +271,9 @@ impl Drive<'_> {
             sector: *self.sector,
         }
     }
-
-    /// Ends a transfer inside its session.
-    #[inline(always)]
-    fn finish(&mut self, status: Status) -> Answer {
-        (*self.control, *self.moved) = (0, 0);
-        *self.sector = next(*self.sector, *self.setup.sectors);
-        Answer::Status(status)
-    }
 }
 
-fn next(number: u16, count: u16) -> u16 {
+pub(super) fn next(number: u16, count: u16) -> u16 {
     if number + 1 < count {
         number + 1
     } else {

@@ -6,10 +6,12 @@
 
 mod answer;
 mod capture;
+mod commands;
 mod control;
 mod drive;
 mod follower;
 mod setup;
+mod transfer;
 mod words;
 
 pub use capture::{capture, make_capture};

@@ -1,11 +1,12 @@
 //! The plain drive at the archive's boundary: state and answers as words in slices.
 
-use super::answer::{Answer, Refusal};
+use super::answer::{response_words, Answer, Refusal};
+use super::commands::Parameters;
 use super::control::{Control, Meaning};
 use super::drive::{Drive, Hold, Medium, Outcome, NOBODY, NO_TARGET, PENDING_BITS};
 use super::setup::{Place, Setup};
 
-pub const STATE_WORDS: usize = 18;
+pub const STATE_WORDS: usize = 21;
 pub const ANSWER_WORDS: usize = 13;
 pub const RECORD_OCTETS: usize = 8;
 
@@ -128,7 +129,7 @@ pub fn run(
 /// The drive whose parts are these words.
 #[inline(always)]
 fn drive_in(state: &mut State) -> Drive<'_> {
-    let [cylinders, heads, sectors, header, field1, field2, address, selected, owner, hold, cylinder, head, sector, target, control, moved, pending @ ..] =
+    let [cylinders, heads, sectors, header, field1, field2, address, selected, owner, hold, cylinder, head, sector, target, control, moved, pending @ .., cylinder_high, cylinder_low, parameter_head] =
         state;
     let setup = Setup {
         cylinders,
@@ -138,6 +139,11 @@ fn drive_in(state: &mut State) -> Drive<'_> {
         field1,
         field2,
         address,
+    };
+    let parameters = Parameters {
+        cylinder_high,
+        cylinder_low,
+        head: parameter_head,
     };
     Drive {
         setup,
@@ -151,6 +157,7 @@ fn drive_in(state: &mut State) -> Drive<'_> {
         control,
         moved,
         pending,
+        parameters,
     }
 }
 
@@ -190,9 +197,12 @@ fn is_transfer_sound(drive: &Drive) -> bool {
         return false;
     };
     let control = Control(octet);
-    matches!(control.meaning(), Meaning::Write | Meaning::Read)
-        && moved < control.words(&drive.setup)
-        && *drive.selected != NOBODY
+    let words = match control.meaning() {
+        Meaning::Write | Meaning::Read => control.words(&drive.setup),
+        // Of 0 words, so never few enough moved, where the control opens nothing.
+        _ => control.code_words(),
+    };
+    moved < words && *drive.selected != NOBODY
 }
 
 fn refused(refusal: Refusal) -> AnswerWords {
@@ -232,12 +242,9 @@ fn write_answer(answer: Answer, words: &mut AnswerWords) {
             words[6..8].copy_from_slice(&[1, word]);
         }
         Answer::Response(pending) => {
-            let [octet1, octet2] = pending.to_be_bytes();
-            let octet0 = u8::from(octet1 != 0) << 6 | u8::from(octet2 != 0) << 5;
             words[1] = 0;
             words[8] = 1;
-            words[9] = u16::from_be_bytes([octet0, octet1]);
-            words[10] = u16::from(octet2) << 8;
+            words[9..11].copy_from_slice(&response_words(pending));
         }
     }
 }

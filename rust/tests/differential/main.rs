@@ -3,10 +3,12 @@
 //!
 //! `PANTOGLIDE_EVENTS` sets the number of events, 100,000 where it is not set.
 
+mod codes;
 mod setups;
 mod tally;
 mod words;
 
+use pantoglide::raw::STATE_WORDS;
 use setups::{powered_up, Scale};
 use shared::random::Random;
 use shared::streams::{likely_event, record};
@@ -93,10 +95,13 @@ fn odd_state(random: &mut Random, pair: &mut Pair, tally: &mut Tally, scale: Sca
 /// A run of records, its slices now and then too short, its last record now and then not whole.
 fn run(random: &mut Random, pair: &mut Pair, tally: &mut Tally) {
     let mut alone = pair.copy_of_plain();
-    let mut records = Vec::new();
+    let (mut records, mut accepted) = (Vec::new(), Vec::new());
     for tick in 0..random.below(40) {
-        let event = likely_event(random, alone.state(), &alone.sectors);
-        alone.plain_event(event);
+        let before = *alone.state();
+        let event = likely_event(random, &before, &alone.sectors);
+        if alone.plain_event(event) == 0 {
+            accepted.push((before, event, alone.answers[1]));
+        }
         records.extend(record(tick as u16, event));
     }
     if random.one_in(8) {
@@ -108,6 +113,9 @@ fn run(random: &mut Random, pair: &mut Pair, tally: &mut Tally) {
     } else {
         pair.run(&records, Cut::default(), tally);
         pair.assert_drive_equals(&alone);
+        for (before, event, status) in &accepted {
+            tally.accepted_in_run(before, *event, *status);
+        }
     }
 }
 
@@ -134,12 +142,12 @@ fn sizes_over_32_bits_agree() {
     for [header, field1, field2] in [[0, 128, 0], [0, 1, 127], [8, 1024, 1016], [0, 1024, 1024]] {
         let numbers = [4096, 32, 256, header, field1, field2, 0];
         let (sectors, staging) = (vec![0; 4096], vec![0; 4096]);
-        let lengths = [sectors.len(), staging.len(), 18];
+        let lengths = [sectors.len(), staging.len(), STATE_WORDS];
         assert_eq!(
             words::power_up_pair(&mut random, &numbers, lengths),
             TOO_SHORT
         );
-        let mut state = vec![2; 18];
+        let mut state = vec![2; STATE_WORDS];
         state[..7].copy_from_slice(&numbers);
         state[9..].fill(0);
         let mut pair = Pair::new(&mut random, state, sectors, staging);

@@ -8,6 +8,7 @@ use pantoglide::raw::STATE_WORDS;
 const SETUP_LIMITS: [u16; 7] = [4096, 32, 256, 8, 1024, 1024, 7];
 const NO_TARGET: u16 = 0xFFFF;
 const PENDING_BITS: u16 = 0xC0F0;
+const LOAD_DRIVE_FUNCTION: u16 = 0x01;
 
 /// How big a drive is, which decides how many events it is worth.
 #[derive(Clone, Copy)]
@@ -119,12 +120,22 @@ pub fn disturbed_state(random: &mut Random, state: &[u16; STATE_WORDS]) -> [u16;
         let at = random.below(STATE_WORDS);
         disturbed[at] = match at {
             7..=9 => random.below(4) as u16,
-            14 if !random.one_in(3) => 0x80 + random.below(0x60) as u16,
+            14 if !random.one_in(3) => likely_control(random),
             15 if !random.one_in(3) => transfer_size(random, state),
             _ => edge(random, state, state[at]),
         };
     }
     disturbed
+}
+
+/// A control that opens a transfer more often than not: of data, or a code.
+fn likely_control(random: &mut Random) -> u16 {
+    const CODES: [u16; 8] = [0x01, 0x04, 0x05, 0x06, 0x07, 0x44, 0x46, 0x47];
+    match random.below(8) {
+        0 => random.below(0x80) as u16,
+        1 | 2 => random.pick(&CODES),
+        _ => 0x80 + random.below(0x60) as u16,
+    }
 }
 
 /// About as many words as some control moves in this set-up.
@@ -153,15 +164,17 @@ pub fn assembled_state(random: &mut Random, state: &[u16; STATE_WORDS]) -> [u16;
         0 => NO_TARGET,
         _ => random.below(usize::from(state[2])) as u16,
     };
-    (assembled[14], assembled[15]) = match random.below(3) {
+    (assembled[14], assembled[15]) = match random.below(6) {
         0 => (0, 0),
-        _ => (
-            0x80 + random.below(0x60) as u16,
-            transfer_size(random, state),
-        ),
+        1 | 2 => (LOAD_DRIVE_FUNCTION, 0),
+        3 => (likely_control(random), random.below(6) as u16),
+        _ => (likely_control(random), transfer_size(random, state)),
     };
-    for pending in &mut assembled[16..] {
+    for pending in &mut assembled[16..18] {
         *pending = random.word() & random.word() & PENDING_BITS;
+    }
+    for parameter in &mut assembled[18..] {
+        *parameter = random.word() >> random.pick(&[0, 12, 15]);
     }
     assembled
 }

@@ -1,5 +1,6 @@
 //! How often each behaviour occurred, so that a comparison that saw little is noticed.
 
+use crate::codes::Codes;
 use crate::shared::streams::EventOctets;
 use pantoglide::raw::{ABSENT, ANSWER_WORDS, STATE_WORDS};
 use std::collections::BTreeMap;
@@ -7,7 +8,7 @@ use std::fmt;
 
 const REFUSALS: [u16; 11] = [0, 1, 2, 3, 4, 5, 6, 7, 8, 10, 11];
 const STATUSES: [u16; 4] = [0x0, 0x7, 0x8, 0xC];
-const BEHAVIOURS: [&str; 10] = [
+const BEHAVIOURS: [&str; 20] = [
     "a write finished",
     "a verify went past its header",
     "a read finished",
@@ -18,6 +19,16 @@ const BEHAVIOURS: [&str; 10] = [
     "a takeover cut a transfer short",
     "a holder selected again",
     "a reset",
+    "a command was done",
+    "a command could not be done",
+    "a response was taken whole",
+    "a status was read by its code where others get C",
+    "a command or a response ended early",
+    "a takeover cut a command or a response short",
+    "a reset cut a command or a response short",
+    "a command had words before its last",
+    "a selection cleared parameter words handed in",
+    "an opening cleared parameter words handed in",
 ];
 
 #[derive(Default)]
@@ -28,6 +39,7 @@ pub struct Tally {
     behaviours: BTreeMap<&'static str, usize>,
     short_answers: BTreeMap<u8, usize>,
     runs: BTreeMap<u8, usize>,
+    codes: Codes,
 }
 
 impl Tally {
@@ -47,6 +59,7 @@ impl Tally {
         *self.refusals.entry(returned.into()).or_default() += 1;
         if returned == 0 {
             self.status(answer[1]);
+            self.codes.note(before, event, answer[1]);
             for behaviour in behaviours(before, event, answer) {
                 *self.behaviours.entry(behaviour).or_default() += 1;
             }
@@ -66,6 +79,17 @@ impl Tally {
             *self.refusals.entry(answer[0]).or_default() += 1;
             self.status(answer[1]);
         }
+    }
+
+    /// An accepted event of a run that did what single events do: the state before it, and the
+    /// status of its answer.
+    pub fn accepted_in_run(
+        &mut self,
+        before: &[u16; STATE_WORDS],
+        event: EventOctets,
+        status: u16,
+    ) {
+        self.codes.note(before, event, status);
     }
 
     fn status(&mut self, status: u16) {
@@ -91,6 +115,7 @@ impl Tally {
         for returned in [0, 8, 10] {
             assert!(self.runs.contains_key(&returned), "no run gave {returned}");
         }
+        self.codes.assert_all_occurred(self.events);
     }
 }
 
@@ -102,18 +127,31 @@ fn behaviours(
 ) -> Vec<&'static str> {
     let (owner, header, control, moved) = (before[8], before[3], before[14], before[15]);
     let (finished, opened) = (answer[1] == 0, answer[2] != ABSENT);
+    let (is_data, is_code) = (control >= 0x80, (1..0x80).contains(&control));
     let taken_over = kind == 1 && owner == 1 - u16::from(port);
+    let has_unsolicited = before[16 + usize::from(port)] > 0xFF;
+    let has_parameters = before[18..] != [0; 3];
     let shown = [
-        kind == 4 && finished,
-        kind == 4 && control & 0xC == 4 && moved + 1 == header && answer[1] != 7,
-        kind == 5 && finished,
-        kind == 6,
-        kind == 3 && opened && octet & 0xC == 0xC,
+        kind == 4 && is_data && finished,
+        kind == 4 && control & 0x8C == 0x84 && moved + 1 == header && answer[1] != 7,
+        kind == 5 && is_data && finished,
+        kind == 6 && is_data,
+        kind == 3 && opened && octet & 0x8C == 0x8C,
         kind == 3 && finished && octet != 0x90,
         taken_over,
-        taken_over && control != 0,
+        taken_over && is_data,
         kind == 1 && owner == u16::from(port),
         kind == 10,
+        kind == 4 && is_code && finished,
+        kind == 4 && is_code && answer[1] == 8,
+        kind == 5 && is_code && finished,
+        kind == 3 && octet == 0x44 && has_unsolicited,
+        kind == 6 && is_code,
+        taken_over && is_code,
+        kind == 10 && is_code,
+        kind == 4 && is_code && answer[1] == ABSENT,
+        kind == 1 && has_parameters && !is_code,
+        kind == 3 && opened && has_parameters,
     ];
     let named = BEHAVIOURS.into_iter().zip(shown);
     named
@@ -139,6 +177,6 @@ impl fmt::Display for Tally {
         for (behaviour, count) in &self.behaviours {
             writeln!(out, "{behaviour}: {count}")?;
         }
-        Ok(())
+        write!(out, "{}", self.codes)
     }
 }

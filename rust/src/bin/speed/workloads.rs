@@ -5,6 +5,9 @@ use crate::shared::random::Random;
 use crate::shared::streams::{likely_event, record, EventOctets};
 use crate::sides::Call;
 use crate::traces;
+use pantoglide::command::{
+    Function, LOAD_DRIVE_FUNCTION, LOAD_POSITION, READ_CURRENT_POSITION, READ_STATUS,
+};
 
 /// The number of cylinders of the big drives.
 const MANY_CYLINDERS: u16 = 4096;
@@ -54,6 +57,8 @@ fn events() -> Vec<Workload> {
         long_writes("eb 1,024-word writes, 4,096 cylinders", MANY_CYLINDERS),
         long_reads("ec 1,024-word reads, 4,096 cylinders", MANY_CYLINDERS),
         mixed("ed mixed, 4,096 cylinders", MANY_CYLINDERS),
+        commands("h  commands", 2),
+        commands("eh commands, 4,096 cylinders", MANY_CYLINDERS),
     ]
 }
 
@@ -109,6 +114,22 @@ fn mixed(name: &'static str, cylinders: u16) -> Workload {
     for _ in 0..16_384 {
         let event = drive.likely_event(&mut stream.random);
         stream.records.push(record(0, event));
+    }
+    stream.named(name)
+}
+
+/// Sessions that reserve the drive, load a position, read it back, read the status and release.
+fn commands(name: &'static str, cylinders: u16) -> Workload {
+    let mut stream = Stream::new(bench_drive(cylinders));
+    for _ in 0..200 {
+        stream.push(1, [(ADDRESS << 4) as u8, 0, 0, 0]);
+        stream.command(LOAD_DRIVE_FUNCTION, &[Function::Reserve.word()]);
+        let [cylinder, head, target] = stream.random_place();
+        stream.command(LOAD_POSITION, &[0, cylinder, head, target]);
+        stream.response(READ_CURRENT_POSITION, 5);
+        stream.response(READ_STATUS, 4);
+        stream.command(LOAD_DRIVE_FUNCTION, &[Function::Release.word()]);
+        stream.push(2, [0; 4]);
     }
     stream.named(name)
 }
@@ -212,12 +233,30 @@ impl Stream {
         self.records.push(record(0, [0, kind, a0, a1, a2, a3]));
     }
 
-    /// To a random place in the drive.
+    /// Cylinder, head and sector of a random place in the drive.
+    fn random_place(&mut self) -> [u16; 3] {
+        [0, 1, 2].map(|at| self.random.below(self.words.state[at].into()) as u16)
+    }
+
     fn position(&mut self) {
-        let mut below = |at: usize| self.random.below(self.words.state[at].into());
-        let (cylinder, head, sector) = (below(0), below(1), below(2));
-        let [high, low] = (cylinder as u16).to_be_bytes();
+        let [cylinder, head, sector] = self.random_place();
+        let [high, low] = cylinder.to_be_bytes();
         self.push(7, [high, low, head as u8, sector as u8]);
+    }
+
+    fn command(&mut self, code: u8, words: &[u16]) {
+        self.push(3, [code, 0, 0, 0]);
+        for word in words {
+            let [high, low] = word.to_be_bytes();
+            self.push(4, [high, low, 0, 0]);
+        }
+    }
+
+    fn response(&mut self, code: u8, words: usize) {
+        self.push(3, [code, 0, 0, 0]);
+        for _ in 0..words {
+            self.push(5, [0; 4]);
+        }
     }
 
     fn words_from_host(&mut self, count: usize) {
