@@ -11,8 +11,11 @@ use lib.ListN.{length, getD, set, length-set}
 use Rattle.laws.specs.Pick.{pick}
 use Rattle.laws.specs.Rows.{first, _when_}
 use Rattle.parts.specs.Setup.{withinLimits, sectorStart, sectorAt, isPlace}
-use Rattle.parts.specs.Control.{isData, wordsToCome, wordsRead}
-use Rattle.parts.specs.Tests.{movedOn}
+use Rattle.parts.specs.declared.transfer.Transfer.{Transfer}
+use Rattle.parts.proofs.ByBits.{writes-take}
+use Rattle.laws.proofs.Tests.{and-l, and-r}
+use Rattle.parts.specs.Control.{controlOf, isWrite, isData, wordsToCome, wordsRead}
+use Rattle.parts.specs.Tests.{movedOn, isTaking}
 use Rattle.parts.specs.declared.setup.Setup.{Setup}
 use Rattle.parts.specs.declared.setup.Place.{Place}
 use Rattle.drive.specs.Able.{Able, Room, ReadsAt}
@@ -24,7 +27,7 @@ use Rattle.drive.specs.Transfer.{miscompares, committed, staged, wordTaken}
 use Rattle.drive.specs.declared.drive.Drive.{Drive}
 use Rattle.drive.specs.declared.answer.Answer.the-variants.{Done, Status, Word, LastWord}
 use Rattle.parts.proofs.Bounds.{limits, words-few, words-within}
-use Rattle.drive.proofs.Own.{timely}
+use Rattle.drive.proofs.Own.{able-to-write}
 use Rattle.drive.proofs.Reading.{read-in-place}
 use Rattle.drive.proofs.Sound.{sound, room}
 use Rattle.events.specs.State.{driveIn}
@@ -46,6 +49,16 @@ moved-word : (state : List ℕ) → driveIn state .transfer .moved ≡ getD stat
 unfolding driveIn
 moved-word state = refl
 
+-- an open write takes words, and they are data
+pub record Written (t : Transfer) : Type 0 where
+  pub takes : isTaking t ≡ true
+  pub high : isData (t .control) ≡ true
+
+pub written : {t : Transfer} {c : ℕ} → c ≡ t .control → isWrite (controlOf c) ≡ true → Written t
+written {t} e w =
+    let both = sym (writes-take (t .control)) ∙ rw e at w in
+    record { takes = and-l (isTaking t) (isData (t .control)) both; high = and-r (isTaking t) (isData (t .control)) both }
+
 -- the words moved are fewer than a sector has, and staging holds a sector
 pub record Moving (state staging : List ℕ) : Type 0 where
   pub few : getD state 15 0 < 2056
@@ -60,10 +73,11 @@ moving {state} {sectors} {staging} a high =
     let n = moved-word state in
     record { few = omega (arith, a .moved); inside = omega (arith, a .moved) }
 
--- no refusal, so the work came at its time
-pub on-time : (misformed unselected : Bool) {bits opened : Bool} {n : ℕ} → n ≡ first (8 when misformed ∷ 2 when unselected ∷ 7 when not bits ∷ []) → n ≡ 0
-    → bits ≡ opened → opened ≡ true
-on-time misformed unselected {bits} e z t = sym t ∙ not-false bits (timely misformed unselected (not bits) (sym e ∙ z))
+pub write-moving : {state sectors staging : List ℕ} {c : ℕ} → Fits state sectors staging → c ≡ driveIn state .transfer .control → isWrite (controlOf c) ≡ true
+    → Moving state staging
+write-moving {state} f e w =
+    let t = written {t = driveIn state .transfer} e w in
+    moving (able-to-write (f .passable) (t .takes)) (t .high)
 
 -- row 10 looks at the length of staging alone
 pub staging-set : {state sectors staging : List ℕ} (i word : ℕ) → Fits state sectors staging → Fits state sectors (set staging i word)

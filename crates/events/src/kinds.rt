@@ -51,7 +51,7 @@ pub(crate) fn on_deselect(state: &mut [u16], event: Event) -> Answer
     ensures { λ r. ⌜ Did (now (state .entry)) (unlessOwnRow Kind.Deselect (driveIn (now (state .entry))) event (told Answer.Done (deselected (driveIn (now (state .entry)))))) r (now (state .exit)) ⌝ }
 {
     let formed = parts::none_at_all(event);
-    let n = timing::refusal(&state[..], event.port, formed, timing::NONE_OPEN);
+    let n = timing::refusal(&state[..], event.port, formed);
     if n != 0 {
         return Answer::Refused(n);
     }
@@ -96,7 +96,7 @@ pub(crate) fn on_data_control(state: &mut [u16], event: Event) -> Answer
     ensures { λ r. ⌜ Did (now (state .entry)) (unlessOwnRow (Kind.Use Work.DataControl) (driveIn (now (state .entry))) event (dataControl (driveIn (now (state .entry))) (event .port) (event .a0))) r (now (state .exit)) ⌝ }
 {
     let formed = parts::none_after_1(event);
-    let n = timing::refusal(&state[..], event.port, formed, timing::NONE_OPEN);
+    let n = timing::refusal(&state[..], event.port, formed);
     if n != 0 {
         return Answer::Refused(n);
     }
@@ -107,7 +107,7 @@ pub(crate) fn on_position(state: &mut [u16], event: Event) -> Answer
     requires { ⌜ Fit (now state) × (event .port ≤ 1) ⌝ }
     ensures { λ r. ⌜ Did (now (state .entry)) (unlessOwnRow (Kind.Use Work.Position) (driveIn (now (state .entry))) event (positioned (driveIn (now (state .entry))) (event .port) (placeOf event))) r (now (state .exit)) ⌝ }
 {
-    let n = timing::refusal(&state[..], event.port, true, timing::NONE_OPEN);
+    let n = timing::refusal(&state[..], event.port, true);
     if n != 0 {
         return Answer::Refused(n);
     }
@@ -124,7 +124,7 @@ pub(crate) fn on_target(state: &mut [u16], event: Event) -> Answer
     ensures { λ r. ⌜ Did (now (state .entry)) (unlessOwnRow (Kind.Use Work.Target) (driveIn (now (state .entry))) event (targeted (driveIn (now (state .entry))) (event .port) (wordOf event))) r (now (state .exit)) ⌝ }
 {
     let formed = parts::none_after_2(event);
-    let n = timing::refusal(&state[..], event.port, formed, timing::NONE_OPEN);
+    let n = timing::refusal(&state[..], event.port, formed);
     if n != 0 {
         return Answer::Refused(n);
     }
@@ -136,7 +136,7 @@ pub(crate) fn on_read_status(state: &mut [u16], event: Event) -> Answer
     ensures { λ r. ⌜ Did (now (state .entry)) (unlessOwnRow (Kind.Use Work.ReadStatus) (driveIn (now (state .entry))) event (statusRead (driveIn (now (state .entry))) (event .port))) r (now (state .exit)) ⌝ }
 {
     let formed = parts::none_at_all(event);
-    let n = timing::refusal(&state[..], event.port, formed, timing::NONE_OPEN);
+    let n = timing::refusal(&state[..], event.port, formed);
     if n != 0 {
         return Answer::Refused(n);
     }

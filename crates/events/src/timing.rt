@@ -7,29 +7,21 @@ ghost use lib.Dec.{eqb};
 ghost use Rattle.laws.specs.Rows.{first, _when_};
 ghost use Rattle.parts.specs.Tests.{isTaking, isGiving};
 ghost use Rattle.events.specs.State.{driveIn};
-ghost use Rattle.events.specs.Open.{whatIsOpen};
 ghost use Rattle.events.specs.Fit.{Fit};
 
-// What is open: of what is, bit 6 of the control tells words to the host from words of the host.
-pub(crate) const NONE_OPEN: u16 = 0;
+// What is open, by the upper two bits of its control: bit 7 tells data from codes, bit 6 words to the host from words of the host. Control 0 is none.
+pub(crate) const COMMAND: u16 = 0;
 
-pub(crate) const TAKES_WORDS: u16 = 1;
+pub(crate) const RESPONSE: u16 = 1;
 
-pub(crate) const GIVES_WORDS: u16 = 2;
+pub(crate) const WRITE: u16 = 2;
 
-fn what_is_open(control: u16) -> u16
-    ensures { λ r. ⌜ r ≡ whatIsOpen control ⌝ }
-{
-    if control == 0 {
-        return NONE_OPEN;
-    }
-    TAKES_WORDS + control / 64 % 2
-}
+pub(crate) const READ: u16 = 3;
 
-// The refusal of an event that asks for its port selected and just this open, else 0. A word is read where the tests before it let the event pass.
-pub(crate) fn refusal(state: &[u16], port: u8, formed: bool, wanted: u16) -> u8
+// The refusal of an event that asks for its port selected and nothing open, else 0. A word is read where the tests before it let the event pass.
+pub(crate) fn refusal(state: &[u16], port: u8, formed: bool) -> u8
     requires { ⌜ Fit (now state) ⌝ }
-    ensures { λ r. ⌜ r ≡ first (8 when not formed ∷ 2 when not (eqb (driveIn (now (state .entry)) .holding .selected) port) ∷ 7 when not (eqb (whatIsOpen (driveIn (now (state .entry)) .transfer .control)) wanted) ∷ []) ⌝ }
+    ensures { λ r. ⌜ r ≡ first (8 when not formed ∷ 2 when not (eqb (driveIn (now (state .entry)) .holding .selected) port) ∷ 7 when not (eqb (driveIn (now (state .entry)) .transfer .control) 0) ∷ []) ⌝ }
 {
     if !formed {
         return parts::MALFORMED;
@@ -37,8 +29,22 @@ pub(crate) fn refusal(state: &[u16], port: u8, formed: bool, wanted: u16) -> u8
     if !is_selected(state, port) {
         return parts::NOT_SELECTED;
     }
-    if what_is_open(state[layout::CONTROL]) != wanted {
+    if state[layout::CONTROL] != 0 {
         return parts::TRANSFER_OPEN_OR_NOT;
+    }
+    0
+}
+
+// The refusal of an event that asks for its port selected, else 0.
+pub(crate) fn stranger(state: &[u16], port: u8, formed: bool) -> u8
+    requires { ⌜ Fit (now state) ⌝ }
+    ensures { λ r. ⌜ r ≡ first (8 when not formed ∷ 2 when not (eqb (driveIn (now (state .entry)) .holding .selected) port) ∷ []) ⌝ }
+{
+    if !formed {
+        return parts::MALFORMED;
+    }
+    if !is_selected(state, port) {
+        return parts::NOT_SELECTED;
     }
     0
 }

@@ -18,7 +18,7 @@ ghost use mathlib.Core.Bool.{true};
 ghost use Rattle.parts.specs.Setup.{sectorStart};
 ghost use Rattle.parts.specs.Control.{controlOf, isWrite, isData, dataWords};
 ghost use Rattle.parts.specs.Kind.{Kind, Work, wordOf};
-ghost use Rattle.drive.specs.Transfer.{miscompares, committed, staged, wordTaken};
+ghost use Rattle.drive.specs.Transfer.{miscompares, committed, staged, wordStaged, wordTaken};
 ghost use Rattle.drive.specs.Command.{wordFromHost, wordToHost};
 ghost use Rattle.drive.specs.Able.{Able, Room, ReadsAt, unlessOwnRow, unlessOwnRowIn};
 ghost use Rattle.events.specs.State.{driveIn};
@@ -27,7 +27,6 @@ ghost use Rattle.events.specs.Copy.{fielded, Within};
 
 // ---- words from the host
 
-// Word k of a write is staged at index k.
 pub(crate) fn on_word_from_host(
     state: &mut [u16],
     event: Event,
@@ -37,17 +36,34 @@ pub(crate) fn on_word_from_host(
     requires { ⌜ Fits (now state) (now sectors) (now staging) × (event .port ≤ 1) ⌝ }
     ensures { λ r. ⌜ DidIn (now (state .entry)) (unlessOwnRowIn (Kind.Use Work.WordFromHost) (driveIn (now (state .entry))) event (now (sectors .entry)) (now (staging .entry)) (wordFromHost (driveIn (now (state .entry))) (event .port) (wordOf event) (now (sectors .entry)) (now (staging .entry)))) r (now (state .exit)) (now (sectors .exit)) (now (staging .exit)) ⌝ }
 {
-    let formed = parts::none_after_2(event);
-    let n = timing::refusal(&state[..], event.port, formed, timing::TAKES_WORDS);
+    let n = timing::stranger(&state[..], event.port, parts::none_after_2(event));
     if n != 0 {
         return Answer::Refused(n);
     }
     let control = state[layout::CONTROL];
-    if !parts::is_data(control) {
-        return command::send(state, event.port, parts::word_of(event));
+    let word = parts::word_of(event);
+    if control / 64 == timing::WRITE {
+        return stage(state, control, word, sectors, staging);
     }
+    if (control / 64 != timing::COMMAND) | (control == 0) {
+        return Answer::Refused(parts::TRANSFER_OPEN_OR_NOT);
+    }
+    command::send(state, event.port, word)
+}
+
+// Word k of a write is staged at index k.
+fn stage(
+    state: &mut [u16],
+    control: u16,
+    word: u16,
+    sectors: &mut [u16],
+    staging: &mut [u16],
+) -> Answer
+    requires { ⌜ Fits (now state) (now sectors) (now staging) × (control ≡ driveIn (now state) .transfer .control) × (isWrite (controlOf control) ≡ true) ⌝ }
+    ensures { λ r. ⌜ DidIn (now (state .entry)) (wordStaged (driveIn (now (state .entry))) word (now (sectors .entry)) (now (staging .entry))) r (now (state .exit)) (now (sectors .exit)) (now (staging .exit)) ⌝ }
+{
     let moved = state[layout::MOVED] as usize;
-    staging[moved] = parts::word_of(event);
+    staging[moved] = word;
     after_word(state, control, moved + 1, sectors, &staging[..])
 }
 
@@ -152,15 +168,18 @@ pub(crate) fn on_take_word(
     requires { ⌜ Fits (now state) (now sectors) (now staging) × (event .port ≤ 1) ⌝ }
     ensures { λ r. ⌜ Did (now (state .entry)) (unlessOwnRow (Kind.Use Work.TakeWord) (driveIn (now (state .entry))) event (wordToHost (driveIn (now (state .entry))) (event .port) (now (sectors .entry)))) r (now (state .exit)) ⌝ }
 {
-    let formed = parts::none_at_all(event);
-    let n = timing::refusal(&state[..], event.port, formed, timing::GIVES_WORDS);
+    let n = timing::stranger(&state[..], event.port, parts::none_at_all(event));
     if n != 0 {
         return Answer::Refused(n);
     }
-    if !parts::is_data(state[layout::CONTROL]) {
-        return command::respond(state, event.port);
+    let control = state[layout::CONTROL];
+    if control / 64 == timing::READ {
+        return take(state, sectors, staging);
     }
-    take(state, sectors, staging)
+    if control / 64 != timing::RESPONSE {
+        return Answer::Refused(parts::TRANSFER_OPEN_OR_NOT);
+    }
+    command::respond(state, event.port)
 }
 
 fn take(state: &mut [u16], sectors: &[u16], staging: &[u16]) -> Answer

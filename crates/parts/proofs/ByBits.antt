@@ -99,27 +99,45 @@ codes-in-place c low opens =
     let test : ℕ → Bool = λ n. not (takesWords (controlOf n) || givesWords (controlOf n)) || not (isAtTarget n) in
     not-true (isAtTarget c) (rw opens at (every-below 128 test refl c (leb-false 0x80 c low)))
 
--- bit 6 of what opens: "When this bit is set, the information transfer will be directed to the controller."
-opens-as : ℕ → Bool
-opens-as c = agree (givesWords (controlOf c)) (eqb (c / 64 % 2) 1) && agree (takesWords (controlOf c)) (eqb (c / 64 % 2) 0)
+-- what the upper two bits say of control 0 and of a control that opens: bit 7 tells data from codes, and bit 6 words to the host from words of the host
+pub record UpperBits (c : ℕ) : Type 0 where
+  pub write : eqb (c / 64) 2 ≡ isWrite (controlOf c)
+  pub read : eqb (c / 64) 3 ≡ isRead (controlOf c)
+  pub command : (eqb (c / 64) 0 && not (eqb c 0)) ≡ (takesWords (controlOf c) && not (isData c))
+  pub response : eqb (c / 64) 1 ≡ (givesWords (controlOf c) && not (isData c))
+  pub one : not (eqb c 0) ≡ (takesWords (controlOf c) || givesWords (controlOf c))
 
-by-bit-6 : (c : ℕ) → (takesWords (controlOf c) || givesWords (controlOf c)) ≡ true → opens-as c ≡ true
-unfolding opens-as controlOf codeOf pick agree
-by-bit-6 c opens = by-size (ltb c 256) refl
+bits-agree : ℕ → Bool
+bits-agree c =
+    agree (eqb (c / 64) 2) (isWrite (controlOf c))
+    && agree (eqb (c / 64) 3) (isRead (controlOf c))
+    && agree (eqb (c / 64) 0 && not (eqb c 0)) (takesWords (controlOf c) && not (isData c))
+    && agree (eqb (c / 64) 1) (givesWords (controlOf c) && not (isData c))
+    && agree (not (eqb c 0)) (takesWords (controlOf c) || givesWords (controlOf c))
+
+all-agree : (c : ℕ) → (eqb c 0 || (takesWords (controlOf c) || givesWords (controlOf c))) ≡ true → bits-agree c ≡ true
+unfolding bits-agree controlOf codeOf pick agree
+all-agree c opens = by-size (ltb c 256) refl
   where
-    by-size : (small : Bool) → ltb c 256 ≡ small → opens-as c ≡ true
+    by-size : (small : Bool) → ltb c 256 ≡ small → bits-agree c ≡ true
     by-size true e =
-        let test : ℕ → Bool = λ n. not (takesWords (controlOf n) || givesWords (controlOf n)) || opens-as n in
+        let test : ℕ → Bool = λ n. not (eqb n 0 || (takesWords (controlOf n) || givesWords (controlOf n))) || bits-agree n in
         rw opens at (every-below 256 test refl c (ltb-true c 256 e))
-    by-size false e = absurd (true≢false (sym opens ∙ rw (invalid-beyond c (ltb-false c 256 e))))
+    by-size false e =
+        let h = ltb-false c 256 e in
+        absurd (true≢false (sym opens ∙ rw (ne-eqb c 0 (λ z. omega arith), invalid-beyond c h)))
 
-pub gives-by-bit-6 : (c : ℕ) → (takesWords (controlOf c) || givesWords (controlOf c)) ≡ true → givesWords (controlOf c) ≡ eqb (c / 64 % 2) 1
-unfolding opens-as
-gives-by-bit-6 c opens = agreed (givesWords (controlOf c)) (eqb (c / 64 % 2) 1) (and-l _ (agree (takesWords (controlOf c)) (eqb (c / 64 % 2) 0)) (by-bit-6 c opens))
-
-pub takes-by-bit-6 : (c : ℕ) → (takesWords (controlOf c) || givesWords (controlOf c)) ≡ true → takesWords (controlOf c) ≡ eqb (c / 64 % 2) 0
-unfolding opens-as
-takes-by-bit-6 c opens = agreed (takesWords (controlOf c)) (eqb (c / 64 % 2) 0) (and-r (agree (givesWords (controlOf c)) (eqb (c / 64 % 2) 1)) _ (by-bit-6 c opens))
+pub upper-bits : (c : ℕ) → (eqb c 0 || (takesWords (controlOf c) || givesWords (controlOf c))) ≡ true → UpperBits c
+unfolding bits-agree
+upper-bits c opens =
+    let all = all-agree c opens in
+    record {
+      write = agreed _ _ (search (and-l, and-r) depth 9);
+      read = agreed _ _ (search (and-l, and-r) depth 9);
+      command = agreed _ _ (search (and-l, and-r) depth 9);
+      response = agreed _ _ (search (and-l, and-r) depth 9);
+      one = agreed _ _ (search (and-l, and-r) depth 9);
+    }
 
 -- a command has four words at most
 pub commands-few : (c : ℕ) → isData c ≡ false → takesWords (controlOf c) ≡ true → leb (parameterWords c) 4 ≡ true

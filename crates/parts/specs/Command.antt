@@ -80,12 +80,12 @@ functionsActingOnMore =
 
 unfoldable pub functionOf : ℕ → Function
 functionOf code =
-    pick (oneOf functionsActingOnMore code) ActsOnMore
-    (pick (eqb code 0x13) PriorityReserve
+    pick (eqb code 0x13) PriorityReserve
     (pick (eqb code 0x14) Reserve
     (pick (eqb code 0x15) Release
     (pick (eqb code 0x20) NoOperation
-    (pick (eqb code 0x28) Recalibrate NotListed)))))
+    (pick (eqb code 0x28) Recalibrate
+    (pick (oneOf functionsActingOnMore code) ActsOnMore NotListed)))))
 
 -- "The function code is carried in both octets of the 2 octets transmitted to the drive. If the 2 octets are not the same, the Command is rejected as
 -- containing an illegal parameter." So is one that is not listed.

@@ -1,8 +1,12 @@
 // Commands and responses: their codes, the words of each, and the functions of code 01.
 use crate::control::Control;
+ghost use Prim.Native.Nat.{_<_, _≤_};
 ghost use mathlib.Core.Path.{_≡_};
 ghost use Rattle.laws.specs.Lists.{oneOf};
 ghost use Rattle.parts.specs.Command.{commands, responses, codesActingOnMore, codeOf, parameterWords, functionsActingOnMore, functionOf, FunctionSaid};
+
+// Commands are below it.
+const FIRST_RESPONSE: u16 = 0x40;
 
 // What the word of Load Drive Function asks for.
 pub enum Function {
@@ -59,12 +63,32 @@ fn acts_on_more(code: u16) -> bool
 pub fn parameter_words(code: u16) -> u16
     ensures { λ r. ⌜ r ≡ parameterWords code ⌝ }
 {
+    if code < FIRST_RESPONSE {
+        return command_words(code);
+    }
+    response_words(code)
+}
+
+// Two dense tables: of one the compiler makes a call.
+fn command_words(code: u16) -> u16
+    requires { ⌜ code < 0x40 ⌝ }
+    ensures { λ r. ⌜ r ≡ parameterWords code ⌝ }
+{
     match code {
         0x01 => 1,
         0x04 => 2,
         0x05 => 1,
         0x06 => 1,
         0x07 => 4,
+        _ => 0,
+    }
+}
+
+fn response_words(code: u16) -> u16
+    requires { ⌜ 0x40 ≤ code ⌝ }
+    ensures { λ r. ⌜ r ≡ parameterWords code ⌝ }
+{
+    match code {
         0x44 => 4,
         0x46 => 1,
         0x47 => 5,
@@ -85,16 +109,18 @@ pub fn function_of(word: u16) -> Function
 fn listed_as(code: u16) -> Function
     ensures { λ r. ⌜ r ≡ functionOf code ⌝ }
 {
-    if function_acts_on_more(code) {
-        return Function::ActsOnMore;
-    }
     match code {
         0x13 => Function::PriorityReserve,
         0x14 => Function::Reserve,
         0x15 => Function::Release,
         0x20 => Function::NoOperation,
         0x28 => Function::Recalibrate,
-        _ => Function::NotListed,
+        _ => {
+            if function_acts_on_more(code) {
+                return Function::ActsOnMore;
+            }
+            Function::NotListed
+        }
     }
 }
 

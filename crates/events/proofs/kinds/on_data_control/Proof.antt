@@ -21,7 +21,7 @@ returns c =
     let after-refusal : tie.After-refusal = search in
     let after-none-after-1 : tie.After-none-after-1 = search in
     let start : tie.Start = search in
-    did-refused (Use DataControl) _ _ _ _ (start .pre .0) (number-as _ (after-refusal .refusal .ensures) (after-none-after-1 .none-after-1 .ensures) (timely-told (start .pre .0) .none)) (c .if1 .taken)
+    did-refused (Use DataControl) _ _ _ _ (start .pre .0) (number-as _ (after-refusal .refusal .ensures) (after-none-after-1 .none-after-1 .ensures) (timely-told (start .pre .0) .one)) (c .if1 .taken)
 
 cast-ask : tie.Need-cast-ask
 cast-ask c = search needs
@@ -39,7 +39,7 @@ returns-2 c =
     let after-refusal : tie.After-refusal = search in
     let after-none-after-1 : tie.After-none-after-1 = search in
     let start : tie.Start = search in
-    did-accepted (Use DataControl) _ _ _ _ (number-as _ (after-refusal .refusal .ensures) (after-none-after-1 .none-after-1 .ensures) (timely-told (start .pre .0) .none)) (else1 .if1 .left) (after-ask .ask .ensures)
+    did-accepted (Use DataControl) _ _ _ _ (number-as _ (after-refusal .refusal .ensures) (after-none-after-1 .none-after-1 .ensures) (timely-told (start .pre .0) .one)) (else1 .if1 .left) (after-ask .ask .ensures)
 
 pub on-data-control-spec : {M : Type 1} → statement M
 on-data-control-spec =

@@ -22,7 +22,7 @@ returns c =
     let after-refusal : tie.After-refusal = search in
     let after-none-at-all : tie.After-none-at-all = search in
     let start : tie.Start = search in
-    did-refused Deselect _ _ _ _ (start .pre) (number-as _ (after-refusal .refusal .ensures) (after-none-at-all .none-at-all .ensures) (timely-told (start .pre) .none)) (c .if1 .taken)
+    did-refused Deselect _ _ _ _ (start .pre) (number-as _ (after-refusal .refusal .ensures) (after-none-at-all .none-at-all .ensures) (timely-told (start .pre) .one)) (c .if1 .taken)
 
 drive-in-requires : tie.Need-drive-in-requires
 drive-in-requires c κs = search needs
@@ -47,7 +47,7 @@ returns-2 c =
     let after-refusal : tie.After-refusal = search in
     let after-none-at-all : tie.After-none-at-all = search in
     let start : tie.Start = search in
-    did-accepted Deselect _ _ _ _ (number-as _ (after-refusal .refusal .ensures) (after-none-at-all .none-at-all .ensures) (timely-told (start .pre) .none)) (else1 .if1 .left) (record { answer = refl; state = after-put-moved .put-moved .ensures ∙ rw (after-deselect .deselect .ensures, after-drive-in .drive-in .ensures) })
+    did-accepted Deselect _ _ _ _ (number-as _ (after-refusal .refusal .ensures) (after-none-at-all .none-at-all .ensures) (timely-told (start .pre) .one)) (else1 .if1 .left) (record { answer = refl; state = after-put-moved .put-moved .ensures ∙ rw (after-deselect .deselect .ensures, after-drive-in .drive-in .ensures) })
 
 pub on-deselect-spec : {M : Type 1} → statement M
 on-deselect-spec =

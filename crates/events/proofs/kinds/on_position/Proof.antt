@@ -19,7 +19,7 @@ returns : tie.Need-returns
 returns c =
     let after-refusal : tie.After-refusal = search in
     let start : tie.Start = search in
-    did-refused (Use Position) _ _ _ _ (start .pre .0) (number-as _ {formed = true} (after-refusal .refusal .ensures) refl (timely-told (start .pre .0) .none)) (c .if1 .taken)
+    did-refused (Use Position) _ _ _ _ (start .pre .0) (number-as _ {formed = true} (after-refusal .refusal .ensures) refl (timely-told (start .pre .0) .one)) (c .if1 .taken)
 
 word-of-requires : tie.Need-word-of-requires
 word-of-requires c κs = search needs
@@ -43,7 +43,7 @@ returns-2 c =
     let else1 : tie.Else1 = search in
     let after-refusal : tie.After-refusal = search in
     let start : tie.Start = search in
-    did-accepted (Use Position) _ _ _ _ (number-as _ {formed = true} (after-refusal .refusal .ensures) refl (timely-told (start .pre .0) .none)) (else1 .if1 .left) (rw (after-word-of .word-of .ensures) at (after-move-to .move-to .ensures))
+    did-accepted (Use Position) _ _ _ _ (number-as _ {formed = true} (after-refusal .refusal .ensures) refl (timely-told (start .pre .0) .one)) (else1 .if1 .left) (rw (after-word-of .word-of .ensures) at (after-move-to .move-to .ensures))
 
 pub on-position-spec : {M : Type 1} → statement M
 on-position-spec =

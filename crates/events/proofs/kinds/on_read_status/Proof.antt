@@ -21,7 +21,7 @@ returns c =
     let after-refusal : tie.After-refusal = search in
     let after-none-at-all : tie.After-none-at-all = search in
     let start : tie.Start = search in
-    did-refused (Use ReadStatus) _ _ _ _ (start .pre .0) (number-as _ (after-refusal .refusal .ensures) (after-none-at-all .none-at-all .ensures) (timely-told (start .pre .0) .none)) (c .if1 .taken)
+    did-refused (Use ReadStatus) _ _ _ _ (start .pre .0) (number-as _ (after-refusal .refusal .ensures) (after-none-at-all .none-at-all .ensures) (timely-told (start .pre .0) .one)) (c .if1 .taken)
 
 tell-status-requires : tie.Need-tell-status-requires
 tell-status-requires c κs = search needs
@@ -36,7 +36,7 @@ returns-2 c =
     let after-refusal : tie.After-refusal = search in
     let after-none-at-all : tie.After-none-at-all = search in
     let start : tie.Start = search in
-    did-accepted (Use ReadStatus) _ _ _ _ (number-as _ (after-refusal .refusal .ensures) (after-none-at-all .none-at-all .ensures) (timely-told (start .pre .0) .none)) (else1 .if1 .left) (after-tell-status .tell-status .ensures)
+    did-accepted (Use ReadStatus) _ _ _ _ (number-as _ (after-refusal .refusal .ensures) (after-none-at-all .none-at-all .ensures) (timely-told (start .pre .0) .one)) (else1 .if1 .left) (after-tell-status .tell-status .ensures)
 
 pub on-read-status-spec : {M : Type 1} → statement M
 on-read-status-spec =

@@ -21,7 +21,7 @@ returns c =
     let after-refusal : tie.After-refusal = search in
     let after-none-after-2 : tie.After-none-after-2 = search in
     let start : tie.Start = search in
-    did-refused (Use Target) _ _ _ _ (start .pre .0) (number-as _ (after-refusal .refusal .ensures) (after-none-after-2 .none-after-2 .ensures) (timely-told (start .pre .0) .none)) (c .if1 .taken)
+    did-refused (Use Target) _ _ _ _ (start .pre .0) (number-as _ (after-refusal .refusal .ensures) (after-none-after-2 .none-after-2 .ensures) (timely-told (start .pre .0) .one)) (c .if1 .taken)
 
 word-of-requires : tie.Need-word-of-requires
 word-of-requires c κs = search needs
@@ -40,7 +40,7 @@ returns-2 c =
     let after-refusal : tie.After-refusal = search in
     let after-none-after-2 : tie.After-none-after-2 = search in
     let start : tie.Start = search in
-    did-accepted (Use Target) _ _ _ _ (number-as _ (after-refusal .refusal .ensures) (after-none-after-2 .none-after-2 .ensures) (timely-told (start .pre .0) .none)) (else1 .if1 .left) (rw (after-word-of .word-of .ensures) at (after-aim-at .aim-at .ensures))
+    did-accepted (Use Target) _ _ _ _ (number-as _ (after-refusal .refusal .ensures) (after-none-after-2 .none-after-2 .ensures) (timely-told (start .pre .0) .one)) (else1 .if1 .left) (rw (after-word-of .word-of .ensures) at (after-aim-at .aim-at .ensures))
 
 pub on-target-spec : {M : Type 1} → statement M
 on-target-spec =

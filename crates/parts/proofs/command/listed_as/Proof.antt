@@ -13,7 +13,11 @@ function-acts-on-more-requires c κs = search needs
 
 returns : tie.Need-returns
 unfolding functionOf pick
-returns c = rw (sym (c .before .function-acts-on-more .ensures) ∙ c .if1 .taken)
+returns c = 
+    let rest : tie.At-match-rest = search in
+    let more : tie.After-function-acts-on-more = search in
+    let none = rest .match .rest in
+    rw (ne-eqb _ 0x13 (none .0 .0 .0 .0 .1), ne-eqb _ 0x14 (none .0 .0 .0 .1), ne-eqb _ 0x15 (none .0 .0 .1), ne-eqb _ 0x20 (none .0 .1), ne-eqb _ 0x28 (none .1), sym (more .function-acts-on-more .ensures) ∙ c .if1 .taken)
 
 returns-2 : tie.Need-returns-2
 unfolding functionOf pick
@@ -37,8 +41,11 @@ returns-6 c = rw (c .match .keys5)
 
 returns-7 : tie.Need-returns-7
 unfolding functionOf pick
-returns-7 c =
-    rw (sym (c .before .before .function-acts-on-more .ensures) ∙ c .before .if1 .left, ne-eqb _ 0x13 (c .match .rest .0 .0 .0 .0 .1), ne-eqb _ 0x14 (c .match .rest .0 .0 .0 .1), ne-eqb _ 0x15 (c .match .rest .0 .0 .1), ne-eqb _ 0x20 (c .match .rest .0 .1), ne-eqb _ 0x28 (c .match .rest .1))
+returns-7 c = 
+    let rest : tie.At-match-rest = search in
+    let more : tie.After-function-acts-on-more = search in
+    let none = rest .match .rest in
+    rw (ne-eqb _ 0x13 (none .0 .0 .0 .0 .1), ne-eqb _ 0x14 (none .0 .0 .0 .1), ne-eqb _ 0x15 (none .0 .0 .1), ne-eqb _ 0x20 (none .0 .1), ne-eqb _ 0x28 (none .1), sym (more .function-acts-on-more .ensures) ∙ c .if1 .left)
 
 pub listed-as-spec : {M : Type 1} → statement M
 listed-as-spec =
