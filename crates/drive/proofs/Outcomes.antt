@@ -131,13 +131,13 @@ pub data WorkDone (d : Drive) (e : Event) (sectors staging : List ℕ) : Work �
 
 -- ---- how each comes about
 
-status-responds : (c : ℕ) → eqb c readStatus ≡ true → controlOf c ≡ control-of.Response
+pub status-responds : (c : ℕ) → eqb c readStatus ≡ true → controlOf c ≡ control-of.Response
 unfolding controlOf codeOf pick
 status-responds c z = rw (eqb-true c readStatus z)
 
-code-words : (s : Setup) (c : ℕ) → isData c ≡ false → (takesWords (controlOf c) || givesWords (controlOf c)) ≡ true → eqb (wordsToCome s c) 0 ≡ false
+pub code-words-come : (s : Setup) (c : ℕ) → isData c ≡ false → (takesWords (controlOf c) || givesWords (controlOf c)) ≡ true → eqb (wordsToCome s c) 0 ≡ false
 unfolding wordsToCome pick
-code-words s c low w = rw low (not-true (eqb (parameterWords c) 0) (sym (codes-open c low) ∙ w))
+code-words-come s c low w = rw low (not-true (eqb (parameterWords c) 0) (sym (codes-open c low) ∙ w))
 
 module _ (d : Drive) (e : Event) (sectors staging : List ℕ) where
   data-opened : {at : Drive} → Sought d (e .a0) at → (isWrite (controlOf (e .a0)) || isRead (controlOf (e .a0))) ≡ true
@@ -157,7 +157,7 @@ module _ (d : Drive) (e : Event) (sectors staging : List ℕ) where
   -- a code below 80 has words to come, and is not at the target
   code-opened : isData (e .a0) ≡ false → (takesWords (controlOf (e .a0)) || givesWords (controlOf (e .a0))) ≡ true → Quiet d e sectors DataControl (opened d (e .a0))
   unfolding opened pick
-  code-opened low w = rw (code-words (d .setup) (e .a0) low w) (opens (inPlace (codes-in-place (e .a0) low w)) w (code-words (d .setup) (e .a0) low w))
+  code-opened low w = rw (code-words-come (d .setup) (e .a0) low w) (opens (inPlace (codes-in-place (e .a0) low w)) w (code-words-come (d .setup) (e .a0) low w))
 
   control-done : (k : Control) → controlOf (e .a0) ≡ k → Quiet d e sectors DataControl (controlled k d (e .port) (e .a0))
   unfolding badRequest

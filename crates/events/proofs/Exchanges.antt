@@ -3,24 +3,26 @@
 use Prim.Native.Nat.{ℕ, zero, suc, _+_, _<_}
 use mathlib.Core.Path.{_≡_, refl, sym, _∙_}
 use mathlib.Core.Bool.{Bool, true, false, _&&_, _||_, or-true}
-use mathlib.Core.List.{List}
+use mathlib.Core.List.{List, [], _∷_}
 use native.Mathlib.Omega.{arith}
-use borrow.Author.Tests.{eqb-true, eqb-false, ne-eqb, le-ltb, leb-true}
+use borrow.Author.Tests.{eq-eqb, eqb-true, eqb-false, ne-eqb, le-ltb, leb-true}
 use lib.Dec.{eqb}
 use lib.ListN.{getD}
 use Rattle.laws.specs.Pick.{pick}
 use Rattle.laws.proofs.Tests.{and-l}
+use Rattle.laws.proofs.Lists.{each-one-of}
 use Rattle.parts.specs.Setup.{isPlace, isTarget}
 use Rattle.parts.specs.Command.{parameterWords, functionIn}
 use Rattle.parts.specs.Control.{isData}
-use Rattle.parts.specs.Tests.{isTaking, isGiving}
+use Rattle.parts.specs.Tests.{transferring, isTaking, isGiving}
 use Rattle.parts.specs.declared.command.Function.{Function}
 use Rattle.parts.specs.declared.pending.Pending.{Pending}
 use Rattle.parts.specs.declared.setup.Setup.{Setup}
 use Rattle.parts.specs.declared.transfer.Transfer.{Transfer}
-use Rattle.parts.proofs.ByBits.{commands-few}
+use Rattle.parts.proofs.ByBits.{commands-few, single-commands}
 use Rattle.parts.proofs.Bounds.{Limits, limits, code-words}
-use Rattle.drive.specs.Answer.{normal}
+use Rattle.drive.specs.Answer.{normal, operationException}
+use Rattle.drive.specs.Request.{badRequest}
 use Rattle.drive.specs.State.{atPlace, withPlace, withTarget, told}
 use Rattle.drive.specs.Command.{cylinderOf, placeSought, targetSought, seeking, functioned, obeyed, parameterSent, statusTold, responseTaken, wordFromHost, wordToHost, endedEarly}
 use Rattle.drive.specs.Drive.{closed, ended}
@@ -50,6 +52,11 @@ moved-within {state} f low o =
 pub told-within : {state : List ℕ} → Fit state → isData (driveIn state .transfer .control) ≡ false → isGiving (driveIn state .transfer) ≡ true
     → driveIn state .transfer .moved < parameterWords (driveIn state .transfer .control)
 told-within {state} f low o = moved-within f low (rw o (or-true (isTaking (driveIn state .transfer))))
+
+-- the word of a command that has one is its last
+pub one-word : {state : List ℕ} → Fit state → isData (driveIn state .transfer .control) ≡ false → isTaking (driveIn state .transfer) ≡ true
+    → parameterWords (driveIn state .transfer .control) ≡ 1 → driveIn state .transfer .moved + 1 ≡ parameterWords (driveIn state .transfer .control)
+one-word f low o e = omega (arith, moved-within f low (rw o), e)
 
 -- and of a command there are four words at most, so that three are kept
 pub kept-few : {state : List ℕ} → Fit state → isData (driveIn state .transfer .control) ≡ false → isTaking (driveIn state .transfer) ≡ true
@@ -120,6 +127,20 @@ pub obeyed-07 : (t : Transfer) (d : Drive) (port last : ℕ) → (t .control ≡
     ≡ seeking d port (atPlace (cylinderOf (t .parameters .word0) (t .parameters .word1)) (t .parameters .word2) (d .place .sector)) last
 unfolding obeyed placeSought targetSought pick
 obeyed-07 t d port last a b c e = rw (ne-eqb (t .control) 0x01 a, ne-eqb (t .control) 0x04 b, ne-eqb (t .control) 0x05 c, ne-eqb (t .control) 0x06 e)
+
+-- the commands of one word do not look at those that were kept
+pub single-obeyed : (t : Transfer) (d : Drive) (port last : ℕ) → isData (t .control) ≡ false → isTaking t ≡ true → parameterWords (t .control) ≡ 1
+    → obeyed (transferring (t .control) 0) d port last ≡ obeyed t d port last
+single-obeyed t d port last low o e =
+    let bare = transferring (t .control) 0 in
+    each-one-of (λ c. t .control ≡ c → obeyed bare d port last ≡ obeyed t d port last) (0x01 ∷ 0x05 ∷ 0x06 ∷ []) (t .control) (single-commands (t .control) low o (eq-eqb (parameterWords (t .control)) 1 e))
+    (λ z. obeyed-01 bare d port last z ∙ sym (obeyed-01 t d port last z), (λ z. obeyed-05 bare d port last z ∙ sym (obeyed-05 t d port last z), (λ z. obeyed-06 bare d port last z ∙ sym (obeyed-06 t d port last z), tt))) refl
+
+-- a bad command is told by its status alone
+pub did-bad : (state : List ℕ) (port bit : ℕ) {answer : Answer} {state′ : List ℕ} → Did state (badRequest (driveIn state) port bit) answer state′
+    → Did state (badRequest (driveIn state) port bit) (Status operationException) state′
+unfolding badRequest
+did-bad state port bit t = record { answer = refl; state = t .state }
 
 -- ---- a function
 

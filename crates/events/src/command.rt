@@ -7,6 +7,7 @@ use crate::state;
 use drive::Answer;
 use parts::Fault;
 use parts::Function;
+use parts::Parameters;
 use parts::Place;
 use parts::Transfer;
 ghost use Prim.Native.Nat.{_≤_, _<_, _+_, _*_};
@@ -15,7 +16,7 @@ ghost use mathlib.Core.Bool.{true, false};
 ghost use lib.ListN.{getD};
 ghost use Rattle.parts.specs.Command.{functionIn, parameterWords};
 ghost use Rattle.parts.specs.Control.{isData};
-ghost use Rattle.parts.specs.Tests.{isTaking, isGiving};
+ghost use Rattle.parts.specs.Tests.{isTaking, isGiving, transferring};
 ghost use Rattle.drive.specs.State.{atPlace, withPlace, withTarget, pendingOn};
 ghost use Rattle.drive.specs.Drive.{closed};
 ghost use Rattle.drive.specs.Command.{cylinderOf, seeking, functioned, obeyed, parameterSent, statusTold, positionTold, wordsTold, statusCleared, responseTaken};
@@ -26,16 +27,22 @@ const READ_STATUS: u16 = 0x44;
 
 // ---- commands
 
-// A word of the open command: it is kept, or it is the last.
+// A word of the open command: it is kept, or it is the last. Two calls of `obey`, one for the commands of one word: one alone the compiler puts into the
+// batch, and every word of a data transfer pays for it.
 pub(crate) fn send(state: &mut [u16], port: u8, word: u16) -> Answer
     requires { ⌜ Fit (now state) × (port ≤ 1) × (isData (driveIn (now state) .transfer .control) ≡ false) × (isTaking (driveIn (now state) .transfer) ≡ true) ⌝ }
     ensures { λ r. ⌜ Did (now (state .entry)) (parameterSent (driveIn (now (state .entry))) port word) r (now (state .exit)) ⌝ }
 {
     let t = state::transfer_in(&state[..]);
     let moved = t.moved;
-    if moved + 1 == parts::parameter_words(t.control) {
+    let words = parts::parameter_words(t.control);
+    if words == 1 {
         place::close(state);
-        return obey(state, port, t, word);
+        return Answer::Status(obey(state, port, without_parameters(t.control), word));
+    }
+    if moved + 1 == words {
+        place::close(state);
+        return Answer::Status(obey(state, port, t, word));
     }
     let at = layout::PARAMETER_0 + moved as usize;
     state[at] = word;
@@ -43,10 +50,24 @@ pub(crate) fn send(state: &mut [u16], port: u8, word: u16) -> Answer
     Answer::Done
 }
 
-// The command is closed; this is its last word.
-fn obey(state: &mut [u16], port: u8, t: Transfer, word: u16) -> Answer
+fn without_parameters(control: u16) -> Transfer
+    ensures { λ r. ⌜ r ≡ transferring control 0 ⌝ }
+{
+    Transfer {
+        control,
+        moved: 0,
+        parameters: Parameters {
+            word0: 0,
+            word1: 0,
+            word2: 0,
+        },
+    }
+}
+
+// The command is closed; this is its last word. The status.
+fn obey(state: &mut [u16], port: u8, t: Transfer, word: u16) -> u8
     requires { ⌜ Fit (now state) × (port ≤ 1) ⌝ }
-    ensures { λ r. ⌜ Did (now (state .entry)) (obeyed t (driveIn (now (state .entry))) port word) r (now (state .exit)) ⌝ }
+    ensures { λ r. ⌜ Did (now (state .entry)) (obeyed t (driveIn (now (state .entry))) port word) (Answer.Status r) (now (state .exit)) ⌝ }
 {
     let control = t.control;
     let p = t.parameters;
@@ -62,9 +83,9 @@ fn obey(state: &mut [u16], port: u8, t: Transfer, word: u16) -> Answer
 }
 
 // To a cylinder, a head and a target; the sector stays.
-fn seek(state: &mut [u16], port: u8, high: u16, low: u16, head: u16, target: u16) -> Answer
+fn seek(state: &mut [u16], port: u8, high: u16, low: u16, head: u16, target: u16) -> u8
     requires { ⌜ Fit (now state) × (port ≤ 1) ⌝ }
-    ensures { λ r. ⌜ Did (now (state .entry)) (seeking (driveIn (now (state .entry))) port (atPlace (cylinderOf high low) head (driveIn (now (state .entry)) .place .sector)) target) r (now (state .exit)) ⌝ }
+    ensures { λ r. ⌜ Did (now (state .entry)) (seeking (driveIn (now (state .entry))) port (atPlace (cylinderOf high low) head (driveIn (now (state .entry)) .place .sector)) target) (Answer.Status r) (now (state .exit)) ⌝ }
 {
     let setup = state::setup_in(&state[..]);
     let place = Place {
@@ -74,9 +95,10 @@ fn seek(state: &mut [u16], port: u8, high: u16, low: u16, head: u16, target: u16
     };
     if (high == 0) & setup.is_place(place) & setup.is_target(target) {
         put_aim(state, place, target);
-        return Answer::Status(answer::NORMAL);
+        return answer::NORMAL;
     }
-    pending::fault(state, port, Fault::InvalidParameter)
+    pending::fault(state, port, Fault::InvalidParameter);
+    answer::OPERATION_EXCEPTION
 }
 
 fn put_aim(state: &mut [u16], place: Place, target: u16)
@@ -90,34 +112,40 @@ fn put_aim(state: &mut [u16], place: Place, target: u16)
 }
 
 // Load Drive Function.
-fn perform(state: &mut [u16], port: u8, word: u16) -> Answer
+fn perform(state: &mut [u16], port: u8, word: u16) -> u8
     requires { ⌜ Fit (now state) × (port ≤ 1) ⌝ }
-    ensures { λ r. ⌜ Did (now (state .entry)) (functioned (functionIn word) (driveIn (now (state .entry))) port) r (now (state .exit)) ⌝ }
+    ensures { λ r. ⌜ Did (now (state .entry)) (functioned (functionIn word) (driveIn (now (state .entry))) port) (Answer.Status r) (now (state .exit)) ⌝ }
 {
     let function = parts::function_of(word);
     match function {
         Function::PriorityReserve => {
             let d = state::drive_in(&state[..]);
             state::put_moved(d.priority_reserve(), state);
-            Answer::Status(answer::NORMAL)
+            answer::NORMAL
         }
         Function::Reserve => {
             let d = state::drive_in(&state[..]);
             state::put_moved(d.reserve(), state);
-            Answer::Status(answer::NORMAL)
+            answer::NORMAL
         }
         Function::Release => {
             let d = state::drive_in(&state[..]);
             state::put_moved(d.release(), state);
-            Answer::Status(answer::NORMAL)
+            answer::NORMAL
         }
-        Function::NoOperation => Answer::Status(answer::NORMAL),
+        Function::NoOperation => answer::NORMAL,
         Function::Recalibrate => {
             state[layout::CYLINDER] = 0;
-            Answer::Status(answer::NORMAL)
+            answer::NORMAL
         }
-        Function::ActsOnMore => pending::fault(state, port, Fault::UnsupportedBusControl),
-        Function::NotListed => pending::fault(state, port, Fault::InvalidParameter),
+        Function::ActsOnMore => {
+            pending::fault(state, port, Fault::UnsupportedBusControl);
+            answer::OPERATION_EXCEPTION
+        }
+        Function::NotListed => {
+            pending::fault(state, port, Fault::InvalidParameter);
+            answer::OPERATION_EXCEPTION
+        }
     }
 }
 

@@ -1,5 +1,6 @@
 // Kinds 3, 7 and 8: a control, a position, a target.
 use crate::answer;
+use crate::coming;
 use crate::layout;
 use crate::pending;
 use crate::place;
@@ -9,6 +10,9 @@ use parts::Control;
 use parts::Fault;
 use parts::Place;
 ghost use Prim.Native.Nat.{_≤_};
+ghost use mathlib.Core.Path.{_≡_};
+ghost use mathlib.Core.Bool.{true, false, _||_};
+ghost use Rattle.parts.specs.Control.{controlOf, takesWords, givesWords, isData};
 ghost use Rattle.drive.specs.Request.{opened, opening, dataControl, positioned, targeted};
 ghost use Rattle.events.specs.State.{driveIn};
 ghost use Rattle.events.specs.Fit.{Fit, Did};
@@ -21,7 +25,7 @@ pub(crate) fn ask(state: &mut [u16], port: u8, control: u16) -> Answer
     ensures { λ r. ⌜ Did (now (state .entry)) (dataControl (driveIn (now (state .entry))) port control) r (now (state .exit)) ⌝ }
 {
     if control == READ_STATUS {
-        return open(state, control);
+        return open_code(state, control);
     }
     if pending::is_unsolicited(&state[..], port) {
         return Answer::Status(answer::UNSOLICITED_EXCEPTION);
@@ -29,7 +33,7 @@ pub(crate) fn ask(state: &mut [u16], port: u8, control: u16) -> Answer
     let kind = parts::control_of(control);
     match kind {
         Control::Write | Control::Read => open_there(state, port, control),
-        Control::Command | Control::Response => open(state, control),
+        Control::Command | Control::Response => open_code(state, control),
         Control::StepHead => {
             place::step_head(state);
             Answer::Status(answer::NORMAL)
@@ -42,7 +46,7 @@ pub(crate) fn ask(state: &mut [u16], port: u8, control: u16) -> Answer
 
 // At the position, or at the target, which has to be there.
 fn open_there(state: &mut [u16], port: u8, control: u16) -> Answer
-    requires { ⌜ Fit (now state) × (port ≤ 1) ⌝ }
+    requires { ⌜ Fit (now state) × (port ≤ 1) × (isData control ≡ true) ⌝ }
     ensures { λ r. ⌜ Did (now (state .entry)) (opening (driveIn (now (state .entry))) port control) r (now (state .exit)) ⌝ }
 {
     if !parts::is_at_target(control) {
@@ -55,13 +59,23 @@ fn open_there(state: &mut [u16], port: u8, control: u16) -> Answer
     open(state, control)
 }
 
-// A transfer opens at the position, or ends at once where no word is to come.
-fn open(state: &mut [u16], control: u16) -> Answer
-    requires { ⌜ Fit (now state) ⌝ }
+// A command or response opens: it always has words.
+fn open_code(state: &mut [u16], control: u16) -> Answer
+    requires { ⌜ Fit (now state) × (isData control ≡ false) × ((takesWords (controlOf control) || givesWords (controlOf control)) ≡ true) ⌝ }
     ensures { λ r. ⌜ Did (now (state .entry)) (opened (driveIn (now (state .entry))) control) r (now (state .exit)) ⌝ }
 {
-    let setup = state::setup_in(&state[..]);
-    let words = setup.words_to_come(control);
+    let words = parts::parameter_words(control);
+    let here = state::place_in(&state[..]);
+    place::put_transfer(state, control);
+    Answer::Opened(words, here)
+}
+
+// A data transfer opens at the position, or ends at once where no word is to come.
+fn open(state: &mut [u16], control: u16) -> Answer
+    requires { ⌜ Fit (now state) × (isData control ≡ true) ⌝ }
+    ensures { λ r. ⌜ Did (now (state .entry)) (opened (driveIn (now (state .entry))) control) r (now (state .exit)) ⌝ }
+{
+    let words = coming::data_words(&state[..], control);
     if words == 0 {
         place::end_transfer(state);
         return Answer::Status(answer::NORMAL);

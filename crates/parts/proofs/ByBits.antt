@@ -6,7 +6,9 @@ use mathlib.Core.Bool.{Bool, true, false, not, _&&_, _||_, and-false, true≢fal
 use native.Mathlib.Omega.{arith}
 use borrow.Author.Tests.{ltb-true, ltb-false, le-ltb, ne-eqb, leb-false, not-true}
 use lib.Dec.{ltb, leb, eqb}
+use mathlib.Core.List.{[], _∷_}
 use Rattle.laws.specs.Pick.{pick}
+use Rattle.laws.specs.Lists.{oneOf}
 use Rattle.laws.proofs.Tests.{and-l, and-r}
 use Rattle.laws.proofs.Lists.{everyBelow, every-below}
 use Rattle.parts.specs.Control.{controlOf, isWrite, isRead, takesWords, givesWords, isData, isAtTarget}
@@ -145,3 +147,10 @@ unfolding controlOf codeOf parameterWords pick
 commands-few c low takes =
     let test : ℕ → Bool = λ n. not (takesWords (controlOf n)) || leb (parameterWords n) 4 in
     rw takes at (every-below 128 test refl c (leb-false 0x80 c low))
+
+-- those of one word
+pub single-commands : (c : ℕ) → isData c ≡ false → takesWords (controlOf c) ≡ true → eqb (parameterWords c) 1 ≡ true → oneOf (0x01 ∷ 0x05 ∷ 0x06 ∷ []) c ≡ true
+unfolding controlOf codeOf parameterWords pick
+single-commands c low takes one =
+    let test : ℕ → Bool = λ n. not (takesWords (controlOf n) && eqb (parameterWords n) 1) || oneOf (0x01 ∷ 0x05 ∷ 0x06 ∷ []) n in
+    rw (takes, one) at (every-below 128 test refl c (leb-false 0x80 c low))

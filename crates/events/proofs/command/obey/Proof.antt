@@ -89,7 +89,6 @@ unfolding driveIn
 returns-5 c =
     let done : tie.After-seek4 = search in
     let at : tie.At-match-rest = search in
-    let here : tie.After-place-in = search in
     let none = at .match .rest in
     did-as _ _ (sym (obeyed-07 _ _ _ _ (none .0 .0 .0 .1) (none .0 .0 .1) (none .0 .1) (none .1))) (done .seek4 .ensures)
 

@@ -4,7 +4,7 @@ use mathlib.Core.Path.{refl, sym, _∙_}
 use Rattle.parts.specs.declared.command.Function.the-variants.{PriorityReserve, Reserve, Release, NoOperation, Recalibrate, ActsOnMore, NotListed}
 use Rattle.events.proofs.Changes.{cylinder-zeroed}
 use Rattle.events.proofs.Done.{did-nothing, known}
-use Rattle.events.proofs.Exchanges.{did-functioned}
+use Rattle.events.proofs.Exchanges.{did-bad, did-functioned}
 use borrow.Author.Needs.{needs}
 use Rattle.events.proofs.command.perform.Statement.{statement}
 use Rattle.events.proofs.command.perform.Tie as tie
@@ -150,7 +150,7 @@ returns-6 c =
     let asked : tie.After-function-of = search in
     let start : tie.Start = search in
     did-functioned _ _ _ ActsOnMore (sym (told .enum-told6 .given .1) ∙ asked .function-of .ensures .answer)
-    (fault′ .fault .ensures)
+    (did-bad _ _ _ (fault′ .fault .ensures))
 
 same-length-6 : tie.Need-same-length-6
 same-length-6 c = search needs
@@ -162,7 +162,7 @@ returns-7 c =
     let asked : tie.After-function-of = search in
     let start : tie.Start = search in
     did-functioned _ _ _ NotListed (sym (told .enum-told7 .given .1) ∙ asked .function-of .ensures .answer)
-    (fault′ .fault2 .ensures)
+    (did-bad _ _ _ (fault′ .fault2 .ensures))
 
 pub perform-spec : {M : Type 1} → statement M
 perform-spec =

@@ -6,7 +6,7 @@ use Rattle.drive.proofs.Sound.{sound}
 use Rattle.drive.specs.Command.{seeking}
 use Rattle.events.specs.State.{driveIn}
 use Rattle.events.proofs.Done.{did-second}
-use Rattle.events.proofs.Exchanges.{sought-by, did-seek}
+use Rattle.events.proofs.Exchanges.{sought-by, did-seek, did-bad}
 use borrow.Author.Needs.{needs}
 use Rattle.events.proofs.command.seek.Statement.{statement}
 use Rattle.events.proofs.command.seek.Tie as tie
@@ -58,7 +58,7 @@ returns-2 c =
     let setup : tie.After-setup-in = search in
     let start : tie.Start = search in
     did-second _ _ _ _ (rw (target .is-target .ensures, place .is-place .ensures, setup .setup-in .ensures) (sought-by _ (start .args .high) (start .args .low) _ _ _ (limits _ (sound _ (start .pre .0 .sound) .limits)))) (outside .if1 .left)
-    (bad .fault .ensures)
+    (did-bad _ _ _ (bad .fault .ensures))
 
 pub seek-spec : {M : Type 1} → statement M
 seek-spec =

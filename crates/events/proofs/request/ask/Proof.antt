@@ -2,16 +2,19 @@
 -- Assumes nothing.
 use Prim.Native.Nat.{ℕ, _<_}
 use mathlib.Core.Path.{_≡_, refl, sym, _∙_}
+use mathlib.Core.Bool.{true, false, _||_}
 use mathlib.Core.List.{List}
 use mathlib.Core.Logic.{_⊎_, inl, inr}
 use native.Mathlib.Omega.{arith}
 use borrow.Author.Tests.{eq-eqb, ne-eqb}
 use denote.Enum.Declared.{tagOf}
 use Rattle.parts.proofs.control.Control.{the-type}
+use Rattle.parts.proofs.ByBits.{write-is-data, read-is-data, command-low, response-low}
 use Rattle.parts.specs.Command.{readStatus}
-use Rattle.parts.specs.Control.{controlOf}
+use Rattle.parts.specs.Control.{controlOf, takesWords, givesWords, isData}
 use Rattle.parts.specs.declared.control.Control.{Control}
 use Rattle.parts.specs.declared.control.Control.the-variants.{Write, Read, Command, Response, StepHead, Reserved, Unsupported, Invalid}
+use Rattle.drive.proofs.Outcomes.{status-responds}
 use Rattle.drive.specs.Request.{unlessUnsolicited, controlled, dataControl, opened, opening}
 use Rattle.drive.specs.declared.answer.Answer.{Answer}
 use Rattle.events.specs.State.{driveIn}
@@ -53,6 +56,28 @@ did-opened state port control Reserved h e d = absurd (omega (arith, h .1))
 did-opened state port control Unsupported h e d = absurd (omega (arith, h .1))
 did-opened state port control Invalid h e d = absurd (omega (arith, h .1))
 
+-- and what the control then is
+data-kind : (c : ℕ) (kind : Control) → tagOf the-type kind < 2 → kind ≡ controlOf c → isData c ≡ true
+data-kind c Write h e = write-is-data c (rw (← e))
+data-kind c Read h e = read-is-data c (rw (← e))
+data-kind c Command h e = absurd (omega (arith, h))
+data-kind c Response h e = absurd (omega (arith, h))
+data-kind c StepHead h e = absurd (omega (arith, h))
+data-kind c Reserved h e = absurd (omega (arith, h))
+data-kind c Unsupported h e = absurd (omega (arith, h))
+data-kind c Invalid h e = absurd (omega (arith, h))
+
+code-kind : (c : ℕ) (kind : Control) → (1 < tagOf the-type kind) × (tagOf the-type kind < 4) → kind ≡ controlOf c
+    → (isData c ≡ false) × ((takesWords (controlOf c) || givesWords (controlOf c)) ≡ true)
+code-kind c Command h e = (command-low c (sym e), rw (← e))
+code-kind c Response h e = (response-low c (sym e), rw (← e))
+code-kind c Write h e = absurd (omega (arith, h .0))
+code-kind c Read h e = absurd (omega (arith, h .0))
+code-kind c StepHead h e = absurd (omega (arith, h .1))
+code-kind c Reserved h e = absurd (omega (arith, h .1))
+code-kind c Unsupported h e = absurd (omega (arith, h .1))
+code-kind c Invalid h e = absurd (omega (arith, h .1))
+
 -- the code that reads status is asked for first
 did-other : (state : List ℕ) (port control : ℕ) {answer : Answer} {state′ : List ℕ} → (control ≡ readStatus → ⊥)
     → Did state (unlessUnsolicited (driveIn state) port (controlled (controlOf control) (driveIn state) port control)) answer state′
@@ -60,8 +85,12 @@ did-other : (state : List ℕ) (port control : ℕ) {answer : Answer} {state′ 
 unfolding dataControl
 did-other state port control n d = did-second _ _ _ _ (sym (ne-eqb control readStatus n)) refl d
 
-open-requires : tie.Need-open-requires
-open-requires c κs = search needs
+open-code-requires : tie.Need-open-code-requires
+open-code-requires c κs =
+    let status : tie.Then1 = search in
+    let start : tie.Start = search in
+    let responds = status-responds (start .args .control) (eq-eqb _ _ (status .if1 .taken)) in
+    (start .pre .0, response-low (start .args .control) responds, rw responds)
 
 same-length : tie.Need-same-length
 same-length c = search needs
@@ -69,9 +98,9 @@ same-length c = search needs
 returns : tie.Need-returns
 unfolding dataControl
 returns c =
-    let opened′ : tie.After-open = search in
+    let opened′ : tie.After-open-code = search in
     let status : tie.Then1 = search in
-    did-first _ _ _ _ (sym (eq-eqb _ _ (status .if1 .taken))) refl (opened′ .«open» .ensures)
+    did-first _ _ _ _ (sym (eq-eqb _ _ (status .if1 .taken))) refl (opened′ .open-code .ensures)
 
 is-unsolicited-requires : tie.Need-is-unsolicited-requires
 is-unsolicited-requires c κs = search needs
@@ -90,10 +119,19 @@ control-of-requires : tie.Need-control-of-requires
 control-of-requires c κs = search needs
 
 open-there-requires : tie.Need-open-there-requires
-open-there-requires c κs = search needs
+open-there-requires c κs =
+    let at : tie.At-match-keys1 = search in
+    let kind : tie.After-control-of = search in
+    let start : tie.Start = search in
+    (start .pre .0, start .pre .1, data-kind (start .args .control) (kind .control-of .result) (low _ (at .match .keys1)) (kind .control-of .ensures .answer))
 
-open-requires-2 : tie.Need-open-requires-2
-open-requires-2 c κs = search needs
+open-code-requires-2 : tie.Need-open-code-requires-2
+open-code-requires-2 c κs =
+    let at : tie.At-match-keys2 = search in
+    let kind : tie.After-control-of = search in
+    let start : tie.Start = search in
+    let told = code-kind (start .args .control) (kind .control-of .result) (next _ (at .match .keys2)) (kind .control-of .ensures .answer) in
+    (start .pre .0, told .0, told .1)
 
 enum-told : tie.Need-enum-told
 enum-told c = search needs
@@ -144,14 +182,14 @@ same-length-4 c = search needs
 
 returns-4 : tie.Need-returns-4
 returns-4 c =
-    let here : tie.After-open2 = search in
+    let here : tie.After-open-code2 = search in
     let at : tie.At-match-keys2 = search in
     let kind : tie.After-control-of = search in
     let quiet : tie.Else2 = search in
     let pending : tie.After-is-unsolicited = search in
     let other : tie.Else1 = search in
     did-other _ _ _ (other .if1 .left) (did-request _ _ _ _ (pending .is-unsolicited .ensures) (quiet .if2 .left)
-    (did-opened _ _ _ (kind .control-of .result) (next _ (at .match .keys2)) (kind .control-of .ensures .answer) (here .open2 .ensures)))
+    (did-opened _ _ _ (kind .control-of .result) (next _ (at .match .keys2)) (kind .control-of .ensures .answer) (here .open-code2 .ensures)))
 
 same-length-5 : tie.Need-same-length-5
 same-length-5 c = search needs
@@ -213,7 +251,7 @@ pub ask-spec : {M : Type 1} → statement M
 ask-spec =
     tie.close
     (tie.spec
-    open-requires
+    open-code-requires
     same-length
     returns
     is-unsolicited-requires
@@ -221,7 +259,7 @@ ask-spec =
     returns-2
     control-of-requires
     open-there-requires
-    open-requires-2
+    open-code-requires-2
     enum-told
     step-head-requires
     enum-told-2

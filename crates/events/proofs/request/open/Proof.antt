@@ -1,22 +1,20 @@
 -- `open` meets its contract.
 -- Assumes nothing.
-use Rattle.events.proofs.Done.{did-first, did-second, known}
-use Rattle.events.proofs.Changes.{transfer-put}
-use Rattle.drive.proofs.Sound.{sound}
-use Rattle.parts.proofs.Bounds.{limits, words-few}
-use Rattle.drive.specs.Request.{opened}
-use borrow.Author.Tests.{eq-eqb, ne-eqb}
-use native.Mathlib.Omega.{arith}
 use mathlib.Core.Path.{refl, sym, _∙_}
+use native.Mathlib.Omega.{arith}
+use borrow.Author.Tests.{eq-eqb, ne-eqb}
+use Rattle.parts.proofs.Bounds.{limits, data-words, words-few}
+use Rattle.drive.proofs.Sound.{sound}
+use Rattle.drive.specs.Request.{opened}
+use Rattle.events.specs.State.{driveIn}
+use Rattle.events.proofs.Changes.{transfer-put}
+use Rattle.events.proofs.Done.{did-first, did-second, known}
 use borrow.Author.Needs.{needs}
 use Rattle.events.proofs.request.open.Statement.{statement}
 use Rattle.events.proofs.request.open.Tie as tie
 
-setup-in-requires : tie.Need-setup-in-requires
-setup-in-requires c κs = search needs
-
-words-to-come-requires : tie.Need-words-to-come-requires
-words-to-come-requires c κs = search needs
+data-words-requires : tie.Need-data-words-requires
+data-words-requires c κs = search needs
 
 end-transfer-requires : tie.Need-end-transfer-requires
 end-transfer-requires c κs = search needs
@@ -27,11 +25,11 @@ same-length c = search needs
 returns : tie.Need-returns
 unfolding opened
 returns c =
-    let after-end-transfer : tie.After-end-transfer = search in
-    let then1 : tie.Then1 = search in
-    let after-words-to-come : tie.After-words-to-come = search in
-    let after-setup-in : tie.After-setup-in = search in
-    did-first _ _ _ _ (sym (eq-eqb _ _ (sym (rw (after-setup-in .setup-in .ensures) at (after-words-to-come .words-to-come .ensures)) ∙ then1 .if1 .taken))) refl (record { answer = refl; state = (after-end-transfer .end-transfer .ensures) })
+    let ended : tie.After-end-transfer = search in
+    let none : tie.Then1 = search in
+    let words : tie.After-data-words = search in
+    let start : tie.Start = search in
+    did-first _ _ _ _ (sym (eq-eqb _ _ ((data-words _ _ (start .pre .1)) ∙ sym (words .data-words .ensures) ∙ none .if1 .taken))) refl (record { answer = refl; state = ended .end-transfer .ensures })
 
 place-in-requires : tie.Need-place-in-requires
 place-in-requires c κs = search needs
@@ -39,13 +37,12 @@ place-in-requires c κs = search needs
 put-transfer-requires : tie.Need-put-transfer-requires
 put-transfer-requires c κs = search needs
 
-cast-t17 : tie.Need-cast-t17
-cast-t17 c =
-    let after-words-to-come : tie.After-words-to-come = search in
-    let after-setup-in : tie.After-setup-in = search in
+cast-t16 : tie.Need-cast-t16
+cast-t16 c =
+    let words : tie.After-data-words = search in
     let start : tie.Start = search in
-    let few = words-few _ (start .args .control) (limits _ (sound _ (start .pre .sound) .limits)) in
-    rw (after-words-to-come .words-to-come .ensures, after-setup-in .setup-in .ensures) (omega (arith, few))
+    let few = words-few _ (start .args .control) (limits _ (sound _ (start .pre .0 .sound) .limits)) in
+    rw (words .data-words .ensures) (omega (arith, few, data-words (driveIn (start .args .state .now) .setup) (start .args .control) (start .pre .1)))
 
 same-length-2 : tie.Need-same-length-2
 same-length-2 c = search needs
@@ -53,25 +50,24 @@ same-length-2 c = search needs
 returns-2 : tie.Need-returns-2
 unfolding opened
 returns-2 c =
-    let after-put-transfer : tie.After-put-transfer = search in
-    let after-place-in : tie.After-place-in = search in
-    let else1 : tie.Else1 = search in
-    let after-words-to-come : tie.After-words-to-come = search in
-    let after-setup-in : tie.After-setup-in = search in
+    let put : tie.After-put-transfer = search in
+    let here : tie.After-place-in = search in
+    let some : tie.Else1 = search in
+    let words : tie.After-data-words = search in
     let start : tie.Start = search in
-    did-second _ _ _ _ (sym (ne-eqb _ _ (λ z. (else1 .if1 .left) (rw (after-setup-in .setup-in .ensures) at (after-words-to-come .words-to-come .ensures) ∙ z)))) refl (record { answer = rw (after-place-in .place-in .ensures, after-words-to-come .words-to-come .ensures, after-setup-in .setup-in .ensures); state = after-put-transfer .put-transfer .ensures ∙ transfer-put _ _ (start .pre .long) (known (start .pre)) })
+    did-second _ _ _ _ (sym (ne-eqb _ _ (λ z. some .if1 .left (words .data-words .ensures ∙ sym (data-words _ _ (start .pre .1)) ∙ z)))) refl
+    (record { answer = rw (here .place-in .ensures, words .data-words .ensures, data-words _ _ (start .pre .1)); state = put .put-transfer .ensures ∙ transfer-put _ _ (start .pre .0 .long) (known (start .pre .0)) })
 
 pub open-spec : {M : Type 1} → statement M
 open-spec =
     tie.close
     (tie.spec
-    setup-in-requires
-    words-to-come-requires
+    data-words-requires
     end-transfer-requires
     same-length
     returns
     place-in-requires
     put-transfer-requires
-    cast-t17
+    cast-t16
     same-length-2
     returns-2)

@@ -23,7 +23,7 @@ same-length : tie.Need-same-length
 same-length c = search needs
 
 returns : tie.Need-returns
-returns c = 
+returns c =
     let stranger′ : tie.After-stranger = search in
     let formed : tie.After-none-at-all = search in
     let start : tie.Start = search in
@@ -34,7 +34,7 @@ slice-read-control c = search needs
 
 take-requires : tie.Need-take-requires
 unfolding driveIn
-take-requires c κs = 
+take-requires c κs =
     let read : tie.Then2 = search in
     let start : tie.Start = search in
     let told = read-told (timely-told (fit (start .pre .0))) (read .if2 .taken) in
@@ -45,7 +45,7 @@ same-length-2 c = search needs
 
 returns-2 : tie.Need-returns-2
 unfolding driveIn
-returns-2 c = 
+returns-2 c =
     let taken : tie.After-take = search in
     let read : tie.Then2 = search in
     let passed : tie.Else1 = search in
@@ -60,7 +60,7 @@ same-length-3 c = search needs
 
 returns-3 : tie.Need-returns-3
 unfolding driveIn
-returns-3 c = 
+returns-3 c =
     let untold : tie.Then3 = search in
     let unread : tie.Else2 = search in
     let passed : tie.Else1 = search in
@@ -72,7 +72,7 @@ returns-3 c =
 
 respond-requires : tie.Need-respond-requires
 unfolding driveIn
-respond-requires c κs = 
+respond-requires c κs =
     let asked : tie.Else3 = search in
     let start : tie.Start = search in
     let told = response-told (timely-told (fit (start .pre .0))) (asked .if3 .left) in
@@ -83,7 +83,7 @@ same-length-4 c = search needs
 
 returns-4 : tie.Need-returns-4
 unfolding driveIn
-returns-4 c = 
+returns-4 c =
     let done : tie.After-respond = search in
     let asked : tie.Else3 = search in
     let passed : tie.Else1 = search in

@@ -23,7 +23,7 @@ same-length : tie.Need-same-length
 same-length c = search needs
 
 returns : tie.Need-returns
-returns c = 
+returns c =
     let stranger′ : tie.After-stranger = search in
     let formed : tie.After-none-after-2 = search in
     let start : tie.Start = search in
@@ -37,7 +37,7 @@ word-of-requires c κs = search needs
 
 stage-requires : tie.Need-stage-requires
 unfolding driveIn
-stage-requires c κs = 
+stage-requires c κs =
     let write : tie.Then2 = search in
     let start : tie.Start = search in
     (start .pre .0, refl, write-sent (timely-told (fit (start .pre .0))) (write .if2 .taken))
@@ -53,7 +53,7 @@ same-length-4 c = search needs
 
 returns-2 : tie.Need-returns-2
 unfolding driveIn
-returns-2 c = 
+returns-2 c =
     let staged : tie.After-stage = search in
     let write : tie.Then2 = search in
     let word : tie.After-word-of = search in
@@ -69,7 +69,7 @@ same-length-5 c = search needs
 
 returns-3 : tie.Need-returns-3
 unfolding driveIn
-returns-3 c = 
+returns-3 c =
     let unsent : tie.Then3 = search in
     let unwritten : tie.Else2 = search in
     let passed : tie.Else1 = search in
@@ -81,7 +81,7 @@ returns-3 c =
 
 send-requires : tie.Need-send-requires
 unfolding driveIn
-send-requires c κs = 
+send-requires c κs =
     let sent : tie.Else3 = search in
     let start : tie.Start = search in
     let told = command-sent (timely-told (fit (start .pre .0))) (sent .if3 .left) in
@@ -92,7 +92,7 @@ same-length-6 c = search needs
 
 returns-4 : tie.Need-returns-4
 unfolding driveIn
-returns-4 c = 
+returns-4 c =
     let done : tie.After-send = search in
     let sent : tie.Else3 = search in
     let word : tie.After-word-of = search in

@@ -13,31 +13,31 @@ slice-read-moved c = search needs
 
 cast-moved : tie.Need-cast-moved
 unfolding driveIn
-cast-moved c = 
+cast-moved c =
     let start : tie.Start = search in
     omega (arith, write-moving (start .pre .0) (start .pre .1) (start .pre .2) .few)
 
 mul-staging : tie.Need-mul-staging
 unfolding driveIn
-mul-staging c = 
+mul-staging c =
     let start : tie.Start = search in
     omega (arith, write-moving (start .pre .0) (start .pre .1) (start .pre .2) .few)
 
 slice-write-staging : tie.Need-slice-write-staging
 unfolding driveIn
-slice-write-staging c = 
+slice-write-staging c =
     let start : tie.Start = search in
     write-moving (start .pre .0) (start .pre .1) (start .pre .2) .inside
 
 add-after-word : tie.Need-add-after-word
 unfolding driveIn
-add-after-word c = 
+add-after-word c =
     let start : tie.Start = search in
     omega (arith, write-moving (start .pre .0) (start .pre .1) (start .pre .2) .few)
 
 after-word-requires : tie.Need-after-word-requires
 unfolding driveIn
-after-word-requires c κs = 
+after-word-requires c κs =
     let start : tie.Start = search in
     (staging-set _ _ (start .pre .0), start .pre .1, start .pre .2, omega (arith, write-moving (start .pre .0) (start .pre .1) (start .pre .2) .few))
 
@@ -52,7 +52,7 @@ same-length-3 c = search needs
 
 returns : tie.Need-returns
 unfolding wordStaged driveIn
-returns c = 
+returns c =
     let done : tie.After-after-word = search in
     done .after-word .ensures
 

@@ -30,7 +30,7 @@ returns-5 c = rw (c .match .keys5)
 
 returns-6 : tie.Need-returns-6
 unfolding parameterWords pick
-returns-6 c = 
+returns-6 c =
     let start : tie.Start = search in
     let none = c .match .rest in
     rw (ne-eqb _ 0x01 (none .0 .0 .0 .0 .1), ne-eqb _ 0x04 (none .0 .0 .0 .1), ne-eqb _ 0x05 (none .0 .0 .1), ne-eqb _ 0x06 (none .0 .1), ne-eqb _ 0x07 (none .1), ne-eqb (start .args .code) 0x44 (λ e. omega (arith, e, start .pre)), ne-eqb (start .args .code) 0x46 (λ e. omega (arith, e, start .pre)), ne-eqb (start .args .code) 0x47 (λ e. omega (arith, e, start .pre)))

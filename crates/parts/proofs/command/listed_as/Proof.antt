@@ -13,7 +13,7 @@ function-acts-on-more-requires c κs = search needs
 
 returns : tie.Need-returns
 unfolding functionOf pick
-returns c = 
+returns c =
     let rest : tie.At-match-rest = search in
     let more : tie.After-function-acts-on-more = search in
     let none = rest .match .rest in
@@ -41,7 +41,7 @@ returns-6 c = rw (c .match .keys5)
 
 returns-7 : tie.Need-returns-7
 unfolding functionOf pick
-returns-7 c = 
+returns-7 c =
     let rest : tie.At-match-rest = search in
     let more : tie.After-function-acts-on-more = search in
     let none = rest .match .rest in

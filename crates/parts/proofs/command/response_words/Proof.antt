@@ -22,7 +22,7 @@ returns-3 c = rw (c .match .keys3)
 
 returns-4 : tie.Need-returns-4
 unfolding parameterWords pick
-returns-4 c = 
+returns-4 c =
     let start : tie.Start = search in
     let none = c .match .rest in
     rw (ne-eqb (start .args .code) 0x01 (λ e. omega (arith, e, start .pre)), ne-eqb (start .args .code) 0x04 (λ e. omega (arith, e, start .pre)), ne-eqb (start .args .code) 0x05 (λ e. omega (arith, e, start .pre)), ne-eqb (start .args .code) 0x06 (λ e. omega (arith, e, start .pre)), ne-eqb (start .args .code) 0x07 (λ e. omega (arith, e, start .pre)), ne-eqb _ 0x44 (none .0 .0 .1), ne-eqb _ 0x46 (none .0 .1), ne-eqb _ 0x47 (none .1))
