@@ -79,13 +79,15 @@ none-sent {c} b n e =
     neither false none h = refl
 
 pub record ReadOpen (c : ℕ) : Type 0 where
+  pub read : isRead (controlOf c) ≡ true
   pub gives : givesWords (controlOf c) ≡ true
   pub high : isData c ≡ true
 
 pub read-told : {c : ℕ} → UpperBits c → c / 64 ≡ 3 → ReadOpen c
 read-told {c} b e =
-    let both = sym (reads-give c) ∙ sym (b .read) ∙ eq-eqb (c / 64) 3 e in
-    record { gives = and-l (givesWords (controlOf c)) (isData c) both; high = and-r (givesWords (controlOf c)) (isData c) both }
+    let read = sym (b .read) ∙ eq-eqb (c / 64) 3 e in
+    let both = sym (reads-give c) ∙ read in
+    record { read = read; gives = and-l (givesWords (controlOf c)) (isData c) both; high = and-r (givesWords (controlOf c)) (isData c) both }
 
 pub record ResponseOpen (c : ℕ) : Type 0 where
   pub gives : givesWords (controlOf c) ≡ true

@@ -5,7 +5,7 @@ ghost use mathlib.Core.Path.{_≡_};
 ghost use mathlib.Core.Bool.{true};
 ghost use lib.Dec.{leb, eqb};
 ghost use lib.ListN.{length, getD};
-ghost use Rattle.parts.specs.Control.{controlOf, isWrite, namesField1, namesField2, part, dataWords, wordsToCome};
+ghost use Rattle.parts.specs.Control.{controlOf, isWrite, isRead, namesField1, namesField2, part, dataWords, wordsToCome};
 ghost use Rattle.events.specs.State.{driveIn};
 
 // Are so many words all of a write? It passes its header, verified or moved. Field 1 comes first: most words of a long sector are its, and end the
@@ -30,6 +30,14 @@ pub(crate) fn data_words(state: &[u16], control: u16) -> usize
     ensures { λ r. ⌜ r ≡ dataWords (driveIn (now (state .entry)) .setup) control ⌝ }
 {
     words_at(state, parts::header_passes(control), layout::HEADER) + field_words(state, control)
+}
+
+// Of a read, which takes the header's words where it moves them.
+pub(crate) fn read_words(state: &[u16], control: u16) -> usize
+    requires { ⌜ (21 ≤ length (now state)) × (isRead (controlOf control) ≡ true) ⌝ }
+    ensures { λ r. ⌜ r ≡ dataWords (driveIn (now (state .entry)) .setup) control ⌝ }
+{
+    words_at(state, parts::moves_header(control), layout::HEADER) + field_words(state, control)
 }
 
 // The words of the named fields.

@@ -27,8 +27,8 @@ const READ_STATUS: u16 = 0x44;
 
 // ---- commands
 
-// A word of the open command: it is kept, or it is the last. Two calls of `obey`, one for the commands of one word: one alone the compiler puts into the
-// batch, and every word of a data transfer pays for it.
+// A word of the open command: it is kept, or it is the last. `obey` is called in two functions: from one alone the compiler puts it into the batch, and
+// every word of a data transfer pays for it.
 pub(crate) fn send(state: &mut [u16], port: u8, word: u16) -> Answer
     requires { ⌜ Fit (now state) × (port ≤ 1) × (isData (driveIn (now state) .transfer .control) ≡ false) × (isTaking (driveIn (now state) .transfer) ≡ true) ⌝ }
     ensures { λ r. ⌜ Did (now (state .entry)) (parameterSent (driveIn (now (state .entry))) port word) r (now (state .exit)) ⌝ }
@@ -37,8 +37,7 @@ pub(crate) fn send(state: &mut [u16], port: u8, word: u16) -> Answer
     let moved = t.moved;
     let words = parts::parameter_words(t.control);
     if words == 1 {
-        place::close(state);
-        return Answer::Status(obey(state, port, without_parameters(t.control), word));
+        return send_only(state, port, t.control, word);
     }
     if moved + 1 == words {
         place::close(state);
@@ -48,6 +47,15 @@ pub(crate) fn send(state: &mut [u16], port: u8, word: u16) -> Answer
     state[at] = word;
     state[layout::MOVED] = moved + 1;
     Answer::Done
+}
+
+// The one word of a command that has one.
+fn send_only(state: &mut [u16], port: u8, control: u16, word: u16) -> Answer
+    requires { ⌜ Fit (now state) × (port ≤ 1) ⌝ }
+    ensures { λ r. ⌜ Did (now (state .entry)) (obeyed (transferring control 0) (closed (driveIn (now (state .entry)))) port word) r (now (state .exit)) ⌝ }
+{
+    place::close(state);
+    Answer::Status(obey(state, port, without_parameters(control), word))
 }
 
 fn without_parameters(control: u16) -> Transfer

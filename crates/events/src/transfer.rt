@@ -16,7 +16,7 @@ ghost use Prim.Native.Nat.{_-_, _<_, _≤_};
 ghost use mathlib.Core.Path.{_≡_};
 ghost use mathlib.Core.Bool.{true};
 ghost use Rattle.parts.specs.Setup.{sectorStart};
-ghost use Rattle.parts.specs.Control.{controlOf, isWrite, isData, dataWords};
+ghost use Rattle.parts.specs.Control.{controlOf, isWrite, isRead, dataWords};
 ghost use Rattle.parts.specs.Kind.{Kind, Work, wordOf};
 ghost use Rattle.drive.specs.Transfer.{miscompares, committed, staged, wordStaged, wordTaken};
 ghost use Rattle.drive.specs.Command.{wordFromHost, wordToHost};
@@ -183,7 +183,7 @@ pub(crate) fn on_take_word(
 }
 
 fn take(state: &mut [u16], sectors: &[u16], staging: &[u16]) -> Answer
-    requires { ⌜ Fits (now state) (now sectors) (now staging) × Able (driveIn (now state)) (now sectors) (now staging) × (isData (driveIn (now state) .transfer .control) ≡ true) ⌝ }
+    requires { ⌜ Fits (now state) (now sectors) (now staging) × Able (driveIn (now state)) (now sectors) (now staging) × (isRead (controlOf (driveIn (now state) .transfer .control)) ≡ true) ⌝ }
     ensures { λ r. ⌜ Did (now (state .entry)) (wordTaken (driveIn (now (state .entry))) (now (sectors .entry))) r (now (state .exit)) ⌝ }
 {
     let control = state[layout::CONTROL];
@@ -192,7 +192,7 @@ fn take(state: &mut [u16], sectors: &[u16], staging: &[u16]) -> Answer
     let start = sizes::sector_start(setup, state::place_in(&state[..]));
     let at = start + word_offset(setup, control, moved);
     let word = sectors[at];
-    if moved as usize + 1 == coming::data_words(&state[..], control) {
+    if moved as usize + 1 == coming::read_words(&state[..], control) {
         place::end_transfer(state);
         return Answer::LastWord(word);
     }
@@ -202,10 +202,10 @@ fn take(state: &mut [u16], sectors: &[u16], staging: &[u16]) -> Answer
 
 // Where word k of a read stands in its sector.
 fn word_offset(setup: Setup, control: u16, moved: u16) -> usize
-    requires { ⌜ moved < dataWords setup control ⌝ }
+    requires { ⌜ (moved < dataWords setup control) × (isRead (controlOf control) ≡ true) ⌝ }
     ensures { λ r. ⌜ ReadsAt setup control moved r ⌝ }
 {
-    let header = parts::part_of(parts::header_passes(control), setup.header);
+    let header = parts::part_of(parts::moves_header(control), setup.header);
     let field1 = parts::part_of(parts::names_field1(control), setup.field1);
     let k = moved as usize;
     if k < header {

@@ -1,8 +1,8 @@
 -- The set-up's numbers are small, so no product of them wraps, and a sector of the drive lies within the words of all sectors. The words to come.
 -- Assumes nothing.
 use Prim.Native.Nat.{ℕ, _+_, _*_, _≤_, _<_}
-use mathlib.Core.Path.{_≡_}
-use mathlib.Core.Bool.{Bool, true, false}
+use mathlib.Core.Path.{_≡_, refl}
+use mathlib.Core.Bool.{Bool, true, false, false≢true}
 use native.Mathlib.Nat.{mul-le-mul, mul-le-mul-right, suc-mul}
 use native.Mathlib.Numerals.{add-one}
 use native.Mathlib.Omega.{arith}
@@ -12,9 +12,10 @@ use Rattle.laws.proofs.Tests.{and-l, and-r}
 use Rattle.laws.proofs.Pick.{pick-le, either}
 use Rattle.laws.specs.Pick.{pick}
 use Rattle.parts.specs.Command.{parameterWords, loadDriveFunction, loadCylinderAddress, loadHeadAddress, loadTargetSectorAddress, loadPosition, readStatus, readCurrentSectorAddress, readCurrentPosition}
-use Rattle.parts.specs.Control.{controlOf, isWrite, isData, headerPasses, namesField1, namesField2, part, dataWords, wordsToCome}
+use Rattle.parts.specs.Control.{controlOf, isWrite, isRead, isData, movesHeader, headerPasses, namesField1, namesField2, part, dataWords, wordsToCome}
 use Rattle.parts.proofs.ByBits.{write-is-data}
 use Rattle.parts.specs.Setup.{withinLimits, sectorWords, allWords, sectorNumber, sectorStart, isPlace}
+use Rattle.parts.specs.declared.control.Control.{Control}
 use Rattle.parts.specs.declared.setup.Setup.{Setup}
 use Rattle.parts.specs.declared.setup.Place.{Place}
 
@@ -103,6 +104,21 @@ code-words-few s c h = rw (code-words s c h) (parameters-few c)
 pub write-words : (s : Setup) (c : ℕ) → isWrite (controlOf c) ≡ true → wordsToCome s c ≡ s .header + part (namesField1 c) (s .field1) + part (namesField2 c) (s .field2)
 unfolding wordsToCome dataWords headerPasses pick
 write-words s c h = rw (write-is-data c h, h)
+
+-- a read takes the header's words where it moves them
+pub read-passes : (c : ℕ) → isRead (controlOf c) ≡ true → headerPasses c ≡ movesHeader c
+unfolding headerPasses
+read-passes c r = rw (by-control (controlOf c) r)
+  where
+    by-control : (k : Control) → isRead k ≡ true → isWrite k ≡ false
+    by-control Control.Read h = refl
+    by-control Control.Write h = absurd (false≢true h)
+    by-control Control.Command h = absurd (false≢true h)
+    by-control Control.Response h = absurd (false≢true h)
+    by-control Control.StepHead h = absurd (false≢true h)
+    by-control Control.Reserved h = absurd (false≢true h)
+    by-control Control.Unsupported h = absurd (false≢true h)
+    by-control Control.Invalid h = absurd (false≢true h)
 
 pub words-few : (s : Setup) (c : ℕ) → Limits s → wordsToCome s c ≤ 2056
 unfolding wordsToCome

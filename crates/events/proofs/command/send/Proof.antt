@@ -24,17 +24,8 @@ transfer-in-requires c κs = search needs
 parameter-words-requires : tie.Need-parameter-words-requires
 parameter-words-requires c κs = search needs
 
-close-requires : tie.Need-close-requires
-close-requires c κs = search needs
-
-without-parameters-requires : tie.Need-without-parameters-requires
-without-parameters-requires c κs = search needs
-
-obey-requires : tie.Need-obey-requires
-obey-requires c κs =
-    let closed′ : tie.After-close = search in
-    let start : tie.Start = search in
-    (closed-fit (start .pre .0) (closed′ .close .ensures), start .pre .1)
+send-only-requires : tie.Need-send-only-requires
+send-only-requires c κs = search needs
 
 same-length : tie.Need-same-length
 same-length c = search needs
@@ -42,17 +33,14 @@ same-length c = search needs
 returns : tie.Need-returns
 unfolding parameterSent
 returns c =
-    let done : tie.After-obey = search in
-    let bare : tie.After-without-parameters = search in
-    let closed′ : tie.After-close = search in
+    let only : tie.After-send-only = search in
     let single : tie.Then1 = search in
     let asked : tie.After-parameter-words = search in
     let t : tie.After-transfer-in = search in
     let start : tie.Start = search in
     let one : parameterWords (driveIn (start .args .state .now) .transfer .control) ≡ 1 = sym (rw (t .transfer-in .ensures) at (asked .parameter-words .ensures)) ∙ single .if1 .taken in
     did-first _ _ _ _ (sym (eq-eqb _ _ (one-word (start .pre .0) (start .pre .2) (start .pre .3) one ∙ sym (code-words _ _ (start .pre .2))))) refl
-    (did-closed (λ (d : Drive). obeyed (driveIn (start .args .state .now) .transfer) d (start .args .port) (start .args .word)) (start .pre .0) (closed′ .close .ensures)
-    (did-as _ _ (single-obeyed (driveIn (start .args .state .now) .transfer) _ _ _ (start .pre .2) (start .pre .3) one) (rw (bare .without-parameters .ensures, t .transfer-in .ensures) at (done .obey .ensures))))
+    (did-as _ _ (single-obeyed (driveIn (start .args .state .now) .transfer) _ _ _ (start .pre .2) (start .pre .3) one) (rw (t .transfer-in .ensures) at (only .send-only .ensures)))
 
 add-if2 : tie.Need-add-if2
 add-if2 c =
@@ -60,14 +48,14 @@ add-if2 c =
     let start : tie.Start = search in
     rw (t .transfer-in .ensures) (omega (arith, moved-within (start .pre .0) (start .pre .2) (rw (start .pre .3)), parameters-few (driveIn (start .args .state .now) .transfer .control)))
 
-close-requires-2 : tie.Need-close-requires-2
-close-requires-2 c κs = search needs
+close-requires : tie.Need-close-requires
+close-requires c κs = search needs
 
-obey-requires-2 : tie.Need-obey-requires-2
-obey-requires-2 c κs =
-    let closed′ : tie.After-close2 = search in
+obey-requires : tie.Need-obey-requires
+obey-requires c κs =
+    let closed′ : tie.After-close = search in
     let start : tie.Start = search in
-    (closed-fit (start .pre .0) (closed′ .close2 .ensures), start .pre .1)
+    (closed-fit (start .pre .0) (closed′ .close .ensures), start .pre .1)
 
 same-length-2 : tie.Need-same-length-2
 same-length-2 c = search needs
@@ -75,14 +63,14 @@ same-length-2 c = search needs
 returns-2 : tie.Need-returns-2
 unfolding parameterSent
 returns-2 c =
-    let done : tie.After-obey2 = search in
-    let closed′ : tie.After-close2 = search in
+    let done : tie.After-obey = search in
+    let closed′ : tie.After-close = search in
     let last : tie.Then2 = search in
     let asked : tie.After-parameter-words = search in
     let t : tie.After-transfer-in = search in
     let start : tie.Start = search in
     did-first _ _ _ _ (sym (eq-eqb _ _ (rw (t .transfer-in .ensures) at (last .if2 .taken ∙ asked .parameter-words .ensures) ∙ sym (code-words _ _ (start .pre .2))))) refl
-    (did-closed (λ (d : Drive). obeyed (driveIn (start .args .state .now) .transfer) d (start .args .port) (start .args .word)) (start .pre .0) (closed′ .close2 .ensures) (rw (t .transfer-in .ensures) at (done .obey2 .ensures)))
+    (did-closed (λ (d : Drive). obeyed (driveIn (start .args .state .now) .transfer) d (start .args .port) (start .args .word)) (start .pre .0) (closed′ .close .ensures) (rw (t .transfer-in .ensures) at (done .obey .ensures)))
 
 cast-at : tie.Need-cast-at
 cast-at c = search needs
@@ -135,14 +123,12 @@ send-spec =
     (tie.spec
     transfer-in-requires
     parameter-words-requires
-    close-requires
-    without-parameters-requires
-    obey-requires
+    send-only-requires
     same-length
     returns
     add-if2
-    close-requires-2
-    obey-requires-2
+    close-requires
+    obey-requires
     same-length-2
     returns-2
     cast-at

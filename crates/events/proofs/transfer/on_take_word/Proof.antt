@@ -38,7 +38,7 @@ take-requires c κs =
     let read : tie.Then2 = search in
     let start : tie.Start = search in
     let told = read-told (timely-told (fit (start .pre .0))) (read .if2 .taken) in
-    (start .pre .0, able-to-read (start .pre .0 .passable) (told .gives), told .high)
+    (start .pre .0, able-to-read (start .pre .0 .passable) (told .gives), told .read)
 
 same-length-2 : tie.Need-same-length-2
 same-length-2 c = search needs

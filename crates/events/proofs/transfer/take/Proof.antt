@@ -8,6 +8,7 @@ use denote.Ref.{now}
 use mathlib.Core.Path.{_∙_, refl, sym}
 use native.Mathlib.Omega.{arith}
 use Rattle.parts.proofs.Bounds.{data-words}
+use Rattle.parts.proofs.ByBits.{read-is-data}
 use borrow.Author.Needs.{needs}
 use Rattle.events.proofs.transfer.take.Statement.{statement}
 use Rattle.events.proofs.transfer.take.Tie as tie
@@ -39,7 +40,7 @@ unfolding driveIn
 word-offset-requires c κs =
     let after-setup-in : tie.After-setup-in = search in
     let start = entry after-setup-in in
-    rw (after-setup-in .setup-in .ensures) (rw (data-words _ _ (start .pre .2)) at (start .pre .1 .moved))
+    (rw (after-setup-in .setup-in .ensures) (rw (data-words _ _ (read-is-data _ (start .pre .2))) at (start .pre .1 .moved)), start .pre .2)
 
 add-at : tie.Need-add-at
 add-at c =
@@ -72,17 +73,20 @@ shared-slice-read-word c =
 cast-if1 : tie.Need-cast-if1
 cast-if1 c =
     let start : tie.Start = search in
-    let m = moving (start .pre .1) (start .pre .2) in
+    let m = moving (start .pre .1) (read-is-data _ (start .pre .2)) in
     omega (arith, m .few)
 
 add-if1 : tie.Need-add-if1
 add-if1 c =
     let start : tie.Start = search in
-    let m = moving (start .pre .1) (start .pre .2) in
+    let m = moving (start .pre .1) (read-is-data _ (start .pre .2)) in
     omega (arith, m .few)
 
-data-words-requires : tie.Need-data-words-requires
-data-words-requires c κs = search needs
+read-words-requires : tie.Need-read-words-requires
+unfolding driveIn
+read-words-requires c κs =
+    let start : tie.Start = search in
+    (start .pre .0 .long, start .pre .2)
 
 end-transfer-requires : tie.Need-end-transfer-requires
 end-transfer-requires c κs = search needs
@@ -95,20 +99,20 @@ unfolding driveIn
 returns c =
     let ended : tie.After-end-transfer = search in
     let last : tie.Then1 = search in
-    let asked : tie.After-data-words = search in
+    let asked : tie.After-read-words = search in
     let offset : tie.After-word-offset = search in
     let begin : tie.After-sector-start = search in
     let place : tie.After-place-in = search in
     let setup : tie.After-setup-in = search in
     let start = entry setup in
     let room = has-room (start .pre .0) _ _ _ (setup .setup-in .ensures) (place .place-in .ensures) (begin .sector-start .ensures) in
-    did-as _ _ (last-taken (driveIn (now (start .args .state))) _ _ _ _ _ _ (setup .setup-in .ensures) (place .place-in .ensures) (begin .sector-start .ensures) room (offset .word-offset .ensures) (last .if1 .taken ∙ asked .data-words .ensures ∙ sym (data-words _ _ (start .pre .2))))
+    did-as _ _ (last-taken (driveIn (now (start .args .state))) _ _ _ _ _ _ (setup .setup-in .ensures) (place .place-in .ensures) (begin .sector-start .ensures) room (offset .word-offset .ensures) (last .if1 .taken ∙ asked .read-words .ensures ∙ sym (data-words _ _ (read-is-data _ (start .pre .2)))))
     (record { answer = refl; state = ended .end-transfer .ensures })
 
 add-state : tie.Need-add-state
 add-state c =
     let start : tie.Start = search in
-    let m = moving (start .pre .1) (start .pre .2) in
+    let m = moving (start .pre .1) (read-is-data _ (start .pre .2)) in
     omega (arith, m .few)
 
 slice-write-state : tie.Need-slice-write-state
@@ -120,14 +124,14 @@ same-length-2 c = search needs
 returns-2 : tie.Need-returns-2
 unfolding driveIn
 returns-2 c =
-    let asked : tie.After-data-words = search in
+    let asked : tie.After-read-words = search in
     let offset : tie.After-word-offset = search in
     let begin : tie.After-sector-start = search in
     let place : tie.After-place-in = search in
     let setup : tie.After-setup-in = search in
     let start = entry setup in
     let room = has-room (start .pre .0) _ _ _ (setup .setup-in .ensures) (place .place-in .ensures) (begin .sector-start .ensures) in
-    did-as _ _ (one-taken (driveIn (now (start .args .state))) _ _ _ _ _ _ (setup .setup-in .ensures) (place .place-in .ensures) (begin .sector-start .ensures) room (offset .word-offset .ensures) (λ e. c .if1 .left (e ∙ data-words _ _ (start .pre .2) ∙ sym (asked .data-words .ensures))))
+    did-as _ _ (one-taken (driveIn (now (start .args .state))) _ _ _ _ _ _ (setup .setup-in .ensures) (place .place-in .ensures) (begin .sector-start .ensures) room (offset .word-offset .ensures) (λ e. c .if1 .left (e ∙ data-words _ _ (read-is-data _ (start .pre .2)) ∙ sym (asked .read-words .ensures))))
     (record { answer = refl; state = word-moved _ _ (start .pre .0 .long) (known (fit (start .pre .0))) })
 
 pub take-spec : {M : Type 1} → statement M
@@ -145,7 +149,7 @@ take-spec =
     shared-slice-read-word
     cast-if1
     add-if1
-    data-words-requires
+    read-words-requires
     end-transfer-requires
     same-length
     returns
