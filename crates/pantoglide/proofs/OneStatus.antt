@@ -1,10 +1,11 @@
 -- One status: the octets that the drive answers are those that `status` writes, so that its decoders take them.
 -- Assumes nothing.
-use Prim.Native.Nat.{ℕ, _+_, _%_}
+use Prim.Native.Nat.{ℕ, _+_, _*_, _/_, _%_}
 use mathlib.Core.Path.{_≡_, refl, sym, ap, subst, _∙_}
 use mathlib.Core.Bool.{Bool, true, false, not, _||_}
 use mathlib.Core.List.{List, [], _∷_, _++_}
 use mathlib.Core.Option.{some}
+use native.Mathlib.Omega.{arith}
 use borrow.Author.Tests.{eqb-true}
 use lib.Dec.{eqb}
 use Rattle.laws.specs.Pick.{pick}
@@ -27,14 +28,19 @@ use Rattle.status.proofs.Decoding.{octet-of-status}
 use Rattle.status.proofs.RoundTrip.{encoded-octet, encoded-octets}
 use Rattle.drive.specs.Answer.{paper}
 use Rattle.drive.specs.State.{pendingOn}
-use Rattle.drive.specs.Bounded.{statuses, responseTo, Bounded}
+use Rattle.drive.specs.Bounded.{statuses, responseTo, Bounded, PendingOctets}
 use Rattle.drive.specs.Frame.{AreOctets}
+use Rattle.drive.specs.Command.{statusTold}
+use Rattle.drive.specs.Commands.{Idle}
 use Rattle.drive.specs.Run.{Machine, answerTo}
 use Rattle.drive.specs.declared.answer.Answer.{Answer}
 use Rattle.drive.specs.declared.answer.Answer.the-variants.{Refused, Done, Status, Opened, Word, LastWord, Response}
 use Rattle.drive.proofs.Posted.{on-either}
+use Rattle.drive.proofs.Sound.{sound}
+use Rattle.drive.proofs.SoundPlace.{pending-stray}
+use Rattle.drive.proofs.CommandRuns.{commands}
 use Rattle.drive.proofs.Bounded.{answers-bounded}
-use Rattle.pantoglide.specs.OneStatus.{StatusTaken, ResponseTaken, OneStatus}
+use Rattle.pantoglide.specs.OneStatus.{StatusTaken, ResponseTaken, octetsIn, WordsTaken, OneStatus}
 
 -- ---- the status
 
@@ -121,6 +127,26 @@ response-in s (Opened words place) p b h = absent refl h
 response-in s (Word word) p b h = absent refl h
 response-in s (LastWord word) p b h = absent refl h
 
+-- ---- by code 44
+
+octets-told : (p : Pending) → AreOctets p → octetsIn (statusTold p) ≡ responseTo p
+octets-told p octets =
+    let high : (octet0 p * 256 + p .octet1) / 256 ≡ octet0 p = omega (arith, octets .0) in
+    let low : (octet0 p * 256 + p .octet1) % 256 ≡ p .octet1 = omega (arith, octets .0) in
+    let next : p .octet2 * 256 / 256 ≡ p .octet2 = omega arith in
+    let last : p .octet2 * 256 % 256 ≡ 0 = omega arith in
+    rw (high, low, next, last)
+
+words-taken : (m : Machine) (port : ℕ) → Idle m port → PendingOctets m → WordsTaken m port
+words-taken m port idle f =
+    let p = pendingOn (m .drive) port in
+    let few = on-either AreOctets (m .drive) port f in
+    record {
+      words = statusTold p;
+      told = commands .status-by-44 m port idle .told;
+      response = response-taken m port _ few (pending-stray port (sound (m .drive) (idle .sound .sound))) (octets-told p few);
+    }
+
 pub one-status : OneStatus
 one-status =
     record {
@@ -130,4 +156,5 @@ one-status =
           let told = answers-bounded .response m e octets h in
           response-taken m (e .port) octets (on-either AreOctets (m .drive) (e .port) f)
           (response-in (m .drive .setup) (answerTo m e) p (answers-bounded .bounded m e f) (h ∙ ap some told)) told;
+      by-44 = words-taken;
     }

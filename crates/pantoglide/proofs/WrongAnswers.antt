@@ -15,6 +15,8 @@ wrong-answers =
     record {
       cylindersForHeads = λ h. told-apart 2 1 refl (ap (λ words. getD words 0 0) (h .state));
       portForKind = λ h. told-apart 8 0 refl (h .refusal);
+      parameterStaged = λ h. told-apart 1 0 refl (ap (λ words. getD words 0 0) (h .staging));
+      reservationForgotten = λ h. told-apart 2 0 refl (ap (λ words. getD words 8 0) (h .state));
       stagingForSectors = λ h. told-apart 10 0 refl (ap (λ words. getD words 0 0) (h .out));
       drivesForControllers = λ h. told-apart 18 17 refl (h .answer);
       bit7Taken = λ h. told-apart 17 11 refl (h .answer);

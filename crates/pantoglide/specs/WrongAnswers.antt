@@ -3,23 +3,41 @@
 use Prim.Native.Nat.{ℕ}
 use mathlib.Core.List.{List, [], _∷_, _++_}
 use lib.ListN.{replicate}
+use Rattle.parts.specs.Tests.{parameters, noParameters, transferringWith}
+use Rattle.parts.specs.declared.holding.Hold.the-variants.{None}
+use Rattle.parts.specs.declared.transfer.Parameters.{Parameters}
 use Rattle.capture.specs.Encoding.{captureOctets}
 use Rattle.capture.specs.Cases.{threeEvents, itsTrailer}
 use Rattle.drive.specs.Power.{atRest, setupOf}
 use Rattle.drive.specs.AnswerWords.{answerWords}
 use Rattle.drive.specs.Cases.{bench}
-use Rattle.drive.specs.declared.answer.Answer.the-variants.{Refused}
+use Rattle.drive.specs.State.{atPlace, withTransfer}
+use Rattle.drive.specs.WrongAnswers.{selectedBy}
+use Rattle.drive.specs.declared.drive.Drive.{Drive}
+use Rattle.drive.specs.declared.answer.Answer.the-variants.{Refused, Done, Status, Opened}
 use Rattle.events.specs.State.{stateWords}
 use Rattle.events.specs.Power.{PoweredUpOnWords}
 use Rattle.events.specs.Event.{eventOfOctets, EventOnWords}
 use Rattle.events.specs.Run.{RunOnWords}
-use Rattle.events.specs.WrongAnswers.{zeros, disk, selection}
+use Rattle.events.specs.WrongAnswers.{sector, zeros, disk, selection}
 use Rattle.pantoglide.specs.Capture.{CaptureFound, CaptureMade}
 use Rattle.pantoglide.specs.Line.{LineFollowed}
 
 -- The words of the bench drive at rest.
 abbrev rest : List ℕ
 rest = stateWords (atRest bench)
+
+-- Port 0 is selected, and so many words of Load Position are sent.
+abbrev commanding : ℕ → Parameters → Drive
+commanding moved kept = withTransfer (selectedBy 0 None) (transferringWith 0x07 moved kept)
+
+-- Port 0 selects, reserves and deselects.
+abbrev reservation : List ℕ
+reservation =
+    selection 0
+    ++ (0 ∷ 0 ∷ 0 ∷ 3 ∷ 0x01 ∷ 0 ∷ 0 ∷ 0 ∷ [])
+    ++ (0 ∷ 0 ∷ 0 ∷ 4 ∷ 0x14 ∷ 0x14 ∷ 0 ∷ 0 ∷ [])
+    ++ (0 ∷ 0 ∷ 0 ∷ 2 ∷ 0 ∷ 0 ∷ 0 ∷ 0 ∷ [])
 
 pub record WrongAnswers : Type 0 where
   -- ---- `pg_power_up`
@@ -28,9 +46,15 @@ pub record WrongAnswers : Type 0 where
   -- ---- `pg_event`
   -- Port and kind changed over: the selection is an event of no kind.
   pub portForKind : EventOnWords rest (eventOfOctets 0 1 0x30 0 0 0) (disk zeros) zeros (replicate 13 0) 8 rest (disk zeros) zeros (replicate 13 0) → ⊥
+  -- A word of Load Position is staged.
+  pub parameterStaged : EventOnWords (stateWords (commanding 0 noParameters)) (eventOfOctets 0 4 0 1 0 0) (disk zeros) zeros (replicate 13 0)
+      0 (stateWords (commanding 1 (parameters 1 0 0))) (disk zeros) (sector 1 0 0 0) (answerWords Done) → ⊥
   -- ---- `pg_run`
   -- Sectors and staging changed over: every event is told 10.
   pub stagingForSectors : RunOnWords rest (selection 0) (disk zeros) zeros (replicate 13 0) 0 rest (disk zeros) zeros (answerWords (Refused 10)) → ⊥
+  -- Reserved and deselected, the drive is free.
+  pub reservationForgotten : RunOnWords rest reservation (disk zeros) zeros (replicate 52 0)
+      0 rest (disk zeros) zeros (answerWords Done ++ answerWords (Opened 1 (atPlace 0 0 0)) ++ answerWords (Status 0) ++ answerWords Done) → ⊥
   -- ---- `pg_line`
   -- 18, the drive's, for the controller's move from IDLE to SELECT.
   pub drivesForControllers : LineFollowed (0 ∷ []) 16 18 (0x30 ∷ []) → ⊥
