@@ -7,7 +7,29 @@ use crate::words;
 
 // The words of the bench drive at rest: "Address 3; 2 cylinders, 2 heads, 3 sectors; header 1, field 1 of 2, field 2 of 1",
 // "nobody selected, no hold, position 0/0/0, target FFFF hex (none, and never outside the drive), nothing pending".
-const AT_REST: [u16; 18] = [2, 2, 3, 1, 2, 1, 3, 2, 2, 0, 0, 0, 0, 0xFFFF, 0, 0, 0, 0];
+pub(crate) const AT_REST: [u16; 21] = [
+    2,
+    2,
+    3,
+    1,
+    2,
+    1,
+    3,
+    2,
+    2,
+    0,
+    0,
+    0,
+    0,
+    0xFFFF,
+    0,
+    0,
+    0,
+    0,
+    0,
+    0,
+    0,
+];
 
 // What a run of a case found.
 struct Ran {
@@ -50,7 +72,14 @@ fn case(rows: &[u64], from: usize) -> Ran {
         let octets = words::octets(done);
         same = same
             & if octets[1] != row::IS_EVENT {
-                is_put(octets, outcome, &mut state, &mut sectors, &mut expected)
+                is_put(
+                    octets,
+                    outcome,
+                    &mut state,
+                    &mut sectors,
+                    &mut expected,
+                    &staging,
+                )
             } else if event::is_refusal(outcome) {
                 event::is_refused(octets, outcome, state, sectors, staging)
             } else {
@@ -71,9 +100,10 @@ fn case(rows: &[u64], from: usize) -> Ran {
 fn is_put(
     octets: [u8; 8],
     outcome: u64,
-    state: &mut [u16; 18],
+    state: &mut [u16; 21],
     sectors: &mut [u16; 180],
     expected: &mut [u16; 180],
+    staging: &[u16; 4],
 ) -> bool {
     let four = words::words(outcome);
     let index = words::wide(octets[7]);
@@ -84,11 +114,13 @@ fn is_put(
         row::IS_EXPECTS => words::put(expected, index, &four),
         row::IS_AT_REST => words::put(state, 0, &AT_REST),
         row::IS_POWER_UP => power::answered(outcome, *state),
+        row::IS_HAS => words::has(state, index, &four),
+        row::IS_STAGED => words::same(staging, &four),
         _ => words::same(sectors, expected) & is_at(state, four),
     }
 }
 
 // The owner, the cylinder, the head and the sector.
-fn is_at(state: &[u16; 18], four: [u16; 4]) -> bool {
+fn is_at(state: &[u16; 21], four: [u16; 4]) -> bool {
     (state[8] == four[0]) & (state[10] == four[1]) & (state[11] == four[2]) & (state[12] == four[3])
 }

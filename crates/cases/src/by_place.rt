@@ -47,7 +47,12 @@ fn has_settings() -> bool {
 
 // Port 1, kind 7, and the octets 0, 2, 3 and 4. The drive has 3 cylinders, 4 heads, 5 sectors of 0, 1 and 2 words, address 6.
 fn positions() -> bool {
-    let mut state: [u16; 18] = [3, 4, 5, 0, 1, 2, 6, 1, 1, 0, 0, 0, 0, 0xFFFF, 0, 0, 0, 0];
+    let mut state = [0u16; 21];
+    let put = words::put(
+        &mut state,
+        0,
+        &[3, 4, 5, 0, 1, 2, 6, 1, 1, 0, 0, 0, 0, 0xFFFF],
+    );
     let refusal = pantoglide::pg_event(
         &mut state,
         1,
@@ -60,11 +65,10 @@ fn positions() -> bool {
         &mut [0u16; 3],
         &mut [0u16; 13],
     );
-    (refusal == 0)
-        & words::same(
-            &state,
-            &[3, 4, 5, 0, 1, 2, 6, 1, 1, 0, 2, 3, 4, 0xFFFF, 0, 0, 0, 0],
-        )
+    put
+        & (refusal == 0)
+        & words::has(&state, 0, &[3, 4, 5, 0, 1, 2, 6, 1, 1, 0, 2, 3, 4, 0xFFFF])
+        & words::has(&state, 14, &[0u16; 7])
 }
 
 fn powers_up() -> bool {

@@ -1,15 +1,21 @@
-// Runs the bench cases of document 01 that are not marked P, and further ones, through the public calls, and compares.
+// Runs the bench cases of document 01 that are not marked P, the worked cases of M-100 and further ones through the public calls,
+// and compares.
 mod bench;
 mod by_place;
 mod calls;
 mod capture_cases;
+mod code_cases;
+mod command_cases;
 mod control_cases;
 mod event;
 mod event_refusal_cases;
+mod handed_cases;
 mod holding_cases;
 mod line_cases;
 mod octets;
 mod power;
+mod reserve_cases;
+mod response_cases;
 mod row;
 mod setup_cases;
 mod state_cases;
@@ -26,10 +32,15 @@ fn main() {
     let controls = control_cases::run(lines);
     let transfers = transfer_cases::run(controls);
     let holdings = holding_cases::run(transfers);
-    let event_refusals = event_refusal_cases::run(holdings);
+    let reserves = reserve_cases::run(holdings);
+    let commands = command_cases::run(reserves);
+    let responses = response_cases::run(commands);
+    let codes = code_cases::run(responses);
+    let event_refusals = event_refusal_cases::run(codes);
     let setups = setup_cases::run(event_refusals);
     let states = state_cases::run(setups);
-    let statuses = status_cases::run(states);
+    let handed = handed_cases::run(states);
+    let statuses = status_cases::run(handed);
     let captures = capture_cases::run(statuses);
     by_place::run(captures).told();
 }

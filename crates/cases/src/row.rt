@@ -4,6 +4,11 @@
 //   EXPECTS + index, the words    at the end, four sector words from the index on are these; those not named are zero
 //   STATE + index, the words      four words of the state from the index on are now these
 //   AT_REST, 0                    the state is that of the bench drive at rest
+//   HOLDS, the words              the selected port, the owner, the hold and the cylinder are these
+//   STANDS, the words             the cylinder, the head, the sector and the target are these
+//   OPEN, the words               the open control, its words moved and what is pending on port 0 and port 1 are these
+//   KEPT, the words               what is pending on port 1 and the three parameter words are these
+//   STAGED, the words             the staging words are these
 //   POWER_UP, refusal             power-up with the first seven words of the state as its numbers; 0 for no refusal
 //   ENDS, owner + place           whose the drive is, and where it is; this row ends the case
 
@@ -54,6 +59,17 @@ pub(crate) const POWER_UP: u64 = 0x05_00_00_00000000;
 
 pub(crate) const ENDS: u64 = 0x06_00_00_00000000;
 
+// Four words of the state from an index on.
+pub(crate) const HOLDS: u64 = 0x07_00_00_00000000 + 7;
+
+pub(crate) const STANDS: u64 = 0x07_00_00_00000000 + 10;
+
+pub(crate) const OPEN: u64 = 0x07_00_00_00000000 + 14;
+
+pub(crate) const KEPT: u64 = 0x07_00_00_00000000 + 17;
+
+pub(crate) const STAGED: u64 = 0x08_00_00_00000000;
+
 // Sectors of four words follow by sector, then head, then cylinder.
 pub(crate) const SECTOR: u64 = 4;
 
@@ -69,6 +85,10 @@ pub(crate) const IS_STATE: u8 = 3;
 pub(crate) const IS_AT_REST: u8 = 4;
 
 pub(crate) const IS_POWER_UP: u8 = 5;
+
+pub(crate) const IS_HAS: u8 = 7;
+
+pub(crate) const IS_STAGED: u8 = 8;
 
 // The answers.
 pub(crate) const DONE: u64 = 0;

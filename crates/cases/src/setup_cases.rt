@@ -1,5 +1,6 @@
 // Refusals 9 and 10 of power-up, and 10 of events: numbers outside their limits, short slices.
 use crate::bench;
+use crate::power;
 use crate::row::AT_REST;
 use crate::row::DATA_CONTROL;
 use crate::row::DONE;
@@ -19,18 +20,44 @@ use crate::row::STATE;
 use crate::row::STATUS;
 use crate::row::WORD_FROM_HOST;
 use crate::tally::Tally;
+use crate::words;
 
 pub(crate) fn run(tally: Tally) -> Tally {
-    bench::runs(
-        tally,
-        b"\
+    let names = b"\
 refusal 9: power-up outside the limits\n\
 power-up at the limits\n\
 refusal 10: power-up with a short slice\n\
 refusal 10: an event with a short slice\n\
-a drive whose numbers all differ\n",
-        &CASES,
-    )
+a drive whose numbers all differ\n\
+refusal 10: a state of 20 words\n";
+    bench::runs(tally, names, &CASES).next(names, is_too_short())
+}
+
+// A word less than the state has: nothing is written.
+fn is_too_short() -> bool {
+    let mut short = [0x5A5Au16; 20];
+    let mut answer = [0u16; 13];
+    let powered = power::refusal_of(bench::AT_REST, &mut short);
+    let one = pantoglide::pg_event(
+        &mut short,
+        0,
+        10,
+        0,
+        0,
+        0,
+        0,
+        &mut [0u16; 48],
+        &mut [0u16; 4],
+        &mut answer,
+    );
+    let many = pantoglide::pg_run(
+        &mut short,
+        &[0, 0, 0, 10, 0, 0, 0, 0],
+        &mut [0u16; 48],
+        &mut [0u16; 4],
+        &mut answer,
+    );
+    (powered == 10) & (one == 10) & (many == 10) & words::same(&short, &[0x5A5Au16; 20])
 }
 
 const CASES: [u64; 186] = [

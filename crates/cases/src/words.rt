@@ -40,6 +40,18 @@ pub(crate) fn put(all: &mut [u16], index: usize, words: &[u16]) -> bool {
     true
 }
 
+// Do these words stand in `all` from the index on?
+pub(crate) fn has(all: &[u16], index: usize, words: &[u16]) -> bool {
+    if all.len() < index {
+        return false;
+    }
+    if all.len() - index < words.len() {
+        return false;
+    }
+    let end = index + words.len();
+    same(&all[index..end], words)
+}
+
 pub(crate) fn same(a: &[u16], b: &[u16]) -> bool {
     if a.len() != b.len() {
         return false;
