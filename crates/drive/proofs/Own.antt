@@ -2,13 +2,13 @@
 -- Assumes nothing.
 use Prim.Native.Nat.{ℕ, _<_}
 use mathlib.Core.Path.{_≡_, refl, sym, _∙_}
-use mathlib.Core.Bool.{Bool, true, false, not, _||_, or-true, true≢false}
-use mathlib.Core.List.{List, [], _∷_}
+use mathlib.Core.Bool.{true, false, not, _||_, or-true, true≢false}
+use mathlib.Core.List.{List, []}
 use borrow.Author.Tests.{ne-eqb, leb-false}
 use lib.Dec.{eqb, leb}
 use Rattle.laws.specs.Pick.{pick}
-use Rattle.laws.specs.Rows.{first, _when_}
-use Rattle.laws.proofs.Rows.{refused-as, accepted-as, row-off, rows-rest}
+use Rattle.laws.specs.Rows.{first}
+use Rattle.laws.proofs.Rows.{refused-as, accepted-as}
 use Rattle.laws.proofs.Tests.{or-r}
 use Rattle.parts.specs.Command.{codeOf}
 use Rattle.parts.specs.Control.{controlOf, takesWords, givesWords, wordsToCome}
@@ -71,7 +71,3 @@ able-to-write p o = able p (rw o)
 
 pub able-to-read : {d : Drive} {sectors staging : List ℕ} → Passable d sectors staging → isGiving (d .transfer) ≡ true → Able d sectors staging
 able-to-read {d} p o = able p (rw o (or-true (isTaking (d .transfer))))
-
--- the last of the tests 8, 2, 7 of a kind that passed them all
-pub timely : (formed selected untimely : Bool) → first (8 when formed ∷ 2 when selected ∷ 7 when untimely ∷ []) ≡ 0 → untimely ≡ false
-timely formed selected untimely e = row-off untimely 6 0 (rows-rest selected 1 _ (rows-rest formed 7 _ e))

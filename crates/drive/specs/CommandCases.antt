@@ -6,7 +6,7 @@ use lib.ListN.{replicate}
 use Rattle.parts.specs.Holding.{nobody, held}
 use Rattle.parts.specs.Pending.{alternatePortPrioritySelect, resetComplete, invalidParameter, pendingOf, nothingPending}
 use Rattle.parts.specs.Tests.{transferring, transferringWith, parameters}
-use Rattle.parts.specs.declared.holding.Hold.the-variants.{None, Plain, Strong}
+use Rattle.parts.specs.declared.holding.Hold.the-variants.{None, Strong}
 use Rattle.parts.specs.declared.event.Event.{Event}
 use Rattle.drive.specs.State.{atPlace, withHolding, withPlace, withTarget, withTransfer, withPending}
 use Rattle.drive.specs.Power.{atRest}

@@ -13,14 +13,12 @@ use Rattle.parts.specs.Control.{controlOf, isRead, headerPasses, namesField1, p
 use Rattle.parts.specs.Pending.{nothingPending}
 use Rattle.parts.specs.declared.control.Control.the-variants.{Response}
 use Rattle.parts.specs.declared.setup.Setup.{Setup}
-use Rattle.parts.specs.declared.event.Event.{Event}
 use Rattle.drive.specs.Answer.{paper}
 use Rattle.drive.specs.Command.{wordsTold}
 use Rattle.drive.specs.Run.{Machine}
 use Rattle.drive.specs.Along.{Saying}
 use Rattle.drive.specs.Journal.{Write, journal, lastWrite}
 use Rattle.drive.specs.Standing.{Standing, atStart, standingFrom}
-use Rattle.drive.specs.declared.answer.Answer.{Answer}
 
 -- "Words pass header, field 1, field 2": where word k of a read stands in its sector.
 unfoldable pub offsetOf : Setup → ℕ → ℕ → ℕ

@@ -2,14 +2,13 @@
 -- Assumes nothing.
 use Prim.Native.Nat.{ℕ, _+_, _<_}
 use mathlib.Core.Path.{_≡_, refl, sym, _∙_}
-use mathlib.Core.Bool.{Bool, true, false, not}
-use mathlib.Core.List.{List, [], _∷_}
+use mathlib.Core.Bool.{true, false}
+use mathlib.Core.List.{List}
 use native.Mathlib.Omega.{arith}
-use borrow.Author.Tests.{not-false, eq-eqb, ne-eqb}
+use borrow.Author.Tests.{eq-eqb, ne-eqb}
 use lib.Dec.{eqb}
 use lib.ListN.{length, getD, set, length-set}
 use Rattle.laws.specs.Pick.{pick}
-use Rattle.laws.specs.Rows.{first, _when_}
 use Rattle.parts.specs.Setup.{withinLimits, sectorStart, sectorAt, isPlace}
 use Rattle.parts.specs.declared.transfer.Transfer.{Transfer}
 use Rattle.parts.proofs.ByBits.{writes-take}

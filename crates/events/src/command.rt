@@ -23,7 +23,7 @@ ghost use Rattle.drive.specs.Command.{cylinderOf, seeking, functioned, obeyed, 
 ghost use Rattle.events.specs.State.{driveIn, movedTo};
 ghost use Rattle.events.specs.Fit.{Fit, Did};
 
-const READ_STATUS: u16 = 0x44;
+pub(crate) const READ_STATUS: u16 = 0x44;
 
 // ---- commands
 

@@ -1,6 +1,7 @@
 // Kinds 3, 7 and 8: a control, a position, a target.
 use crate::answer;
 use crate::coming;
+use crate::command;
 use crate::layout;
 use crate::pending;
 use crate::place;
@@ -18,13 +19,11 @@ ghost use Rattle.events.specs.State.{driveIn};
 ghost use Rattle.events.specs.Fit.{Fit, Did};
 
 // The code that reads status is never answered C.
-const READ_STATUS: u16 = 0x44;
-
 pub(crate) fn ask(state: &mut [u16], port: u8, control: u16) -> Answer
     requires { ⌜ Fit (now state) × (port ≤ 1) ⌝ }
     ensures { λ r. ⌜ Did (now (state .entry)) (dataControl (driveIn (now (state .entry))) port control) r (now (state .exit)) ⌝ }
 {
-    if control == READ_STATUS {
+    if control == command::READ_STATUS {
         return open_code(state, control);
     }
     if pending::is_unsolicited(&state[..], port) {

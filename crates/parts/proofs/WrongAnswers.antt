@@ -6,7 +6,7 @@ use mathlib.Core.Bool.{true≢false, false≢true}
 use Rattle.laws.specs.Pick.{pick}
 use Rattle.laws.proofs.Differ.{differ}
 use Rattle.parts.specs.Setup.{withinLimits, isPlace, isTarget, following, allWords, lacksRoom}
-use Rattle.parts.specs.Command.{codeOf, parameterWords, functionOf, functionIn}
+use Rattle.parts.specs.Command.{codeOf, parameterWords}
 use Rattle.parts.specs.Control.{controlOf, headerPasses, dataWords, wordsToCome}
 use Rattle.parts.specs.Holding.{isBusy, released}
 use Rattle.parts.specs.Pending.{octet0, withBit, noticed, faulted}
@@ -24,6 +24,13 @@ wrong-answers =
     record {
       read-for-D0 = λ h. false≢true (h .on-paper);
       write-for-80 = λ h. false≢true (h .on-paper);
+      invalid-for-reserve-code = λ h. false≢true (h .on-paper);
+      low-is-data = true≢false;
+      high-is-code = false≢true;
+      one-for-cylinder = differ refl;
+      words-for-format = differ refl;
+      unequal-reserves = λ h. false≢true (h .on-paper);
+      unlisted-acts = λ h. false≢true (h .on-paper);
       step-head-writes = true≢false;
       first-write-left-out = false≢true;
       reserved-reads = true≢false;

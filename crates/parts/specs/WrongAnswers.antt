@@ -4,13 +4,15 @@ use mathlib.Core.Path.{_≡_}
 use mathlib.Core.Bool.{true, false}
 use Rattle.laws.specs.Rows.{first}
 use Rattle.parts.specs.Setup.{withinLimits, sectorWords, lacksRoom, isPlace, noTarget, isTarget, following}
-use Rattle.parts.specs.Control.{ControlSaid, controlOf, isWrite, isRead, namesField1, namesField2, verifiesHeader, movesHeader, isAtTarget, part, headerPasses, wordsToCome}
+use Rattle.parts.specs.Control.{ControlSaid, controlOf, isData, isWrite, isRead, namesField1, namesField2, verifiesHeader, movesHeader, isAtTarget, part, headerPasses, wordsToCome}
+use Rattle.parts.specs.Command.{parameterWords, FunctionSaid}
 use Rattle.parts.specs.Holding.{nobody, held, free, isOwnedByOther, isBusy, Granted, NotHeld, Released}
 use Rattle.parts.specs.Pending.{pendingOf, noticed, bitOf, faulted, octet0}
 use Rattle.parts.specs.Kind.{noneAfter1, noneAfter2, noneAtAll, wordOf}
 use Rattle.parts.specs.Tests.{transferring, noTransfer, isMisaddressed, changesMode, insideRows, selectRows}
 use Rattle.parts.specs.declared.setup.Setup.{Setup}
 use Rattle.parts.specs.declared.setup.Place.{Place}
+use Rattle.parts.specs.declared.command.Function.{Function}
 use Rattle.parts.specs.declared.control.Control.{Control}
 use Rattle.parts.specs.declared.pending.Fault.{Fault}
 use Rattle.parts.specs.declared.event.Event.{Event}
@@ -36,6 +38,23 @@ pub record WrongAnswers : Type 0 where
   pub read-for-D0 : ControlSaid 0xD0 Control.Read → ⊥
   -- 80 is unsupported.
   pub write-for-80 : ControlSaid 0x80 Control.Write → ⊥
+  -- "Bit 7 of octet 2 no longer covers these codes": 01 is a command.
+  pub invalid-for-reserve-code : ControlSaid 0x01 Control.Invalid → ⊥
+  -- ---- is_data
+  -- 7F is the last code.
+  pub low-is-data : true ≡ isData 0x7F → ⊥
+  -- 80 is the first data control.
+  pub high-is-code : false ≡ isData 0x80 → ⊥
+  -- ---- parameter_words
+  -- The cylinder's 4 octets are two words.
+  pub one-for-cylinder : 1 ≡ parameterWords 0x04 → ⊥
+  -- 02 acts on more and never opens.
+  pub words-for-format : 1 ≡ parameterWords 0x02 → ⊥
+  -- ---- function_of
+  -- "If the 2 octets are not the same, the Command is rejected".
+  pub unequal-reserves : FunctionSaid 0x1413 Function.Reserve → ⊥
+  -- 17 is not listed.
+  pub unlisted-acts : FunctionSaid 0x1717 Function.ActsOnMore → ⊥
   -- ---- is_write
   -- 90 is Step Head.
   pub step-head-writes : true ≡ isWrite (controlOf 0x90) → ⊥

@@ -49,9 +49,9 @@ fn print_tables() {
         println!();
     }
     println!(
-        "Times and their ratios are medians of {ROUNDS} rounds. Aims: a ratio of 1.0; at most 1.30"
+        "Times and their ratios are medians of {ROUNDS} rounds. Aims: a ratio of 1.0; at most 1.15"
     );
-    println!("in instructions and 1.15 in time.");
+    println!("in instructions and in time.");
 }
 
 fn title(call: Call) -> &'static str {

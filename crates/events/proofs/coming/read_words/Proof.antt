@@ -1,6 +1,5 @@
 -- `read_words` meets its contract.
 -- Assumes nothing.
-use mathlib.Core.Path.{sym, _∙_}
 use native.Mathlib.Omega.{arith}
 use Rattle.parts.specs.Control.{dataWords}
 use Rattle.parts.proofs.Bounds.{read-passes}

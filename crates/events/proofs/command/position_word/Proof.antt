@@ -1,8 +1,5 @@
 -- `position_word` meets its contract.
 -- Assumes nothing.
-use Rattle.drive.specs.Command.{positionTold}
-use lib.ListN.{getD}
-use Prim.Native.Nat.{ℕ}
 use mathlib.Core.Path.{_≡_}
 use native.Mathlib.Omega.{arith}
 use Rattle.events.specs.State.{driveIn}

@@ -1,6 +1,5 @@
 -- `seek` meets its contract.
 -- Assumes nothing.
-use mathlib.Core.Path.{sym, _∙_}
 use Rattle.parts.proofs.Bounds.{limits}
 use Rattle.drive.proofs.Sound.{sound}
 use Rattle.drive.specs.Command.{seeking}

@@ -1,7 +1,5 @@
 -- `status_word` meets its contract.
 -- Assumes nothing.
-use Prim.Native.Nat.{ℕ}
-use mathlib.Core.Path.{_≡_}
 use Rattle.events.proofs.Changes.{pending-at}
 use Rattle.events.proofs.Exchanges.{zeros-later}
 use borrow.Author.Needs.{needs}

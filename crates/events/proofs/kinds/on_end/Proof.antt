@@ -1,6 +1,6 @@
 -- `on_end` meets its contract.
 -- Assumes nothing.
-use mathlib.Core.Path.{refl, sym, _∙_}
+use mathlib.Core.Path.{sym, _∙_}
 use Rattle.parts.specs.Kind.{End, Use}
 use Rattle.events.specs.State.{driveIn}
 use Rattle.events.proofs.Done.{did-accepted, did-refused}

@@ -1,6 +1,5 @@
 -- `function_of` meets its contract.
 -- Assumes nothing.
-use mathlib.Core.Path.{sym, _∙_}
 use borrow.Author.Tests.{ne-eqb, eq-eqb}
 use Rattle.laws.specs.Pick.{pick}
 use Rattle.parts.specs.Command.{functionIn}
