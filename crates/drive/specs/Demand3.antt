@@ -40,7 +40,7 @@ pub record MeetsDemand3 (start : Machine) (events : List Event) (told : List Ans
   pub last-write : LastWrite start events told end
   -- "the last completed write": every one that the journal notes is whole.
   pub whole-writes : AllWhole (start .drive .setup) (journal events told)
-  -- What a host takes is what was last written, "read off the set-up, the events and the answers alone".
+  -- What a host takes of a read is what was last written, "read off the set-up, the events and the answers alone"; 46 and 47 tell where the drive stands.
   pub words-read : HoldsAlong (WordFollows start) events told
   -- And so are the place and the number of words to come of every opening.
   pub openings : HoldsAlong (OpeningFollows (start .drive .setup)) events told

@@ -1,5 +1,5 @@
-//! Document 01 once more, in plain safe Rust and independent of the proved code: what the tests
-//! compare the archive with, and what the speed program measures it against.
+//! Document 01 with request M-100 once more, in plain safe Rust and independent of the proved code: what
+//! the tests compare the archive with, and what the speed program measures it against.
 //!
 //! The helpers are inlined because a drive that is handed to a function left out of line must be
 //! built in memory, which costs half as many instructions again.
