@@ -17,7 +17,7 @@
  *
  * The most stack that a call takes, in octets, its return address included and its arguments not:
  *
- *     pg_power_up 24     pg_event 232     pg_run 168     pg_line 1032
+ *     pg_power_up 24     pg_event 312     pg_run 248     pg_line 1032
  *     pg_capture 8       pg_make_capture 8
  *
  * c/stack.c measured it: on a stack filled with a pattern, how deep each call writes, over every
