@@ -1,13 +1,16 @@
 //! Captures: document 01's own, damaged ones, and octets at random against the plain Rust.
 
+use bench::BENCH;
 use pantoglide::raw::{self, RECORD_OCTETS, TRAILER_OCTETS};
-use pantoglide::{make_capture, Board, Capture, Refusal, Setup};
+use pantoglide::{make_capture, Board, Capture, Refusal};
 use shared::plain;
 use shared::random::Random;
 
 #[allow(dead_code, unused_imports)] // the speed program uses the rest
 #[path = "../shared/mod.rs"]
 mod shared;
+
+mod bench;
 
 /// The three events that document 01 writes out.
 const RECORDS: [u8; 24] = [
@@ -38,17 +41,8 @@ fn the_capture_of_document_01_is_found_made_and_run() {
     assert_eq!(make_capture(&[], &RECORDS, &mut made), Ok(32));
     assert_eq!((&made[..32], &made[32..]), (&octets[..], &[0xEE; 8][..]));
 
-    let setup = Setup {
-        cylinders: 2,
-        heads: 2,
-        sectors: 3,
-        header: 1,
-        field1: 2,
-        field2: 1,
-        address: 3,
-    };
     let (mut sectors, mut staging) = ([0; 48], [0; 4]);
-    let mut board = Board::power_up(setup, &mut sectors, &mut staging).expect("the bench drive");
+    let mut board = Board::power_up(BENCH, &mut sectors, &mut staging).expect("the bench drive");
     let outcomes = board.run(capture.records()).expect("whole records");
     let refusals = outcomes.into_iter().map(Result::err).collect::<Vec<_>>();
     assert_eq!(refusals, [None, Some(Refusal::Busy), None]);

@@ -1,21 +1,15 @@
 //! Document 01's bench cases through the safe interface.
 
+use bench::BENCH;
 use pantoglide::{Answer, Board, Event, Hold, Place, Refusal, Setup, Status, Transfer};
 use Event::{
     DataControl, Deselect, End, ReadStatus, Reset, Select, TakeWord, Target, WordFromHost,
 };
 
+mod bench;
+
 type Outcome = Result<Answer, Refusal>;
 
-const BENCH: Setup = Setup {
-    cylinders: 2,
-    heads: 2,
-    sectors: 3,
-    header: 1,
-    field1: 2,
-    field2: 1,
-    address: 3,
-};
 const BENCH_WORDS: usize = 48;
 const SECTOR_WORDS: usize = 4;
 const GRANTED: Outcome = Ok(NOTHING);

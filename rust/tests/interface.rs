@@ -1,11 +1,14 @@
 //! The wrapper's own parts: its constants are the header's, refusals say why, everything can be
 //! shown, and a run needs no allocation.
 
+use bench::BENCH;
 use pantoglide::command::{self, Function};
 use pantoglide::raw::{self, ABSENT, ANSWER_WORDS};
 use pantoglide::{control, response, selection};
-use pantoglide::{Answer, Board, Event, Follower, Move, Refusal, Setup, Status};
+use pantoglide::{Answer, Board, Event, Follower, Move, Refusal, Status};
 use std::collections::{BTreeMap, BTreeSet};
+
+mod bench;
 
 /// The numbers that the header gives names to.
 fn header_numbers() -> BTreeMap<String, usize> {
@@ -209,16 +212,6 @@ fn every_refusal_says_why() {
         "refused 6: the other port has the drive and keeps it"
     );
 }
-
-const BENCH: Setup = Setup {
-    cylinders: 2,
-    heads: 2,
-    sectors: 3,
-    header: 1,
-    field1: 2,
-    field2: 1,
-    address: 3,
-};
 
 #[test]
 fn a_run_needs_no_allocation() {

@@ -1,17 +1,11 @@
 //! Commands and responses as one call each: what they do, and how they stop.
 
+use bench::BENCH;
 use pantoglide::command::{self, Function};
-use pantoglide::{selection, Board, Event, Hold, NotDone, Place, Refusal, Setup, Status};
+use pantoglide::{selection, Board, Event, Hold, NotDone, Place, Refusal, Status};
 
-const BENCH: Setup = Setup {
-    cylinders: 2,
-    heads: 2,
-    sectors: 3,
-    header: 1,
-    field1: 2,
-    field2: 1,
-    address: 3,
-};
+mod bench;
+
 const SELECT: Event = Event::Select(selection::address(3));
 const ALREADY_OPEN: Result<(), NotDone> = Err(NotDone::Refused(Refusal::WrongMoment));
 const OUTSIDE: Result<(), NotDone> = Err(NotDone::Answered(Status::OperationException));

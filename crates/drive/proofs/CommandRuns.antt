@@ -27,7 +27,7 @@ use Rattle.drive.specs.Run.{Machine, after, final}
 use Rattle.drive.specs.StaysSound.{IsSound}
 use Rattle.drive.specs.Calls.{Ran}
 use Rattle.drive.specs.NeverDead.{sent, wordSent, positionSent}
-use Rattle.drive.specs.Commands.{Idle, takesSent, statusAsked, taken, StatusBy44, positionLoaded, PositionBy07, Commands}
+use Rattle.drive.specs.Commands.{Idle, takesSent, statusAsked, taken, StatusBy44, positionSentBy07, PositionBy07, Commands}
 use Rattle.drive.specs.declared.answer.Answer.the-variants.{Done, Status, Opened, Word, LastWord}
 use Rattle.drive.proofs.NeverDead.{Does, follows, nothing-follows, work-does, quietly, withDrive, position-does}
 use Rattle.drive.proofs.Commands.{holds-by-command, commands-keep-out, command-cut-short}
@@ -110,7 +110,7 @@ module _ (m : Machine) (port : ℕ) (q : Idle m port) where
       unfolding kindOf controlOf codeOf wordFromHost parameterSent obeyed seeking placeSought targetSought closed wordsToCome parameterWords pick
       position-obeys s = work-does WordFromHost s (q .real) refl refl (q .mine) refl (rw (div-add-mod' target 256, there, inside, aimed))
 
-      position-run : Ran m (positionLoaded port p target) (Opened 4 (m .drive .place) ∷ Done ∷ Done ∷ Done ∷ Status normal ∷ [])
+      position-run : Ran m (positionSentBy07 port p target) (Opened 4 (m .drive .place) ∷ Done ∷ Done ∷ Done ∷ Status normal ∷ [])
           (withDrive m (closed (withTarget (withPlace (m .drive) p) target)))
       unfolding keptAs pick
       position-run =

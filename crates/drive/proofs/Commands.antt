@@ -25,7 +25,7 @@ use Rattle.parts.specs.declared.transfer.Transfer.{Transfer}
 use Rattle.parts.proofs.ByBits.{write-is-data, read-is-data, codes-in-place}
 use Rattle.drive.specs.State.{withHolding, withTransfer, pendingOn, postedOn, Result}
 use Rattle.drive.specs.Drive.{ownerNoticed, selected, afterReset, reserved, unreserved, priorityReserved, headStepped, atItsTarget, closed, ended}
-use Rattle.drive.specs.Command.{keptAs, placeSought, statusCleared, parameterSent, wordFromHost, wordToHost, endedEarly}
+use Rattle.drive.specs.Command.{keptAs, placeSought, statusCleared, parameterSent, responseTaken, wordFromHost, wordToHost, endedEarly}
 use Rattle.drive.specs.Refusal.{row7}
 use Rattle.drive.specs.Able.{Passable}
 use Rattle.drive.specs.Accepted.{isRefused}
@@ -38,7 +38,7 @@ use Rattle.drive.specs.declared.answer.Answer.{Answer}
 use Rattle.drive.specs.declared.answer.Outcome.{Outcome}
 use Rattle.drive.proofs.Own.{able-to-write}
 use Rattle.drive.proofs.Laws.{by-kind, accepted-by, doneBy, left, AllPassed}
-use Rattle.drive.proofs.CutShort.{opened, words-sent}
+use Rattle.drive.proofs.CutShort.{opened, words-passed}
 use Rattle.drive.proofs.Outcomes
 
 -- ---- what a command or response leaves
@@ -193,7 +193,7 @@ commands-keep-out =
 
 -- ---- `command-cut-short`
 
--- so many words of a command came
+-- so many words of a code passed
 record Inside (d : Drive) (c k : ℕ) (m : Machine) : Type 0 where
   kept : Parameters
   drive : m .drive ≡ withTransfer d (transferringWith c k kept)
@@ -209,13 +209,28 @@ module _ (d : Drive) (c n : ℕ) (low : isData c ≡ false) (words : wordsToCome
   unfolding wordFromHost parameterSent pick
   one-kept k p port word sectors staging more = rw (low, words, add-one k, ne-eqb (suc k) n (λ z. omega arith))
 
-  one-word : (k : ℕ) (m : Machine) (e : Event) → suc k < n → Inside d c k m → isRefused (answerTo m e) ≡ false → Is (Use WordFromHost) e → Inside d c (suc k) (after m e)
-  one-word k m e more i a z =
+  one-given : (k : ℕ) (p : Parameters) (port : ℕ) (sectors : List ℕ) → suc k < n
+      → (wordToHost (withTransfer d (transferringWith c k p)) port sectors) .drive ≡ withTransfer d (transferringWith c (suc k) p)
+  unfolding wordToHost responseTaken pick
+  one-given k p port sectors more = rw (low, words, add-one k, ne-eqb (suc k) n (λ z. omega arith))
+
+  one-sent : (k : ℕ) (m : Machine) (e : Event) → suc k < n → Inside d c k m → isRefused (answerTo m e) ≡ false → Is (Use WordFromHost) e → Inside d c (suc k) (after m e)
+  one-sent k m e more i a z =
       accepted-by (λ answer next. Inside d c (suc k) next) (Use WordFromHost) m e z a
       (λ p. record {
         kept = keptAs (i .kept) k (wordOf e);
         drive = rw (i .drive) (one-kept k (i .kept) (e .port) (wordOf e) (m .sectors) (m .staging) more);
       })
+
+  one-taken : (k : ℕ) (m : Machine) (e : Event) → suc k < n → Inside d c k m → isRefused (answerTo m e) ≡ false → Is (Use TakeWord) e → Inside d c (suc k) (after m e)
+  one-taken k m e more i a z =
+      accepted-by (λ answer next. Inside d c (suc k) next) (Use TakeWord) m e z a
+      (λ p. record { kept = i .kept; drive = rw (i .drive) (one-given k (i .kept) (e .port) (m .sectors) more) })
+
+  one-word : {way : Work} → (way ≡ WordFromHost) ⊎ (way ≡ TakeWord) → (k : ℕ) (m : Machine) (e : Event) → suc k < n → Inside d c k m
+      → isRefused (answerTo m e) ≡ false → Is (Use way) e → Inside d c (suc k) (after m e)
+  one-word (inl q) k m e more i a z = one-sent k m e more i a (z ∙ ap Use q)
+  one-word (inr q) k m e more i a z = one-taken k m e more i a (z ∙ ap Use q)
 
   -- what is open makes no difference to a takeover
   selected-anew : (t : Transfer) (port octet : ℕ) → selected (withTransfer d t) port octet ≡ selected d port octet
@@ -240,10 +255,10 @@ in-place low w (Outcomes.inPlace a) = refl
 in-place {c = c} low w (Outcomes.atTarget a z) = absurd (true≢false (sym a ∙ codes-in-place c low w))
 
 pub command-cut-short : CommandCutShort
-command-cut-short m opening cut n k place words low o w h =
+command-cut-short m opening cut n k place way words low o which w h =
     let first = opened m opening o .0 in
     let here = in-place low (first .opens) (first .sought) in
     let come : wordsToCome (m .drive .setup) (opening .a0) ≡ n = subst (λ (d : Drive). wordsToCome (d .setup) (opening .a0) ≡ n) here (first .words) in
-    words-sent (Inside (m .drive) (opening .a0)) (λ short. Cuts short cut → Alone cut (m .drive) (answerTo short cut) (after short cut)) n
-    (cut-alone (m .drive) (opening .a0) n low come cut) (one-word (m .drive) (opening .a0) n low come) 0 (after m opening)
+    words-passed way (Inside (m .drive) (opening .a0)) (λ short. Cuts short cut → Alone cut (m .drive) (answerTo short cut) (after short cut)) n
+    (cut-alone (m .drive) (opening .a0) n low come cut) (one-word (m .drive) (opening .a0) n low come which) 0 (after m opening)
     (record { kept = noParameters; drive = first .drive ∙ ap (λ (d : Drive). withTransfer d (transferring (opening .a0) 0)) here }) w (omega arith)

@@ -137,19 +137,19 @@ one-word {n} {j} {sectors} m e more u a z =
     by-word (going c s) t = staged-on m e more c s
 
 -- what each word before the last carries on is so after all of them
-module _ (P : ℕ → Machine → Type 0) (Q : Machine → Type 0) (n : ℕ) (enough : (j : ℕ) (m : Machine) → P j m → Q m)
-    (step : (j : ℕ) (m : Machine) (e : Event) → suc j < n → P j m → isRefused (answerTo m e) ≡ false → Is (Use WordFromHost) e → P (suc j) (after m e)) where
-  pub words-sent : (j : ℕ) {k : ℕ} (m : Machine) {events : List Event} → P j m → Words m events k → j + k < n → Q (final m events)
+module _ (way : Work) (P : ℕ → Machine → Type 0) (Q : Machine → Type 0) (n : ℕ) (enough : (j : ℕ) (m : Machine) → P j m → Q m)
+    (step : (j : ℕ) (m : Machine) (e : Event) → suc j < n → P j m → isRefused (answerTo m e) ≡ false → Is (Use way) e → P (suc j) (after m e)) where
+  pub words-passed : (j : ℕ) {k : ℕ} (m : Machine) {events : List Event} → P j m → Words way m events k → j + k < n → Q (final m events)
   unfolding final
-  words-sent j m p cut.none h = enough j m p
-  words-sent j m p (cut.refused {e = e} r w) h = words-sent j (after m e) (subst (P j) (sym (refused-changes-nothing m e r)) p) w h
-  words-sent j m p (cut.word {e = e} a z w) h = words-sent (suc j) (after m e) (step j m e (omega arith) p a z) w (omega arith)
+  words-passed j m p cut.none h = enough j m p
+  words-passed j m p (cut.refused {e = e} r w) h = words-passed j (after m e) (subst (P j) (sym (refused-changes-nothing m e r)) p) w h
+  words-passed j m p (cut.word {e = e} a z w) h = words-passed (suc j) (after m e) (step j m e (omega arith) p a z) w (omega arith)
 
 unfinished : (m : Machine) (opening : Event) {n k : ℕ} {place : Place} {sent : List Event} → answerTo m opening ≡ Opened n place
-    → Words (after m opening) sent k → k < n → (final (after m opening) sent) .sectors ≡ m .sectors
+    → Words WordFromHost (after m opening) sent k → k < n → (final (after m opening) sent) .sectors ≡ m .sectors
 unfinished m opening {n} o w h =
     let first = opened m opening o in
-    words-sent (λ j next. Unfinished n j (m .sectors) next) (λ next. next .sectors ≡ m .sectors) n (λ j next u. same-sectors u)
+    words-passed WordFromHost (λ j next. Unfinished n j (m .sectors) next) (λ next. next .sectors ≡ m .sectors) n (λ j next u. same-sectors u)
     (λ j next e more u a z. one-word next e more u a z) 0 (after m opening)
     (going (record { moved = rw (first .0 .drive); words = rw (first .0 .drive) (first .0 .words) }) (first .1)) w (omega arith)
 

@@ -32,22 +32,22 @@ pub record Holds (c : Case) : Type 0 where
   pub words : (final (benchWith (c .stored)) (c .events)) .sectors ≡ c .left ++ replicate 44 0
   pub position : (final (benchWith (c .stored)) (c .events)) .drive .place .sector ≡ c .sector
 
-abbrev event : ℕ → ℕ → ℕ → ℕ → Event
+abbrev pub event : ℕ → ℕ → ℕ → ℕ → Event
 event port kind a0 a1 = record { port = port; kind = kind; a0 = a0; a1 = a1; a2 = 0; a3 = 0 }
 
-abbrev select : ℕ → ℕ → Event
+abbrev pub select : ℕ → ℕ → Event
 select port octet = event port 1 octet 0
 
-abbrev deselect : ℕ → Event
+abbrev pub deselect : ℕ → Event
 deselect port = event port 2 0 0
 
-abbrev control : ℕ → ℕ → Event
+abbrev pub control : ℕ → ℕ → Event
 control port octet = event port 3 octet 0
 
-abbrev word : ℕ → ℕ → Event
+abbrev pub word : ℕ → ℕ → Event
 word port w = event port 4 (w / 256) (w % 256)
 
-abbrev take : ℕ → Event
+abbrev pub take : ℕ → Event
 take port = event port 5 0 0
 
 abbrev status : ℕ → Event

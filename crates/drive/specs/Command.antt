@@ -57,13 +57,17 @@ seeking d port place target =
     pick (isPlace (d .setup) place && isTarget (d .setup) target) (told (Status normal) (withTarget (withPlace d place) target))
     (badRequest d port invalidParameter)
 
--- 01, by its function. "causes the drive to move the heads to cylinder 0". "This function performs no operation."
+-- Recalibrate: "causes the drive to move the heads to cylinder 0".
+abbrev pub onCylinder0 : Place → Place
+onCylinder0 p = atPlace 0 (p .head) (p .sector)
+
+-- 01, by its function. "This function performs no operation."
 abbrev pub functioned : Function → Drive → ℕ → Outcome
 functioned PriorityReserve d port = told (Status normal) (priorityReserved d)
 functioned Reserve d port = told (Status normal) (reserved d)
 functioned Release d port = told (Status normal) (unreserved d)
 functioned NoOperation d port = told (Status normal) d
-functioned Recalibrate d port = told (Status normal) (withPlace d (atPlace 0 (d .place .head) (d .place .sector)))
+functioned Recalibrate d port = told (Status normal) (withPlace d (onCylinder0 (d .place)))
 functioned ActsOnMore d port = badRequest d port unsupportedBusControl
 functioned NotListed d port = badRequest d port invalidParameter
 

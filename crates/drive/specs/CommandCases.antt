@@ -1,5 +1,5 @@
 -- Worked cases of commands and responses: a second table beside P1 to P12. Each is a run of the bench drive from power-up, with all words zero.
-use Prim.Native.Nat.{ℕ, _*_, _/_, _%_}
+use Prim.Native.Nat.{ℕ, _*_}
 use mathlib.Core.Path.{_≡_}
 use mathlib.Core.List.{List, [], _∷_, _++_}
 use lib.ListN.{replicate}
@@ -11,7 +11,7 @@ use Rattle.parts.specs.declared.event.Event.{Event}
 use Rattle.drive.specs.State.{atPlace, withHolding, withPlace, withTarget, withTransfer, withPending}
 use Rattle.drive.specs.Power.{atRest}
 use Rattle.drive.specs.Run.{machine, answers, final}
-use Rattle.drive.specs.Cases.{bench, benchWith}
+use Rattle.drive.specs.Cases.{bench, benchWith, event, select, deselect, control, word, take}
 use Rattle.drive.specs.declared.drive.Drive.{Drive}
 use Rattle.drive.specs.declared.answer.Answer.{Answer}
 use Rattle.drive.specs.declared.answer.Answer.the-variants.{Refused, Done, Status, Opened, Word, LastWord}
@@ -29,30 +29,11 @@ pub record Holds (c : CommandCase) : Type 0 where
   pub answered : answers (benchWith (zeros 4)) (c .events) ≡ c .answers
   pub ended : final (benchWith (zeros 4)) (c .events) ≡ machine (c .end) (zeros 48) (zeros 4)
 
--- Port, kind, and the first two argument octets as one number, high first.
-abbrev sent : ℕ → ℕ → ℕ → Event
-sent port kind arguments = record { port = port; kind = kind; a0 = arguments / 256; a1 = arguments % 256; a2 = 0; a3 = 0 }
-
-abbrev select : ℕ → ℕ → Event
-select port octet = sent port 1 (octet * 256)
-
-abbrev deselect : ℕ → Event
-deselect port = sent port 2 0
-
-abbrev control : ℕ → ℕ → Event
-control port octet = sent port 3 (octet * 256)
-
-abbrev word : ℕ → ℕ → Event
-word port w = sent port 4 w
-
-abbrev take : ℕ → Event
-take port = sent port 5 0
-
 abbrev end : ℕ → Event
-end port = sent port 6 0
+end port = event port 6 0 0
 
 abbrev reset : ℕ → Event
-reset port = sent port 10 0
+reset port = event port 10 0 0
 
 -- Load Drive Function, with this function code in both octets.
 abbrev function : ℕ → ℕ → List Event

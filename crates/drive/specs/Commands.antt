@@ -89,11 +89,12 @@ cutAlone (Use work) e d = closed d
 cutAlone Deselect e d = d
 cutAlone Unknown e d = d
 
--- "a command cut short has no effect beyond its opening": a command opened with n words to come, fewer were accepted, and End, a takeover or a reset came.
+-- "a command cut short has no effect beyond its opening", and neither has a response: one opened with n words to come, fewer were sent or taken, and End, a
+-- takeover or a reset came.
 abbrev pub CommandCutShort : Type 0
 CommandCutShort =
-    (m : Machine) (opening cut : Event) (n k : ℕ) (place : Place) (words : List Event) → isData (opening .a0) ≡ false → answerTo m opening ≡ Opened n place
-    → Words (after m opening) words k → k < n → let short = final (after m opening) words in
+    (m : Machine) (opening cut : Event) (n k : ℕ) (place : Place) (way : Work) (words : List Event) → isData (opening .a0) ≡ false
+    → answerTo m opening ≡ Opened n place → (way ≡ WordFromHost) ⊎ (way ≡ TakeWord) → Words way (after m opening) words k → k < n → let short = final (after m opening) words in
     Cuts short cut → (after short cut) .drive ≡ cutAlone (kindOf (cut .kind)) cut (m .drive)
 
 -- ---- `status-by-44` and `position-by-07`
@@ -127,14 +128,14 @@ pub record StatusBy44 (m : Machine) (port : ℕ) : Type 0 where
   pub afterwards : (final m (statusAsked port 4)) .drive ≡ closed ((after m (sent port 9 0 0)) .drive)
 
 -- "cylinder address", "head address", "RPS target sector address", high first.
-abbrev pub positionLoaded : ℕ → Place → ℕ → List Event
-positionLoaded port p target =
+abbrev pub positionSentBy07 : ℕ → Place → ℕ → List Event
+positionSentBy07 port p target =
     sent port 3 loadPosition 0 ∷ wordSent port 0 ∷ wordSent port (p .cylinder) ∷ wordSent port (p .head) ∷ wordSent port target ∷ []
 
 pub record PositionBy07 (m : Machine) (port : ℕ) (p : Place) (target : ℕ) : Type 0 where
-  pub told : answers m (positionLoaded port p target) ≡ Opened 4 (m .drive .place) ∷ Done ∷ Done ∷ Done ∷ Status normal ∷ []
+  pub told : answers m (positionSentBy07 port p target) ≡ Opened 4 (m .drive .place) ∷ Done ∷ Done ∷ Done ∷ Status normal ∷ []
   -- The drive that Position, with the sector as it stands, and Target would leave.
-  pub same : (final m (positionLoaded port p target)) .drive
+  pub same : (final m (positionSentBy07 port p target)) .drive
       ≡ closed ((final m (positionSent port p ∷ sent port 8 (target / 256) (target % 256) ∷ [])) .drive)
 
 pub record Commands : Type 0 where

@@ -4,7 +4,7 @@ use mathlib.Core.Path.{_≡_}
 use mathlib.Core.Bool.{Bool, true, false}
 use mathlib.Core.List.{List, [], _∷_}
 use Rattle.parts.specs.Control.{controlOf, isWrite}
-use Rattle.parts.specs.Kind.{Select, Use, Reset, WordFromHost, End}
+use Rattle.parts.specs.Kind.{Select, Use, Reset, Work, WordFromHost, End}
 use Rattle.parts.specs.declared.setup.Place.{Place}
 use Rattle.parts.specs.declared.event.Event.{Event}
 use Rattle.drive.specs.Accepted.{isRefused}
@@ -23,12 +23,12 @@ opensWrite e (Word word) = false
 opensWrite e (LastWord word) = false
 opensWrite e (Response octet0 octet1 octet2) = false
 
--- So many words from the host were accepted one after another, with any refused events between them.
-pub data Words : Machine → List Event → ℕ → Type 0 where
-  none : {m : Machine} → Words m [] zero
-  refused : {m : Machine} {e : Event} {events : List Event} {k : ℕ} → isRefused (answerTo m e) ≡ true → Words (after m e) events k → Words m (e ∷ events) k
-  word : {m : Machine} {e : Event} {events : List Event} {k : ℕ} → isRefused (answerTo m e) ≡ false → Is (Use WordFromHost) e → Words (after m e) events k
-      → Words m (e ∷ events) (suc k)
+-- So many words passed one after another this way, from the host or to it, with any refused events between them.
+pub data Words (way : Work) : Machine → List Event → ℕ → Type 0 where
+  none : {m : Machine} → Words way m [] zero
+  refused : {m : Machine} {e : Event} {events : List Event} {k : ℕ} → isRefused (answerTo m e) ≡ true → Words way (after m e) events k → Words way m (e ∷ events) k
+  word : {m : Machine} {e : Event} {events : List Event} {k : ℕ} → isRefused (answerTo m e) ≡ false → Is (Use way) e → Words way (after m e) events k
+      → Words way m (e ∷ events) (suc k)
 
 -- What cuts the write: End, a takeover or a reset. A selection that is accepted while a write is open is the other port's.
 pub data Cuts (m : Machine) (e : Event) : Type 0 where
@@ -45,9 +45,9 @@ OpensNoWrite (e ∷ events) (answer ∷ told) = (opensWrite e answer ≡ false) 
 pub record CutShort : Type 0 where
   -- A transfer was opened with n words to come, and fewer were accepted from the host: the sectors are those before the opening, word for word.
   pub unfinished : (m : Machine) (opening : Event) {n k : ℕ} {place : Place} {sent : List Event} → answerTo m opening ≡ Opened n place
-      → Words (after m opening) sent k → k < n → (final (after m opening) sent) .sectors ≡ m .sectors
+      → Words WordFromHost (after m opening) sent k → k < n → (final (after m opening) sent) .sectors ≡ m .sectors
   -- It was cut then: so they are afterwards, whatever comes, until another write is opened. Nothing of that write is completed.
   pub cut : (m : Machine) (opening cut : Event) {n k : ℕ} {place : Place} {sent : List Event} → answerTo m opening ≡ Opened n place
-      → Words (after m opening) sent k → k < n → Cuts (final (after m opening) sent) cut
+      → Words WordFromHost (after m opening) sent k → k < n → Cuts (final (after m opening) sent) cut
       → (later : List Event) → let end = after (final (after m opening) sent) cut in
       OpensNoWrite later (answers end later) → (final end later) .sectors ≡ m .sectors

@@ -21,7 +21,7 @@ use Rattle.parts.specs.declared.setup.Place.{Place}
 use Rattle.parts.specs.declared.event.Event.{Event}
 use Rattle.drive.specs.State.{atPlace}
 use Rattle.drive.specs.Answer.{Paper, paper, normal}
-use Rattle.drive.specs.Command.{withParameter, placeSought, targetSought}
+use Rattle.drive.specs.Command.{withParameter, onCylinder0, placeSought, targetSought}
 use Rattle.drive.specs.Accepted.{isRefused}
 use Rattle.drive.specs.Along.{Saying}
 use Rattle.drive.specs.declared.answer.Answer.{Answer}
@@ -78,7 +78,7 @@ finished s w = pick (isData (w .transfer .control)) (onNextSector s w) (withTran
 
 -- What a good command asked for: a function, of which Recalibrate moves the cylinder to 0, or a place and a target.
 abbrev pub recalibrated : Function → Place → Place
-recalibrated Recalibrate p = atPlace 0 (p .head) (p .sector)
+recalibrated Recalibrate p = onCylinder0 p
 recalibrated PriorityReserve p = p
 recalibrated Reserve p = p
 recalibrated Release p = p

@@ -38,10 +38,10 @@ readCurrentPosition = 0x47
 
 -- "Add the command and response codes of source document 004 section 10.1": words from the host, words to the host.
 abbrev pub commands : List ℕ
-commands = 0x01 ∷ 0x04 ∷ 0x05 ∷ 0x06 ∷ 0x07 ∷ []
+commands = loadDriveFunction ∷ loadCylinderAddress ∷ loadHeadAddress ∷ loadTargetSectorAddress ∷ loadPosition ∷ []
 
 abbrev pub responses : List ℕ
-responses = 0x44 ∷ 0x46 ∷ 0x47 ∷ []
+responses = readStatus ∷ readCurrentSectorAddress ∷ readCurrentPosition ∷ []
 
 -- "one that acts on more than holds, position, target or status gets 8 and bit 5"
 abbrev pub codesActingOnMore : List ℕ

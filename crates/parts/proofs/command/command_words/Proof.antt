@@ -1,6 +1,10 @@
 -- `command_words` meets its contract.
 -- Assumes nothing.
+use Prim.Native.Nat.{ℕ, _≤_}
+use mathlib.Core.Path.{_≡_}
+use mathlib.Core.Bool.{false}
 use native.Mathlib.Omega.{arith}
+use lib.Dec.{eqb}
 use borrow.Author.Tests.{ne-eqb}
 use Rattle.laws.specs.Pick.{pick}
 use Rattle.parts.specs.Command.{parameterWords}
@@ -32,7 +36,8 @@ unfolding parameterWords pick
 returns-6 c =
     let start : tie.Start = search in
     let none = c .match .rest in
-    rw (ne-eqb _ 0x01 (none .0 .0 .0 .0 .1), ne-eqb _ 0x04 (none .0 .0 .0 .1), ne-eqb _ 0x05 (none .0 .0 .1), ne-eqb _ 0x06 (none .0 .1), ne-eqb _ 0x07 (none .1), ne-eqb (start .args .code) 0x44 (λ e. omega (arith, e, start .pre)), ne-eqb (start .args .code) 0x46 (λ e. omega (arith, e, start .pre)), ne-eqb (start .args .code) 0x47 (λ e. omega (arith, e, start .pre)))
+    let taken : (k : ℕ) → 0x40 ≤ k → eqb (start .args .code) k ≡ false = λ k h. ne-eqb (start .args .code) k (λ e. omega (arith, e, h, start .pre)) in
+    rw (ne-eqb _ 0x01 (none .0 .0 .0 .0 .1), ne-eqb _ 0x04 (none .0 .0 .0 .1), ne-eqb _ 0x05 (none .0 .0 .1), ne-eqb _ 0x06 (none .0 .1), ne-eqb _ 0x07 (none .1), taken 0x44 (omega arith), taken 0x46 (omega arith), taken 0x47 (omega arith))
 
 pub command-words-spec : {M : Type 1} → statement M
 command-words-spec = tie.close (tie.spec returns returns-2 returns-3 returns-4 returns-5 returns-6)

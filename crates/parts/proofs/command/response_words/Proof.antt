@@ -1,6 +1,10 @@
 -- `response_words` meets its contract.
 -- Assumes nothing.
+use Prim.Native.Nat.{ℕ, _<_}
+use mathlib.Core.Path.{_≡_}
+use mathlib.Core.Bool.{false}
 use native.Mathlib.Omega.{arith}
+use lib.Dec.{eqb}
 use borrow.Author.Tests.{ne-eqb}
 use Rattle.laws.specs.Pick.{pick}
 use Rattle.parts.specs.Command.{parameterWords}
@@ -24,7 +28,8 @@ unfolding parameterWords pick
 returns-4 c =
     let start : tie.Start = search in
     let none = c .match .rest in
-    rw (ne-eqb (start .args .code) 0x01 (λ e. omega (arith, e, start .pre)), ne-eqb (start .args .code) 0x04 (λ e. omega (arith, e, start .pre)), ne-eqb (start .args .code) 0x05 (λ e. omega (arith, e, start .pre)), ne-eqb (start .args .code) 0x06 (λ e. omega (arith, e, start .pre)), ne-eqb (start .args .code) 0x07 (λ e. omega (arith, e, start .pre)), ne-eqb _ 0x44 (none .0 .0 .1), ne-eqb _ 0x46 (none .0 .1), ne-eqb _ 0x47 (none .1))
+    let sent : (k : ℕ) → k < 0x40 → eqb (start .args .code) k ≡ false = λ k h. ne-eqb (start .args .code) k (λ e. omega (arith, e, h, start .pre)) in
+    rw (sent 0x01 (omega arith), sent 0x04 (omega arith), sent 0x05 (omega arith), sent 0x06 (omega arith), sent 0x07 (omega arith), ne-eqb _ 0x44 (none .0 .0 .1), ne-eqb _ 0x46 (none .0 .1), ne-eqb _ 0x47 (none .1))
 
 pub response-words-spec : {M : Type 1} → statement M
 response-words-spec = tie.close (tie.spec returns returns-2 returns-3 returns-4)
