@@ -1,5 +1,6 @@
-//! Document 01 with request M-100 once more, in plain safe Rust and independent of the proved code: what
-//! the tests compare the archive with, and what the speed program measures it against.
+//! Document 01 with requests M-100 and M-108 once more, in plain safe Rust and independent of the
+//! proved code: what the tests compare the archive with, and what the speed program measures it
+//! against.
 //!
 //! The helpers are inlined because a drive that is handed to a function left out of line must be
 //! built in memory, which costs half as many instructions again.
@@ -8,6 +9,7 @@ mod answer;
 mod capture;
 mod commands;
 mod control;
+mod defects;
 mod drive;
 mod follower;
 mod setup;
@@ -15,5 +17,7 @@ mod transfer;
 mod words;
 
 pub use capture::{capture, make_capture};
+pub use defects::{decode_map, encode_map, map_place, read_map, write_map, Defect, Map};
 pub use follower::line;
+pub use setup::Setup;
 pub use words::{event, power_up, run, ANSWER_WORDS, RECORD_OCTETS, STATE_WORDS};

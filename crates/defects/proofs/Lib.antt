@@ -1,0 +1,12 @@
+pub mod Offences
+pub mod Xor
+pub mod Division
+pub mod CrcLaws
+pub mod DefectOctets
+pub mod DefectRoundTrip
+pub mod Fields
+pub mod Places
+pub mod Promised
+pub mod Only
+pub mod Exactly
+pub mod WrongAnswers

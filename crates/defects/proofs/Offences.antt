@@ -1,0 +1,82 @@
+-- The first offence: how code that tests one thing after the other meets `firstOf`, and the first offence of tests that follow others.
+-- Assumes nothing.
+use Prim.Native.Nat.{ℕ, suc, _+_, _-_, _<_, _≤_}
+use native.Mathlib.Omega.{arith}
+use mathlib.Core.Path.{_≡_, refl, sym, ap, _∙_}
+use mathlib.Core.Bool.{Bool, true, false, true≢false, false≢true}
+use mathlib.Core.List.{List, [], _∷_, _++_}
+use borrow.Author.Tests.{lt-ltb, le-ltb, le-leb, lt-leb, eq-eqb, ne-eqb}
+use Rattle.laws.specs.Pick.{pick}
+use Rattle.laws.proofs.Pick.{not-t, not-f}
+use Rattle.defects.specs.Offence.{Test, noOffence, offenceAt, firstOf, testsOver}
+use Rattle.defects.specs.declared.offence.Offence.{Offence}
+
+pub first-hit : (test : Test) (tests : List Test) (x : Offence) → test .holds ≡ true → x ≡ offenceAt (test .number) (test .offset) → x ≡ firstOf (test ∷ tests)
+unfolding firstOf pick
+first-hit test tests x h e = rw h e
+
+pub first-miss : (test : Test) (tests : List Test) (x : Offence) → test .holds ≡ false → x ≡ firstOf tests → x ≡ firstOf (test ∷ tests)
+unfolding firstOf pick
+first-miss test tests x h e = rw h e
+
+pub first-none : (x : Offence) → x ≡ noOffence → x ≡ firstOf []
+unfolding firstOf
+first-none x e = e
+
+-- a `return` behind tests that did not hold
+pub ruleset judged = (first-hit, first-miss, first-none, not-t, not-f, lt-ltb, le-ltb, le-leb, lt-leb, eq-eqb, ne-eqb)
+
+-- tests that follow others: they are asked where none of those holds
+pub first-behind : (tests rest : List Test) → firstOf tests .found ≡ false → firstOf (tests ++ rest) ≡ firstOf rest
+unfolding firstOf pick
+first-behind [] rest h = refl
+first-behind (test ∷ tests) rest h = by-test (test .holds) h (first-behind tests rest)
+  where
+    by-test : (holds : Bool) → pick holds (offenceAt (test .number) (test .offset)) (firstOf tests) .found ≡ false
+        → (firstOf tests .found ≡ false → firstOf (tests ++ rest) ≡ firstOf rest)
+        → pick holds (offenceAt (test .number) (test .offset)) (firstOf (tests ++ rest)) ≡ firstOf rest
+    by-test true h below = absurd (true≢false h)
+    by-test false h below = below h
+
+pub first-before : (tests rest : List Test) → firstOf tests .found ≡ true → firstOf (tests ++ rest) ≡ firstOf tests
+unfolding firstOf pick
+first-before [] rest h = absurd (false≢true h)
+first-before (test ∷ tests) rest h = by-test (test .holds) h (first-before tests rest)
+  where
+    by-test : (holds : Bool) → pick holds (offenceAt (test .number) (test .offset)) (firstOf tests) .found ≡ true
+        → (firstOf tests .found ≡ true → firstOf (tests ++ rest) ≡ firstOf tests)
+        → pick holds (offenceAt (test .number) (test .offset)) (firstOf (tests ++ rest)) ≡ pick holds (offenceAt (test .number) (test .offset)) (firstOf tests)
+    by-test true h below = refl
+    by-test false h below = below h
+
+-- the same for code that has the first offence of those in hand
+pub goes-on : (tests rest : List Test) (a x : Offence) → a ≡ firstOf tests → a .found ≡ false → x ≡ firstOf rest → x ≡ firstOf (tests ++ rest)
+goes-on tests rest a x e h p = p ∙ sym (first-behind tests rest (ap (λ (o : Offence). o .found) (sym e) ∙ h))
+
+pub stops : (tests rest : List Test) (a : Offence) → a ≡ firstOf tests → a .found ≡ true → a ≡ firstOf (tests ++ rest)
+stops tests rest a e h = e ∙ sym (first-before tests rest (ap (λ (o : Offence). o .found) (sym e) ∙ h))
+
+-- ---- the same test at index after index: what is left has the first offence of all
+
+-- so many are left at i, and one is this one
+pub over-split : (test : ℕ → Test) (i end : ℕ) → i < end → testsOver test i (end - i) ≡ test i ∷ testsOver test (i + 1) (end - (i + 1))
+unfolding testsOver
+over-split test i end h = let e : end - i ≡ suc (end - (i + 1)) = omega arith in rw e
+
+pub over-next : (test : ℕ → Test) (i end : ℕ) (all : Offence) → i < end → test i .holds ≡ false
+    → all ≡ firstOf (testsOver test i (end - i)) → all ≡ firstOf (testsOver test (i + 1) (end - (i + 1)))
+unfolding firstOf pick
+over-next test i end all h p e = e ∙ ap firstOf (over-split test i end h) ∙ rw p
+
+pub over-hit : (test : ℕ → Test) (i end : ℕ) (all x : Offence) → i < end → test i .holds ≡ true → x ≡ offenceAt (test i .number) (test i .offset)
+    → all ≡ firstOf (testsOver test i (end - i)) → x ≡ all
+unfolding firstOf pick
+over-hit test i end all x h p q e = q ∙ sym (e ∙ ap firstOf (over-split test i end h) ∙ rw p)
+
+pub over-end : (test : ℕ → Test) (i end : ℕ) (all x : Offence) → end ≤ i → x ≡ noOffence → all ≡ firstOf (testsOver test i (end - i)) → x ≡ all
+unfolding firstOf testsOver
+over-end test i end all x h q e = let z : end - i ≡ 0 = omega arith in q ∙ sym (e ∙ rw z)
+
+-- what code has where it found an offence, it does not have where it found none
+pub found : {A : Type 0} {x : Offence} {n offset : ℕ} → x ≡ offenceAt n offset → x .found ≡ false → A
+found {A} {x} e h = absurd (true≢false (sym (ap (λ (o : Offence). o .found) e) ∙ h))

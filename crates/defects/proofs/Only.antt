@@ -1,0 +1,23 @@
+-- No second answer: two outcomes that satisfy what a call promises are equal, for each public call.
+-- Assumes nothing.
+use Prim.Native.Nat.{ℕ}
+use mathlib.Core.Path.{_≡_}
+use mathlib.Core.List.{List}
+use Rattle.laws.proofs.Only.{answer-only}
+use Rattle.parts.specs.declared.setup.Setup.{Setup}
+use Rattle.defects.specs.Defect.{DecodedDefect, EncodedDefect}
+use Rattle.defects.specs.Place.{Placed}
+use Rattle.defects.specs.declared.defect.Defect.{Defect}
+use Rattle.defects.specs.declared.defect.DefectRead.{DefectRead}
+use Rattle.defects.specs.declared.defect.Encoded.{Encoded}
+use Rattle.defects.specs.declared.place.MapPlace.{MapPlace}
+
+pub decode-defect-only : (octets : List ℕ) (r s : DefectRead) → DecodedDefect octets r → DecodedDefect octets s → r ≡ s
+decode-defect-only octets r s p q = answer-only (p .answer) (q .answer)
+
+pub encode-defect-only : (d : Defect) (before after after′ : List ℕ) (r s : Encoded)
+    → EncodedDefect d before after r → EncodedDefect d before after′ s → (r ≡ s) × (after ≡ after′)
+encode-defect-only d before after after′ r s p q = (answer-only (p .answer) (q .answer), answer-only (p .slice) (q .slice))
+
+pub map-place-only : (setup : Setup) (k : ℕ) (r s : MapPlace) → Placed setup k r → Placed setup k s → r ≡ s
+map-place-only setup k r s p q = answer-only (p .answer) (q .answer)

@@ -1,0 +1,143 @@
+-- `defects::defect::write_defect` meets its contract: twelve stores at the front, each the octet of its number.
+-- Assumes nothing.
+use Prim.Native.Nat.{ℕ, _/_, _%_, _^_, _<_}
+use mathlib.Core.Path.{_≡_}
+use native.Mathlib.Omega.{arith}
+use lib.ListN.{length-set}
+use Rattle.laws.proofs.Lists.{stored}
+use Rattle.defects.specs.Defect.{defectOctets}
+use borrow.Author.Needs.{needs}
+use Rattle.defects.proofs.defect.write_defect.Statement.{statement}
+use Rattle.defects.proofs.defect.write_defect.Tie as tie
+
+cast-octets : tie.Need-cast-octets
+cast-octets c = search needs
+
+slice-write-octets : tie.Need-slice-write-octets
+slice-write-octets c = search needs
+
+cast-octets-2 : tie.Need-cast-octets-2
+cast-octets-2 c = search needs
+
+slice-write-octets-2 : tie.Need-slice-write-octets-2
+slice-write-octets-2 c = simp length-set (omega arith)
+
+cast-octets-3 : tie.Need-cast-octets-3
+cast-octets-3 c = search needs
+
+slice-write-octets-3 : tie.Need-slice-write-octets-3
+slice-write-octets-3 c = simp length-set (omega arith)
+
+cast-octets-4 : tie.Need-cast-octets-4
+cast-octets-4 c = search needs
+
+slice-write-octets-4 : tie.Need-slice-write-octets-4
+slice-write-octets-4 c = simp length-set (omega arith)
+
+cast-octets-5 : tie.Need-cast-octets-5
+cast-octets-5 c = search needs
+
+slice-write-octets-5 : tie.Need-slice-write-octets-5
+slice-write-octets-5 c = simp length-set (omega arith)
+
+cast-octets-6 : tie.Need-cast-octets-6
+cast-octets-6 c = search needs
+
+slice-write-octets-6 : tie.Need-slice-write-octets-6
+slice-write-octets-6 c = simp length-set (omega arith)
+
+cast-octets-7 : tie.Need-cast-octets-7
+cast-octets-7 c = search needs
+
+slice-write-octets-7 : tie.Need-slice-write-octets-7
+slice-write-octets-7 c = simp length-set (omega arith)
+
+cast-octets-8 : tie.Need-cast-octets-8
+cast-octets-8 c = search needs
+
+slice-write-octets-8 : tie.Need-slice-write-octets-8
+slice-write-octets-8 c = simp length-set (omega arith)
+
+cast-octets-9 : tie.Need-cast-octets-9
+cast-octets-9 c = search needs
+
+slice-write-octets-9 : tie.Need-slice-write-octets-9
+slice-write-octets-9 c = simp length-set (omega arith)
+
+cast-octets-10 : tie.Need-cast-octets-10
+cast-octets-10 c = search needs
+
+slice-write-octets-10 : tie.Need-slice-write-octets-10
+slice-write-octets-10 c = simp length-set (omega arith)
+
+cast-octets-11 : tie.Need-cast-octets-11
+cast-octets-11 c = search needs
+
+slice-write-octets-11 : tie.Need-slice-write-octets-11
+slice-write-octets-11 c = simp length-set (omega arith)
+
+cast-octets-12 : tie.Need-cast-octets-12
+cast-octets-12 c = search needs
+
+slice-write-octets-12 : tie.Need-slice-write-octets-12
+slice-write-octets-12 c = simp length-set (omega arith)
+
+same-length : tie.Need-same-length
+same-length c = simp length-set
+
+-- an octet by one division, and by several
+long-high : (n : ℕ) → n < 2 ^ 32 → n / 0x100_0000 ≡ n / 256 / 256 / 256 % 256
+long-high n h = omega arith
+
+long-next : (n : ℕ) → n / 0x1_0000 % 256 ≡ n / 256 / 256 % 256
+long-next n = omega arith
+
+word-high : (n : ℕ) → n < 2 ^ 16 → n / 256 ≡ n / 256 % 256
+word-high n h = omega arith
+
+returns : tie.Need-returns
+unfolding defectOctets
+returns c =
+    let b = c .before .before .before .before .before .before .before .before .before .before .before .before in
+    let d = b .args .defect in
+    let fits = c .struct-known12 .given in
+    cc (
+      long-high (d .cylinder) (omega arith),
+      long-next (d .cylinder),
+      word-high (d .head) (omega arith),
+      long-high (d .offset) (omega arith),
+      long-next (d .offset),
+      word-high (d .length) (omega arith),
+      stored (b .args .octets .now) (defectOctets d) (b .pre),
+    )
+
+pub write-defect-spec : {M : Type 1} → statement M
+write-defect-spec =
+    tie.close
+    (tie.spec
+    cast-octets
+    slice-write-octets
+    cast-octets-2
+    slice-write-octets-2
+    cast-octets-3
+    slice-write-octets-3
+    cast-octets-4
+    slice-write-octets-4
+    cast-octets-5
+    slice-write-octets-5
+    cast-octets-6
+    slice-write-octets-6
+    cast-octets-7
+    slice-write-octets-7
+    cast-octets-8
+    slice-write-octets-8
+    cast-octets-9
+    slice-write-octets-9
+    cast-octets-10
+    slice-write-octets-10
+    cast-octets-11
+    slice-write-octets-11
+    cast-octets-12
+    slice-write-octets-12
+    same-length
+    returns)
