@@ -1,11 +1,12 @@
 -- The first offence: how code that tests one thing after the other meets `firstOf`, and the first offence of tests that follow others.
 -- Assumes nothing.
-use Prim.Native.Nat.{ℕ, suc, _+_, _-_, _<_, _≤_}
+use Prim.Native.Nat.{ℕ, zero, suc, _+_, _-_, _<_, _≤_}
 use native.Mathlib.Omega.{arith}
 use mathlib.Core.Path.{_≡_, refl, sym, ap, _∙_}
 use mathlib.Core.Bool.{Bool, true, false, true≢false, false≢true}
 use mathlib.Core.List.{List, [], _∷_, _++_}
-use borrow.Author.Tests.{lt-ltb, le-ltb, le-leb, lt-leb, eq-eqb, ne-eqb}
+use borrow.Author.Tests.{lt-ltb, le-ltb, le-leb, lt-leb, eq-eqb, ne-eqb, eqb-true, eqb-false}
+use lib.Dec.{eqb}
 use Rattle.laws.specs.Pick.{pick}
 use Rattle.laws.proofs.Pick.{not-t, not-f}
 use Rattle.defects.specs.Offence.{Test, noOffence, offenceAt, firstOf, testsOver}
@@ -78,5 +79,45 @@ unfolding firstOf testsOver
 over-end test i end all x h q e = let z : end - i ≡ 0 = omega arith in q ∙ sym (e ∙ rw z)
 
 -- what code has where it found an offence, it does not have where it found none
+pub caught : {A : Type 0} {x y : Offence} → x ≡ y → y .found ≡ true → x .found ≡ false → A
+caught {A} {x} {y} e f h = absurd (true≢false (sym f ∙ sym (ap (λ (o : Offence). o .found) e) ∙ h))
+
 pub found : {A : Type 0} {x : Offence} {n offset : ℕ} → x ≡ offenceAt n offset → x .found ≡ false → A
-found {A} {x} e h = absurd (true≢false (sym (ap (λ (o : Offence). o .found) e) ∙ h))
+found e = caught e refl
+
+-- ---- where no test holds
+
+pub none-head : (test : Test) (tests : List Test) → firstOf (test ∷ tests) .found ≡ false → (test .holds ≡ false) × (firstOf tests .found ≡ false)
+unfolding firstOf pick
+none-head test tests h = by-test (test .holds) refl h
+  where
+    by-test : (holds : Bool) → test .holds ≡ holds → pick holds (offenceAt (test .number) (test .offset)) (firstOf tests) .found ≡ false
+        → (test .holds ≡ false) × (firstOf tests .found ≡ false)
+    by-test true e h = absurd (true≢false h)
+    by-test false e h = (e, h)
+
+pub none-parts : (tests rest : List Test) → firstOf (tests ++ rest) .found ≡ false → (firstOf tests .found ≡ false) × (firstOf rest .found ≡ false)
+none-parts tests rest h = by-found (firstOf tests .found) refl
+  where
+    by-found : (found : Bool) → firstOf tests .found ≡ found → (firstOf tests .found ≡ false) × (firstOf rest .found ≡ false)
+    by-found true e = absurd (true≢false (sym e ∙ sym (ap (λ (o : Offence). o .found) (first-before tests rest e)) ∙ h))
+    by-found false e = (e, sym (ap (λ (o : Offence). o .found) (first-behind tests rest e)) ∙ h)
+
+pub none-over : (test : ℕ → Test) (i count : ℕ) → firstOf (testsOver test i count) .found ≡ false → (j : ℕ) → i ≤ j → j < i + count → test j .holds ≡ false
+unfolding testsOver
+none-over test i zero h j low high = absurd (omega arith)
+none-over test i (suc count) h j low high =
+    let (this, rest) = none-head (test i) (testsOver test (i + 1) count) h in
+    by-index (eqb j i) refl this (none-over test (i + 1) count rest j)
+  where
+    by-index : (same : Bool) → eqb j i ≡ same → test i .holds ≡ false → (i + 1 ≤ j → j < i + 1 + count → test j .holds ≡ false) → test j .holds ≡ false
+    by-index true e this below = rw (eqb-true j i e) this
+    by-index false e this below = let other = eqb-false j i e in below (omega arith) (omega arith)
+
+abbrev pub Passed : List Test → Type 0
+Passed [] = Unit
+Passed (test ∷ tests) = (test .holds ≡ false) × Passed tests
+
+pub all-passed : (tests : List Test) → firstOf tests .found ≡ false → Passed tests
+all-passed [] h = tt
+all-passed (test ∷ tests) h = let (this, rest) = none-head test tests h in (this, all-passed tests rest)

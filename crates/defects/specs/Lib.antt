@@ -10,10 +10,11 @@ pub mod Place
 pub mod Places
 pub mod Walk
 pub mod Decoding
+pub mod Exactly
+pub mod Decoded
+pub mod Copies
 pub mod Encoding
 pub mod Sectors
 pub mod Steps
 pub mod Cases
 pub mod WrongAnswers
-pub mod Try
-pub mod Try2

@@ -1,9 +1,9 @@
 // The tests of one data field, in the order of its octets. `start` is the offset of its octet 0 in the map.
 use crate::crc::crc;
+use crate::defect::ENTRY_LENGTH;
 use crate::defect::word_at;
 use crate::entries::ENTRIES;
 use crate::entries::entries_offence;
-use crate::defect::ENTRY_LENGTH;
 use crate::front::COPY;
 use crate::front::Front;
 use crate::front::front_offence;
@@ -107,13 +107,7 @@ fn padding_offence(start: usize, field: &[u8], count: usize) -> Offence
 }
 
 // So many octets from an index on are as in copy 0.
-fn same_offence(
-    start: usize,
-    field: &[u8],
-    original: &[u8],
-    from: usize,
-    count: usize,
-) -> Offence
+fn same_offence(start: usize, field: &[u8], original: &[u8], from: usize, count: usize) -> Offence
     requires { ⌜ (from + count ≤ length (now field)) × (length (now original) ≡ length (now field)) × (start + length (now field) < 2 ^ 63) ⌝ }
     ensures { λ r. ⌜ r ≡ firstOf (testsOver (sameTest start (now (field .entry)) (now (original .entry))) from count) ⌝ }
 {

@@ -6,12 +6,17 @@ mod defect;
 mod encoding;
 mod entries;
 mod front;
+mod gathering;
 mod judging;
 mod offence;
 mod place;
+mod sectors;
 mod walk;
+mod walking;
 
 pub use decoding::MapRead;
+pub use decoding::decode_map;
+pub use decoding::read_map;
 pub use defect::Defect;
 pub use defect::DefectRead;
 pub use defect::Encoded;

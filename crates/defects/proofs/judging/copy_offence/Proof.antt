@@ -1,3 +1,16 @@
+use Prim.Native.Nat.{ℕ, _+_, _-_}
+use mathlib.Core.Path.{_≡_, refl, ap, _∙_}
+use native.Mathlib.Omega.{arith}
+use borrow.Author.Tests.{eq-eqb, ne-eqb}
+use lib.ListN.{length, getD}
+use lib.Dec.{eqb}
+use mathlib.Core.Bool.{not}
+use mathlib.Core.List.{_∷_, _++_}
+use Rattle.laws.proofs.Pick.{not-t, not-f}
+use Rattle.defects.specs.Offence.{_at_when_, firstOf, testsOver}
+use Rattle.defects.specs.Judging.{sameTest}
+use Rattle.defects.specs.declared.offence.Offence.{Offence}
+use Rattle.defects.proofs.Offences.{first-hit, first-miss, stops, goes-on}
 use borrow.Author.Needs.{needs}
 use Rattle.defects.proofs.judging.copy_offence.Statement.{statement}
 use Rattle.defects.proofs.judging.copy_offence.Tie as tie
@@ -13,7 +26,9 @@ same-offence-requires c κs = search needs
 
 -- src/judging.rt:75:9
 returns : tie.Need-returns
-returns c = ?
+returns c =
+    let same = c .before .same-offence in
+    stops _ _ _ (stops _ _ _ (same .ensures) (c .if1 .taken)) (c .if1 .taken)
 
 -- src/judging.rt:77:8
 shared-slice-read-if2 : tie.Need-shared-slice-read-if2
@@ -29,7 +44,11 @@ offence-at-requires c κs = search needs
 
 -- src/judging.rt:78:9
 returns-2 : tie.Need-returns-2
-returns-2 c = ?
+returns-2 c =
+    let passed = c .before .before .before .before in
+    let offence = c .offence-at in
+    stops _ _ _ (goes-on _ _ _ _ (passed .before .same-offence .ensures) (passed .if1 .left) (first-hit _ _ _ (not-t _ (ne-eqb _ _ (c .before .if2 .taken))) (offence .ensures)))
+    (ap (λ (o : Offence). o .found) (offence .ensures))
 
 -- src/judging.rt:84:9
 add-same-offence : tie.Need-add-same-offence
@@ -51,9 +70,20 @@ sub-same-offence-3 c = search needs
 same-offence-requires-2 : tie.Need-same-offence-requires-2
 same-offence-requires-2 c κs = search needs
 
+-- up to the CRC, where octet 3 is right
+up-to-crc : (c : tie.After-same-offence2)
+    → let a = c .before .before .before .before .before .before .before .before .args in
+    c .same-offence2 .result ≡ firstOf (testsOver (sameTest (a .start) (a .field .now) (a .original .now)) 0 3 ++ (20 at a .start + 3 when not (eqb (getD (a .field .now) 3 0) (a .walk .copy)) ∷ testsOver (sameTest (a .start) (a .field .now) (a .original .now)) 4 (length (a .field .now) - 6)))
+up-to-crc c =
+    let passed = c .before .before .before .before in
+    let a = passed .before .before .before .before .args in
+    let left : length (a .field .now) - 3 - 1 - 2 ≡ length (a .field .now) - 6 = omega arith in
+    goes-on _ _ _ _ (passed .before .same-offence .ensures) (passed .if1 .left)
+    (first-miss _ _ _ (not-f _ (eq-eqb _ _ (c .before .if2 .left))) (c .same-offence2 .ensures ∙ ap (λ (n : ℕ). firstOf (testsOver (sameTest (a .start) (a .field .now) (a .original .now)) 4 n)) left))
+
 -- src/judging.rt:88:9
 returns-3 : tie.Need-returns-3
-returns-3 c = ?
+returns-3 c = stops _ _ _ (up-to-crc (c .before)) (c .if3 .taken)
 
 -- src/judging.rt:90:5
 crc-offence-requires : tie.Need-crc-offence-requires
@@ -61,7 +91,7 @@ crc-offence-requires c κs = search needs
 
 -- src/judging.rt:69:1
 returns-4 : tie.Need-returns-4
-returns-4 c = ?
+returns-4 c = goes-on _ _ _ _ (up-to-crc (c .before .before)) (c .before .if3 .left) (c .crc-offence .ensures)
 
 pub copy-offence-spec : {M : Type 1} → statement M
 copy-offence-spec =

@@ -1,0 +1,160 @@
+use Prim.Native.Nat.{ℕ, _+_, _-_, _*_, _<_, _≤_}
+use mathlib.Core.Path.{_≡_, refl, sym, ap, _∙_}
+use mathlib.Core.Bool.{Bool}
+use mathlib.Core.List.{List}
+use native.Mathlib.Nat.{mul-le-mul-right, add-mul, one-mul}
+use native.Mathlib.Omega.{arith}
+use borrow.Author.Needs.{needs}
+use lib.ListN.{length, take}
+use lib.Seq.{length-take-le}
+use Rattle.parts.specs.declared.setup.Setup.{Setup}
+use Rattle.parts.proofs.Bounds.{limits}
+use Rattle.defects.specs.Place.{fieldOctets, dataFields}
+use Rattle.defects.specs.Walk.{fieldAt}
+use Rattle.defects.specs.Steps.{stringIn, ownDefects, Loadable}
+use Rattle.defects.proofs.Accepted.{room}
+use Rattle.defects.proofs.Loadables.{length-loaded}
+use Rattle.defects.proofs.Gathers.{Gathering, gathering-start, gathering-next, own-room}
+use Rattle.defects.proofs.gathering.gather.Statement.{statement}
+use Rattle.defects.proofs.gathering.gather.Tie as tie
+use Rattle.defects.proofs.gathering.gather.Reads as reads
+use Rattle.defects.proofs.gathering.gather.Lts as lts
+use Rattle.defects.proofs.gathering.list_field.Reads as list-field-reads
+use Rattle.defects.proofs.place.field_octets.Reads as field-octets-reads
+use Rattle.defects.proofs.sectors.load.Reads as load-reads
+
+-- the data fields before k are listed
+record Gathered (setup : Setup) (inSectors : Bool) (octets sectors : List ℕ) (fields : ℕ) (field₀ defects₀ : List ℕ) (each : ℕ) (field defects : List ℕ) (count copy k : ℕ) : Type 0 where
+  sized : each ≡ fieldOctets setup
+  within : k ≤ fields
+  gathered : Gathering setup (stringIn setup inSectors octets sectors) defects₀ defects count copy k
+  fields′ : length field ≡ length field₀
+
+abbrev Inv-loop : tie.InvT-loop
+Inv-loop setup in-sectors octets sectors fields field₀ defects₀ each count₀ copy₀ k₀ field defects count copy k =
+    Gathered setup in-sectors octets sectors fields field₀ defects₀ each field defects count copy k
+
+abbrev μ-loop : tie.MeasureT-loop
+μ-loop setup in-sectors octets sectors fields field₀ defects₀ each count₀ copy₀ k₀ field defects count copy k = fields - k
+
+-- src/gathering.rt:44:9
+field-octets-requires : tie.Need-field-octets-requires Inv-loop μ-loop
+field-octets-requires c κs = search needs
+
+-- src/gathering.rt:48:5
+loop-holds : tie.Need-loop-holds Inv-loop μ-loop
+loop-holds c = record { sized = c .field-octets .ensures; within = search needs; gathered = gathering-start _ _ _; fields′ = refl }
+
+-- the data field is there, whole
+loadable : (c : tie.In-loop Inv-loop μ-loop)
+    → let a = c .before .before .before .before .before .before .before .args in
+    Loadable (a .setup) (a .in-sectors) (a .octets .now) (a .sectors .now) (c .before .loop .k)
+loadable c =
+    let start = c .before .before .before .before .before .before .before in
+    let pre = start .pre .0 in
+    let k = c .before .loop .k in
+    let each = fieldOctets (start .args .setup) in
+    let more : (k + 1) * each ≤ start .args .fields * each = mul-le-mul-right each (omega arith) in
+    record { limits = pre .limits; room = pre .room; inside = omega (arith, pre .within); whole = omega (arith, more, pre .whole, add-mul k 1 each, one-mul each) }
+
+-- src/gathering.rt:49:9
+load-requires : tie.Need-load-requires Inv-loop μ-loop
+load-requires c κs =
+    let start : tie.Start Inv-loop μ-loop = search in
+    (loadable (c .before), omega (arith, start .pre .1, c .before .before .loop .inv .fields′))
+
+-- src/gathering.rt:50:46
+slice-reshare-prefix-list-field : tie.Need-slice-reshare-prefix-list-field Inv-loop μ-loop
+slice-reshare-prefix-list-field c =
+    let loaded = c .before .before in
+    let loop = loaded .before .before .before in
+    let start : tie.Start Inv-loop μ-loop = search in
+    let few = limits (start .args .setup) (start .pre .0 .limits) in
+    omega (arith, loaded .load .kept, loop .loop .inv .fields′, loop .loop .inv .sized, start .pre .1)
+
+-- src/gathering.rt:50:46
+slice-aggregate-list-field : tie.Need-slice-aggregate-list-field Inv-loop μ-loop
+slice-aggregate-list-field c = sym (length-take-le _ _ (slice-reshare-prefix-list-field (c .before)))
+
+-- what was loaded is the data field
+is-field : (c : tie.After-load Inv-loop μ-loop)
+    → let loop = c .before .before .before in
+    let a = loop .before .before .before .before .before .before .args in
+    take (loop .before .field-octets .result) (c .load .last .1 .1 .1 .1 .1 .0) ≡ fieldAt (a .setup) (stringIn (a .setup) (a .in-sectors) (a .octets .now) (a .sectors .now)) (loop .loop .k)
+is-field c = rw (c .before .before .before .loop .inv .sized) (c .load .ensures)
+
+-- the next defects have room
+next-room : (c : tie.In-loop Inv-loop μ-loop)
+    → let a = c .before .before .before .before .before .before .before .args in
+    12 * (c .before .loop .count + length (ownDefects (c .before .loop .copy) (fieldAt (a .setup) (stringIn (a .setup) (a .in-sectors) (a .octets .now) (a .sectors .now)) (c .before .loop .k)))) ≤ length (c .before .loop .defects)
+next-room c =
+    let start = c .before .before .before .before .before .before .before in
+    own-room _ _ _ _ _ _ _ _ (c .before .loop .inv .gathered) (start .pre .0 .going (c .before .loop .k) (c .loop-test .taken)) (c .loop-test .taken) (start .pre .0 .held)
+
+-- src/gathering.rt:50:13
+list-field-requires : tie.Need-list-field-requires Inv-loop μ-loop
+list-field-requires c κs =
+    let loaded = c .before .before .before .before in
+    let turn = loaded .before .before in
+    let start : tie.Start Inv-loop μ-loop = search in
+    let some = room (start .args .setup) (turn .before .loop .k) (loadable turn .inside) in
+    (rw (is-field loaded, length-loaded (loadable turn)) (omega arith), rw (is-field loaded) (next-room turn))
+
+-- src/gathering.rt:53:9
+add-k : tie.Need-add-k Inv-loop μ-loop
+add-k c = search needs
+
+-- src/gathering.rt:48:5
+loop-less : tie.Need-loop-less Inv-loop μ-loop
+loop-less c = search needs
+
+-- src/gathering.rt:48:5
+loop-again : tie.Need-loop-again Inv-loop μ-loop
+loop-again c =
+    let listed = c .before .before in
+    let loaded = listed .before .before .before .before .before in
+    let turn = loaded .before .before in
+    let loop = turn .before in
+    let start = loop .before .before .before .before .before .before in
+    let pre = start .pre .0 in
+    record {
+      sized = loop .loop .inv .sized;
+      within = omega (arith, turn .loop-test .taken);
+      gathered = gathering-next _ _ _ _ _ _ _ _ (loop .loop .inv .gathered) (pre .going (loop .loop .k) (turn .loop-test .taken)) (turn .loop-test .taken) (pre .held) _ _ (rw (is-field loaded) at (listed .list-field .ensures));
+      fields′ = loaded .load .kept .1 .1 .1 .1 .1 .0 ∙ loop .loop .inv .fields′;
+    }
+
+-- src/gathering.rt:32:1
+same-length : tie.Need-same-length Inv-loop μ-loop
+same-length c = search needs
+
+-- src/gathering.rt:32:1
+same-length-2 : tie.Need-same-length-2 Inv-loop μ-loop
+same-length-2 c = search needs
+
+-- src/gathering.rt:32:1
+returns : tie.Need-returns Inv-loop μ-loop
+returns c =
+    let loop = c .before in
+    let start : tie.Start Inv-loop μ-loop = search in
+    let all : loop .loop .k ≡ start .args .fields = omega (arith, loop .loop .inv .within) in
+    rw (← all) (loop .loop .inv .gathered .counted, loop .loop .inv .gathered .listed)
+
+pub gather-spec : {M : Type 1} → statement M
+gather-spec =
+    tie.close
+    (tie.spec
+    Inv-loop
+    μ-loop
+    field-octets-requires
+    loop-holds
+    load-requires
+    slice-reshare-prefix-list-field
+    slice-aggregate-list-field
+    list-field-requires
+    add-k
+    loop-less
+    loop-again
+    same-length
+    same-length-2
+    returns)
