@@ -16,5 +16,6 @@ pub mod Copies
 pub mod Encoding
 pub mod Sectors
 pub mod Steps
+pub mod EncodeSteps
 pub mod Cases
 pub mod WrongAnswers

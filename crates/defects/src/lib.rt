@@ -1,8 +1,10 @@
 // The maker's defect map: its octets, both ways, and its place on the last cylinder.
+mod body;
 mod crc;
 mod crc_table;
 mod decoding;
 mod defect;
+mod encodable;
 mod encoding;
 mod entries;
 mod front;
@@ -11,6 +13,8 @@ mod judging;
 mod offence;
 mod place;
 mod sectors;
+mod sets;
+mod storing;
 mod walk;
 mod walking;
 
@@ -23,5 +27,7 @@ pub use defect::Encoded;
 pub use defect::decode_defect;
 pub use defect::encode_defect;
 pub use encoding::MapEncoded;
+pub use encoding::encode_map;
+pub use encoding::write_map;
 pub use place::MapPlace;
 pub use place::map_place;

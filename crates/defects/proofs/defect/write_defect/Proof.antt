@@ -1,11 +1,10 @@
 -- `defects::defect::write_defect` meets its contract: twelve stores at the front, each the octet of its number.
 -- Assumes nothing.
-use Prim.Native.Nat.{ℕ, _/_, _%_, _^_, _<_}
-use mathlib.Core.Path.{_≡_}
 use native.Mathlib.Omega.{arith}
 use lib.ListN.{length-set}
 use Rattle.laws.proofs.Lists.{stored}
 use Rattle.defects.specs.Defect.{defectOctets}
+use Rattle.defects.proofs.HighOctets.{long-high, long-next, word-high}
 use borrow.Author.Needs.{needs}
 use Rattle.defects.proofs.defect.write_defect.Statement.{statement}
 use Rattle.defects.proofs.defect.write_defect.Tie as tie
@@ -84,16 +83,6 @@ slice-write-octets-12 c = simp length-set (omega arith)
 
 same-length : tie.Need-same-length
 same-length c = simp length-set
-
--- an octet by one division, and by several
-long-high : (n : ℕ) → n < 2 ^ 32 → n / 0x100_0000 ≡ n / 256 / 256 / 256 % 256
-long-high n h = omega arith
-
-long-next : (n : ℕ) → n / 0x1_0000 % 256 ≡ n / 256 / 256 % 256
-long-next n = omega arith
-
-word-high : (n : ℕ) → n < 2 ^ 16 → n / 256 ≡ n / 256 % 256
-word-high n h = omega arith
 
 returns : tie.Need-returns
 unfolding defectOctets

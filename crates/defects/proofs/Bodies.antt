@@ -1,0 +1,109 @@
+-- A data field of the map: built from zeros, finished as one of its copies, and as long as field 1 is.
+-- Assumes nothing.
+use Prim.Native.Nat.{ℕ, zero, suc, _+_, _-_, _*_, _≤_}
+use mathlib.Core.Path.{_≡_, refl, sym, ap, _∙_}
+use mathlib.Core.List.{List, [], _∷_, _++_, append-assoc}
+use native.Mathlib.Omega.{arith}
+use lib.ListN.{length, take, drop, set, replicate, length-append, length-take, length-replicate, replicate-append-replicate}
+use lib.Seq.{take-at, drop-append-add, drop-drop, set-set}
+use Rattle.laws.specs.Lists.{writtenOver, writtenAt}
+use Rattle.laws.specs.Octets.{octetsOf}
+use Rattle.parts.specs.declared.setup.Setup.{Setup}
+use Rattle.defects.specs.Crc.{crcOf}
+use Rattle.defects.specs.Defect.{defectOctets, listOctets}
+use Rattle.defects.specs.Field.{slots}
+use Rattle.defects.specs.Place.{fieldOctets}
+use Rattle.defects.specs.Encoding.{Value, defectsOfSet, frontOctets, bodyOctets, dataField}
+use Rattle.defects.specs.EncodeSteps.{finished, blankField}
+use Rattle.defects.specs.declared.defect.Defect.{Defect}
+use Rattle.defects.proofs.DefectOctets.{length-defect-octets}
+
+-- ---- from zeros
+
+drop-zeros : (n m : ℕ) → drop n (replicate {A = ℕ} m 0) ≡ replicate (m - n) 0
+drop-zeros zero m = let e : m - 0 ≡ m = omega arith in rw e
+drop-zeros (suc n) zero = let e : 0 - suc n ≡ 0 = omega arith in rw e
+drop-zeros (suc n) (suc m) = let e : suc m - suc n ≡ m - n = omega arith in rw e (drop-zeros n m)
+
+take-zeros : (n m : ℕ) → n ≤ m → take n (replicate {A = ℕ} m 0) ≡ replicate n 0
+take-zeros zero m h = refl
+take-zeros (suc n) zero h = absurd (omega arith)
+take-zeros (suc n) (suc m) h = ap (λ (rest : List ℕ). 0 ∷ rest) (take-zeros n m (omega arith))
+
+pub blank-part : (n : ℕ) → n ≤ 2048 → take n blankField ≡ replicate n 0
+unfolding blankField
+blank-part n h = take-zeros n 2048 h
+
+pub length-blank : length blankField ≡ 2048
+unfolding blankField
+length-blank = length-replicate {A = ℕ} 2048 0
+
+-- front and entries over zeros, with room for the CRC behind them
+pub over-zeros : (size : ℕ) (front entries : List ℕ) → length front ≡ 14 → 16 + length entries ≤ size
+    → writtenAt (writtenOver (replicate size 0) front) 14 entries ≡ front ++ entries ++ replicate (size - 16 - length entries) 0 ++ (0 ∷ 0 ∷ [])
+over-zeros size front entries e h =
+    let zeros : List ℕ = replicate size 0 in
+    let rest = drop (length front) zeros in
+    let n = length entries in
+    let behind : drop (14 + n) (front ++ rest) ≡ replicate (size - 16 - n) 0 ++ (0 ∷ 0 ∷ []) =
+    ap (λ (k : ℕ). drop (k + n) (front ++ rest)) (sym e)
+    ∙ drop-append-add front rest n
+    ∙ drop-drop n (length front) zeros
+    ∙ drop-zeros (length front + n) size
+    ∙ ap (λ (k : ℕ). replicate k 0) {x = size - (length front + n)} {y = size - 16 - n + 2} (omega arith)
+    ∙ sym (replicate-append-replicate (size - 16 - n) 2 0) in
+    rw (take-at front rest 14 e, behind, append-assoc (front ++ entries) (replicate (size - 16 - n) 0) (0 ∷ 0 ∷ []))
+
+-- ---- its length
+
+length-entries : (defects : List Defect) → length (listOctets defects) ≡ 12 * length defects
+length-entries [] = refl
+length-entries (d ∷ defects) = omega (arith, length-append (defectOctets d) (listOctets defects), length-defect-octets d, length-entries defects)
+
+pub entries-fit : (s : Setup) (v : Value) (number : ℕ) → 16 ≤ fieldOctets s → 16 + length (listOctets (defectsOfSet s v number)) ≤ fieldOctets s
+entries-fit s v number h =
+    let each = slots (fieldOctets s) in
+    omega (arith, length-entries (defectsOfSet s v number), length-take each (drop (number * each) (v .defects)))
+
+pub length-front : (s : Setup) (v : Value) (number copy : ℕ) → length (frontOctets s v number copy) ≡ 14
+unfolding frontOctets
+length-front s v number copy = refl
+
+length-body : (s : Setup) (v : Value) (number copy : ℕ) → 16 ≤ fieldOctets s → length (bodyOctets s v number copy) ≡ fieldOctets s - 2
+unfolding bodyOctets frontOctets
+length-body s v number copy h =
+    let entries = listOctets (defectsOfSet s v number) in
+    let left = fieldOctets s - 16 - length entries in
+    omega (arith, entries-fit s v number h, length-append entries (replicate left 0), length-replicate {A = ℕ} left 0)
+
+pub length-field : (s : Setup) (v : Value) (number copy : ℕ) → 16 ≤ fieldOctets s → length (dataField s v number copy) ≡ fieldOctets s
+unfolding dataField
+length-field s v number copy h = let body = bodyOctets s v number copy in omega (arith, length-append body (octetsOf 2 (crcOf body)), length-body s v number copy h)
+
+-- ---- the copies
+
+-- a body with another number of its copy
+renumbered : (s : Setup) (v : Value) (number copy other : ℕ) → set (bodyOctets s v number copy) 3 other ≡ bodyOctets s v number other
+unfolding bodyOctets frontOctets
+renumbered s v number copy other = refl
+
+-- all but the copy's number and the CRC are those of a set
+abbrev pub IsOf : Setup → Value → ℕ → List ℕ → Type 0
+IsOf s v number field = set (take (length field - 2) field) 3 0 ≡ bodyOctets s v number 0
+
+pub body-of : (s : Setup) (v : Value) (number copy : ℕ) (end field : List ℕ) → length end ≡ 2 → field ≡ bodyOctets s v number copy ++ end → IsOf s v number field
+body-of s v number copy end field two e =
+    let body = bodyOctets s v number copy in
+    rw (e, take-at body end (length (body ++ end) - 2) (omega (arith, length-append body end))) (renumbered s v number copy 0)
+
+pub finished-as : (s : Setup) (v : Value) (number copy : ℕ) (field : List ℕ) → IsOf s v number field → finished copy field ≡ dataField s v number copy
+unfolding finished dataField
+finished-as s v number copy field e =
+    let front = take (length field - 2) field in
+    let body : set front 3 copy ≡ bodyOctets s v number copy =
+    sym (set-set front 3 0 copy) ∙ ap (λ (octets : List ℕ). set octets 3 copy) e ∙ renumbered s v number 0 copy in
+    rw body
+
+pub field-of : (s : Setup) (v : Value) (number copy : ℕ) (field : List ℕ) → field ≡ dataField s v number copy → IsOf s v number field
+unfolding dataField
+field-of s v number copy field e = body-of s v number copy (octetsOf 2 (crcOf (bodyOctets s v number copy))) field refl e
