@@ -1,20 +1,19 @@
 -- `specs/Copies` proved: behind copy 0 of a set the walk goes on until both other copies are passed, and what it remembers stays.
 -- Assumes nothing.
 use Prim.Native.Nat.{ℕ, zero, suc, _+_, _-_, _<_, _≤_}
-use mathlib.Core.Path.{_≡_, refl, sym, ap, subst, _∙_}
-use mathlib.Core.Bool.{Bool, true, false, _&&_, true≢false, false≢true}
+use mathlib.Core.Path.{_≡_, refl, sym, ap, _∙_}
+use mathlib.Core.Bool.{Bool, true, false, _&&_, false≢true}
 use mathlib.Core.List.{List}
 use native.Mathlib.Nat.{le-refl}
 use native.Mathlib.Omega.{arith}
-use borrow.Author.Tests.{eqb-true, eqb-false, ne-eqb}
+use borrow.Author.Tests.{eqb-true, ne-eqb}
 use lib.Dec.{eqb}
-use lib.ListN.{length}
 use Rattle.laws.specs.Pick.{pick}
 use Rattle.laws.proofs.Tests.{and-l, and-r}
 use Rattle.parts.specs.declared.setup.Setup.{Setup}
 use Rattle.defects.specs.Offence.{firstOf}
 use Rattle.defects.specs.Field.{frontOf, isIgnored}
-use Rattle.defects.specs.Place.{fieldOctets, dataFields}
+use Rattle.defects.specs.Place.{dataFields}
 use Rattle.defects.specs.Walk.{isEnded, afterOriginal, afterCopy, after, fieldAt, walkAt, isOriginal, mapTests}
 use Rattle.defects.specs.Copies.{CopyOf, ThreeTimes, ToldAlike, Copies}
 use Rattle.defects.specs.declared.walk.Walk.{Walk}
@@ -23,7 +22,7 @@ use Rattle.defects.proofs.Decoded.{Begun}
 use Rattle.defects.proofs.Accepted.{length-field, whole, ended, original-at, copy-at}
 
 -- between the copies of a set the map has not ended
-going-on : (w : Walk) → (w .copy ≡ 0 → ⊥) → isEnded w ≡ false
+pub going-on : (w : Walk) → (w .copy ≡ 0 → ⊥) → isEnded w ≡ false
 going-on w other = rw (ne-eqb (w .copy) 0 other) (never (w .last))
   where
     never : (last : Bool) → (last && false) ≡ false

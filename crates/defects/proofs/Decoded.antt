@@ -2,26 +2,25 @@
 -- Assumes nothing.
 use Prim.Native.Nat.{ℕ, zero, suc, _<_, _≤_}
 use mathlib.Core.Path.{_≡_, refl, sym, ap, _∙_}
-use mathlib.Core.Bool.{Bool, true, false, _&&_, false≢true}
+use mathlib.Core.Bool.{Bool, true, false, false≢true}
 use mathlib.Core.List.{List, [], _∷_, _++_}
 use native.Mathlib.Nat.{le-refl}
 use native.Mathlib.Omega.{arith}
 use borrow.Author.Tests.{eqb-true, eqb-false}
 use lib.Dec.{eqb}
 use lib.ListN.{length}
-use Rattle.laws.specs.Pick.{pick}
 use Rattle.laws.proofs.Pick.{cases}
 use Rattle.laws.proofs.Tests.{and-l, and-r}
 use Rattle.parts.specs.declared.setup.Setup.{Setup}
 use Rattle.defects.specs.Offence.{firstOf}
-use Rattle.defects.specs.Field.{frontOf, isIgnored, defectsIn}
+use Rattle.defects.specs.Field.{frontOf}
 use Rattle.defects.specs.Place.{dataFields}
-use Rattle.defects.specs.Walk.{outset, isEnded, afterOriginal, fieldAt, walkAt, isOriginal, defectsBefore, mapTests}
+use Rattle.defects.specs.Walk.{isEnded, afterOriginal, fieldAt, walkAt, isOriginal, defectsBefore, mapTests}
 use Rattle.defects.specs.Encoding.{areListable, isListable}
 use Rattle.defects.specs.Decoded.{Decoded}
 use Rattle.defects.specs.declared.defect.Defect.{Defect}
 use Rattle.defects.specs.declared.walk.Walk.{Walk}
-use Rattle.defects.proofs.PassedFields.{FrontPassed, OriginalPassed}
+use Rattle.defects.proofs.PassedFields.{FrontPassed}
 use Rattle.defects.proofs.Standing.{Standing, at-outset, in-set, behind-set, standing, next-step}
 use Rattle.defects.proofs.Accepted.{ended, original-at}
 
@@ -81,8 +80,11 @@ module _ (alone : Bool) (s : Setup) (octets : List ℕ) (accepted : firstOf (map
       by-standing w e (in-set low high same r) none first = omega arith
       by-standing w e (behind-set first′ next r) none first = omega arith
 
+  pub stored-at-end : Storage s (walkAt s octets (dataFields s))
+  stored-at-end = stored (dataFields s) (le-refl (dataFields s)) begun-at-end
+
   pub storage-inside : (walkAt s octets (dataFields s) .cylinder < s .cylinders) × (walkAt s octets (dataFields s) .head < s .heads)
-  storage-inside = let held = stored (dataFields s) (le-refl (dataFields s)) begun-at-end in (held .cylinder, held .head)
+  storage-inside = (stored-at-end .cylinder, stored-at-end .head)
 
 pub decoded : Decoded
 decoded =

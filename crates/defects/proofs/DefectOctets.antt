@@ -60,7 +60,7 @@ defect-of-octets d rest f =
 
 module _ (octets : List ℕ) (all : AllOctets octets) where
   -- the octets of the number that stands there
-  octets-there : (width at : ℕ) → at + width ≤ length octets → octetsOf width (numberAt width at octets) ≡ take width (drop at octets)
+  pub octets-there : (width at : ℕ) → at + width ≤ length octets → octetsOf width (numberAt width at octets) ≡ take width (drop at octets)
   unfolding numberAt
   octets-there width at h =
       let there = drop at octets in
@@ -68,7 +68,7 @@ module _ (octets : List ℕ) (all : AllOctets octets) where
       octets-of-number width (take width there) (length-take-le width there long) (octets-taken width there (octets-dropped at octets all))
 
   -- one number more, behind those before it
-  with-next : (at before width : ℕ) {front : List ℕ} → at + before + width ≤ length octets → front ≡ take before (drop at octets)
+  pub with-next : (at before width : ℕ) {front : List ℕ} → at + before + width ≤ length octets → front ≡ take before (drop at octets)
       → front ++ octetsOf width (numberAt width (at + before) octets) ≡ take (before + width) (drop at octets)
   with-next at before width h e =
       rw (take-add before width (drop at octets), drop-drop before at octets) (ap₂ _++_ e (octets-there width (at + before) h))

@@ -3,7 +3,7 @@
 use Prim.Native.Nat.{ℕ, zero, suc, _+_, _-_, _*_, _<_, _≤_}
 use mathlib.Core.Path.{_≡_, refl, sym, _∙_}
 use mathlib.Core.Bool.{Bool, true, false, not, _&&_, _||_, true≢false}
-use mathlib.Core.List.{List, [], _∷_, _++_}
+use mathlib.Core.List.{List, [], _∷_}
 use native.Mathlib.Omega.{arith}
 use borrow.Author.Tests.{eqb-true, eqb-false, leb-false, lt-ltb, ltb-true, ltb-false, not-false}
 use lib.Dec.{eqb, ltb}
@@ -12,7 +12,7 @@ use Rattle.laws.specs.Pick.{pick}
 use Rattle.laws.proofs.Pick.{either, cases}
 use Rattle.laws.proofs.Tests.{or-l}
 use Rattle.parts.specs.declared.setup.Setup.{Setup}
-use Rattle.defects.specs.Offence.{Test, _at_when_, firstOf, testsOver}
+use Rattle.defects.specs.Offence.{_at_when_, firstOf, testsOver}
 use Rattle.defects.specs.Crc.{crcOf}
 use Rattle.defects.specs.Defect.{defectAt, isBlank, behind, isOutOfSequence}
 use Rattle.defects.specs.Field.{frontOf, isLast, hasStrayFlags, isFlagged, crcIn, defectsFrom, defectsIn}

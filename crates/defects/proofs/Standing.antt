@@ -1,7 +1,7 @@
 -- Where the walk over a map's data fields stands: at the outset, within a set, or behind one whose copy 0 it remembers. Of every string.
 -- Assumes nothing.
 use Prim.Native.Nat.{ℕ, zero, suc, _+_, _<_, _≤_}
-use mathlib.Core.Path.{_≡_, refl, sym, ap, _∙_}
+use mathlib.Core.Path.{_≡_, refl, ap}
 use mathlib.Core.Bool.{Bool, true, false, not, _&&_}
 use mathlib.Core.List.{List}
 use native.Mathlib.Omega.{arith}
@@ -13,7 +13,6 @@ use Rattle.laws.proofs.Tests.{and-l, and-r}
 use Rattle.parts.specs.declared.setup.Setup.{Setup}
 use Rattle.defects.specs.Field.{frontOf, isLast, isIgnored}
 use Rattle.defects.specs.Walk.{outset, isEnded, afterOriginal, afterCopy, after, fieldAt, walkAt, isOriginal}
-use Rattle.defects.specs.declared.front.Front.{Front}
 use Rattle.defects.specs.declared.walk.Walk.{Walk}
 
 -- where a set begins the map has not ended, the data field is not ignored, and copy 0 is due

@@ -7,7 +7,6 @@ use mathlib.Core.List.{List, [], _∷_, _++_}
 use native.Mathlib.Omega.{arith}
 use lib.Dec.{eqb}
 use lib.ListN.{length, getD}
-use Rattle.laws.specs.Pick.{pick}
 use Rattle.laws.proofs.Pick.{either}
 use Rattle.parts.specs.declared.setup.Setup.{Setup}
 use Rattle.defects.specs.Offence.{Test, _at_when_, testsOver}

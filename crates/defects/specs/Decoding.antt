@@ -3,6 +3,7 @@ use Prim.Native.Nat.{ℕ, zero, suc, _/_}
 use mathlib.Core.Path.{_≡_}
 use mathlib.Core.Bool.{true, not}
 use mathlib.Core.List.{List, _∷_}
+use mathlib.Core.Option.{Option, some, none}
 use lib.Dec.{ltb}
 use lib.ListN.{length}
 use Rattle.laws.specs.Pick.{pick}
@@ -36,6 +37,32 @@ mapOf s octets =
     let end = walkAt s octets (dataFields s) in
     Map (length (defectsOf s octets)) (end .cylinder) (end .head)
 
+-- The answer on paper: the number of the first offence and where it lies, or what the map tells.
+pub record Told : Type 0 where
+  pub count : ℕ
+  pub cylinder : ℕ
+  pub head : ℕ
+
+pub record MapPaper : Type 0 where
+  pub refusal : Option ℕ
+  pub offset : Option ℕ
+  pub value : Option Told
+
+abbrev pub refusedAt : ℕ → ℕ → MapPaper
+refusedAt n offset = record { refusal = some n; offset = some offset; value = none }
+
+abbrev pub tellsMap : ℕ → ℕ → ℕ → MapPaper
+tellsMap count cylinder head = record { refusal = none; offset = none; value = some (record { count = count; cylinder = cylinder; head = head }) }
+
+abbrev pub paper : MapRead → MapPaper
+paper (Map count cylinder head) = tellsMap count cylinder head
+paper (Refused n offset) = refusedAt n offset
+
+abbrev pub paperOf : Offence → Setup → List ℕ → MapPaper
+paperOf offence s octets =
+    let end = walkAt s octets (dataFields s) in
+    pick (offence .found) (refusedAt (offence .number) (offence .offset)) (tellsMap (length (defectsOf s octets)) (end .cylinder) (end .head))
+
 abbrev pub decodedIn : Setup → List ℕ → List ℕ → MapRead
 decodedIn s octets lent =
     let offence = decodeOffence s octets lent in
@@ -44,4 +71,5 @@ decodedIn s octets lent =
 -- The promise of `decode_map`.
 pub record DecodedMap (s : Setup) (octets before after : List ℕ) (r : MapRead) : Type 0 where
   pub answer : r ≡ decodedIn s octets before
+  pub on-paper : paper r ≡ paperOf (decodeOffence s octets before) s octets
   pub slice : after ≡ pick (decodeOffence s octets before .found) before (writtenOver before (listOctets (defectsOf s octets)))

@@ -1,4 +1,4 @@
--- "Each offence is given exactly when": number and offset of what a decoding reports, by the tests in their order. `proofs/ExactOffence`
+-- "the offset of the first offence": which number at which offset a decoding reports, by the tests in their order. `proofs/ExactOffence`
 -- proves it.
 use Prim.Native.Nat.{ℕ, _≤_}
 use mathlib.Core.Path.{_≡_}
@@ -37,5 +37,6 @@ pub record ExactOffence : Type 0 where
   -- "The first offence is the one with the least offset, and at one offset the one with the lower number."
   pub decode-map-least : (s : Setup) (octets lent : List ℕ) (n offset : ℕ)
       → GivenAt n offset (decodeTests s octets lent) → Least n offset (decodeTests s octets lent)
+  -- The same of a map that is read off the last cylinder.
   pub read-map-least : (s : Setup) (sectors lent : List ℕ) (n offset : ℕ)
       → GivenAt n offset (readTests s sectors lent) → Least n offset (readTests s sectors lent)

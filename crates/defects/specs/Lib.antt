@@ -14,7 +14,11 @@ pub mod Exactly
 pub mod Decoded
 pub mod Copies
 pub mod Encoding
+pub mod Plain
+pub mod RoundTrip
 pub mod Sectors
+pub mod OnTheCylinder
+pub mod CallRoundTrip
 pub mod Steps
 pub mod EncodeSteps
 pub mod Cases

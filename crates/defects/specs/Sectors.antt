@@ -11,10 +11,10 @@ use Rattle.laws.specs.Rows.{Row, first, _when_, unlessRefused}
 use Rattle.parts.specs.Setup.{withinLimits, allWords, sectorStart}
 use Rattle.parts.specs.declared.setup.Setup.{Setup}
 use Rattle.defects.specs.Offence.{Test, _at_when_, firstOf}
-use Rattle.defects.specs.Defect.{listOctets}
+use Rattle.defects.specs.Defect.{listOctets, refusalInEncoded}
 use Rattle.defects.specs.Place.{fieldOctets, dataFields, placeOf}
 use Rattle.defects.specs.Walk.{fieldAt, mapTests}
-use Rattle.defects.specs.Decoding.{defectsOf, mapOf}
+use Rattle.defects.specs.Decoding.{defectsOf, mapOf, paper, paperOf}
 use Rattle.defects.specs.Encoding.{Value, defectsListed, setsFor, mapOctets, isEncodable}
 use Rattle.defects.specs.declared.offence.Offence.{Offence}
 use Rattle.defects.specs.declared.decoding.MapRead.{MapRead}
@@ -71,6 +71,7 @@ readIn s sectors lent =
 -- The promise of `read_map`.
 pub record ReadMap (s : Setup) (sectors before after : List ℕ) (r : MapRead) : Type 0 where
   pub answer : r ≡ readIn s sectors before
+  pub on-paper : paper r ≡ paperOf (readOffence s sectors before) s (lastCylinder s sectors)
   pub slice : after ≡ pick (readOffence s sectors before .found) before (writtenOver before (listOctets (defectsOf s (lastCylinder s sectors))))
 
 -- ---- a map put there
@@ -94,6 +95,7 @@ writeRefusal s cylinder head defects sectors = first (writeRows s cylinder head 
 -- The promise of `write_map`.
 pub record WroteMap (s : Setup) (cylinder head : ℕ) (defects before after : List ℕ) (r : Encoded) : Type 0 where
   pub answer : r ≡ unlessRefused (writeRefusal s cylinder head defects before) (Encoded.Refused (writeRefusal s cylinder head defects before)) Encoded.Written
+  pub on-paper : refusalInEncoded r ≡ writeRefusal s cylinder head defects before
   pub sectors : after
       ≡ unlessRefused (writeRefusal s cylinder head defects before) before
       (storedFields s (mapOctets s (record { cylinder = cylinder; head = head; defects = defectsListed defects })) before 0 (3 * setsFor s (length defects / 12)))

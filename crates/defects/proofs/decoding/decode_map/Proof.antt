@@ -1,3 +1,4 @@
+use Rattle.defects.proofs.Promised.{map-decoded}
 use mathlib.Core.Path.{_≡_, refl, sym, ap, _∙_}
 use mathlib.Core.Bool.{not, true, false≢true}
 use native.Mathlib.Omega.{arith}
@@ -27,14 +28,14 @@ returns : tie.Need-returns
 unfolding firstOf pick
 returns c =
     let limited = sym (c .before .within-limits .ensures) ∙ not-true _ (c .if1 .taken) in
-    record { answer = rw limited; slice = rw limited }
+    map-decoded (rw limited) (rw limited)
 
 -- src/decoding.rt:39:9
 returns-2 : tie.Need-returns-2
 unfolding firstOf pick
 returns-2 c =
     let limited = small (c .before) in
-    record { answer = rw (limited, lt-ltb _ _ (c .if2 .taken)); slice = rw (limited, lt-ltb _ _ (c .if2 .taken)) }
+    map-decoded (rw (limited, lt-ltb _ _ (c .if2 .taken))) (rw (limited, lt-ltb _ _ (c .if2 .taken)))
 
 -- src/decoding.rt:45:48
 slice-aggregate-decode : tie.Need-slice-aggregate-decode
@@ -58,7 +59,7 @@ returns-3 c =
     let done = c .before .before in
     let passed = done .before .before .before in
     let limited = small (passed .before) in
-    record { answer = rw (limited, le-ltb _ _ (passed .if2 .left)) (done .decode .ensures .answer); slice = rw (limited, le-ltb _ _ (passed .if2 .left)) (done .decode .ensures .slice) }
+    map-decoded (rw (limited, le-ltb _ _ (passed .if2 .left)) (done .decode .ensures .answer)) (rw (limited, le-ltb _ _ (passed .if2 .left)) (done .decode .ensures .slice))
 
 pub decode-map-spec : {M : Type 1} → statement M
 decode-map-spec =

@@ -1,3 +1,4 @@
+use Rattle.defects.proofs.Promised.{map-read}
 use Prim.Native.Nat.{ℕ, _*_, _/_, _≤_}
 use mathlib.Core.Path.{_≡_, refl, sym, ap, _∙_}
 use mathlib.Core.Bool.{not, true, false, _||_}
@@ -37,7 +38,7 @@ returns : tie.Need-returns
 unfolding firstOf pick
 returns c =
     let limited = sym (c .before .within-limits .ensures) ∙ not-true _ (c .if1 .taken) in
-    record { answer = rw limited; slice = rw limited }
+    map-read (rw limited) (rw limited)
 
 -- src/decoding.rt:62:16
 data-fields-requires : tie.Need-data-fields-requires
@@ -79,7 +80,7 @@ returns-2 c =
     let told = c .before in
     let limited = small (told .before .before .before .before) in
     let short = sym (room-told told) ∙ c .if2 .taken in
-    record { answer = rw (limited, short); slice = rw (limited, short) }
+    map-read (rw (limited, short)) (rw (limited, short))
 
 -- src/decoding.rt:70:31
 slice-aggregate-decode : tie.Need-slice-aggregate-decode
@@ -114,7 +115,7 @@ returns-3 c =
     let done = c .before .before in
     let passed = done .before .before .before in
     let limited = small (passed .before .before .before .before .before) in
-    record { answer = rw (limited, long-enough passed) (done .decode .ensures .answer); slice = rw (limited, long-enough passed) (done .decode .ensures .slice) }
+    map-read (rw (limited, long-enough passed) (done .decode .ensures .answer)) (rw (limited, long-enough passed) (done .decode .ensures .slice))
 
 pub read-map-spec : {M : Type 1} → statement M
 read-map-spec =

@@ -1,3 +1,4 @@
+use Rattle.defects.proofs.Promised.{map-wrote}
 -- `defects::encoding::write_map` meets its contract: at each `return` the tests that led there say which row holds first, or that none does.
 -- Assumes nothing.
 use mathlib.Core.Path.{_≡_, refl, sym, _∙_}
@@ -23,7 +24,7 @@ within c = sym (c .before .within-limits .ensures) ∙ not-false _ (c .if1 .left
 
 returns : tie.Need-returns
 unfolding pick
-returns c = let outside = sym (c .before .within-limits .ensures) ∙ not-true _ (c .if1 .taken) in record { answer = rw outside; sectors = rw outside }
+returns c = let outside = sym (c .before .within-limits .ensures) ∙ not-true _ (c .if1 .taken) in map-wrote (rw outside) (rw outside)
 
 sector-words-requires : tie.Need-sector-words-requires
 sector-words-requires c κs = search needs
@@ -42,7 +43,7 @@ returns-2 c =
     let lacks = c .before in
     let small = within (lacks .before .before) in
     let short = sym (told lacks) ∙ c .if2 .taken in
-    record { answer = rw (small, short); sectors = rw (small, short) }
+    map-wrote (rw (small, short)) (rw (small, short))
 
 sets-for-requires : tie.Need-sets-for-requires
 sets-for-requires c κs = search needs
@@ -61,7 +62,7 @@ returns-3 c =
     let room = c .before .before .before in
     let small = within (room .before .before .before) in
     let wrong = rw (c .before .is-encodable .ensures) at (c .if3 .taken) in
-    record { answer = rw (small, has-room room, wrong); sectors = rw (small, has-room room, wrong) }
+    map-wrote (rw (small, has-room room, wrong)) (rw (small, has-room room, wrong))
 
 ready : (c : tie.Else3)
     → let sets = c .before .before in
@@ -95,7 +96,7 @@ returns-4 c =
     let room = fit .before .before .before in
     let small = within (room .before .before .before) in
     let right = rw (fit .before .is-encodable .ensures) at (fit .if3 .left) in
-    record { answer = rw (small, has-room room, right); sectors = rw (small, has-room room, right, ← (fit .before .before .sets-for .ensures)) (put .put-sets .ensures .words refl) }
+    map-wrote (rw (small, has-room room, right)) (rw (small, has-room room, right, ← (fit .before .before .sets-for .ensures)) (put .put-sets .ensures .words refl))
 
 pub write-map-spec : {M : Type 1} → statement M
 write-map-spec =
