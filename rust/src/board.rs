@@ -130,15 +130,7 @@ impl<'a> Board<'a> {
     /// The drive's measures.
     pub fn setup(&self) -> Setup {
         let [cylinders, heads, sectors, header, field1, field2, address, ..] = self.state;
-        Setup {
-            cylinders,
-            heads,
-            sectors,
-            header,
-            field1,
-            field2,
-            address,
-        }
+        Setup::from_numbers([cylinders, heads, sectors, header, field1, field2, address])
     }
 
     /// The lent sector words.

@@ -1,5 +1,10 @@
 //! The archive's calls on slices. `include/pantoglide.h` says what each returns and changes.
 
+mod defects;
+
+pub use defects::{decode_defect, encode_defect, map_place, Numbers, DEFECT_OCTETS};
+pub use defects::{decode_map, encode_map, read_map, write_map};
+
 /// Words of a state.
 pub const STATE_WORDS: usize = 21;
 /// Words of an answer.

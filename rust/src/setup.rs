@@ -1,5 +1,10 @@
 //! The drive's measures.
 
+use crate::raw::Numbers;
+
+/// Words of the shortest field 1 that holds a data field of the defect map.
+const LEAST_MAP_WORDS: u16 = 8;
+
 /// The drive's measures, each within the limits named beside it.
 #[derive(Clone, Copy, Debug, PartialEq, Eq)]
 pub struct Setup {
@@ -20,6 +25,33 @@ pub struct Setup {
 }
 
 impl Setup {
+    /// The measures in the order in which they stand above.
+    pub fn from_numbers(numbers: Numbers) -> Setup {
+        let [cylinders, heads, sectors, header, field1, field2, address] = numbers;
+        Setup {
+            cylinders,
+            heads,
+            sectors,
+            header,
+            field1,
+            field2,
+            address,
+        }
+    }
+
+    /// The measures in the order in which they stand above.
+    pub fn numbers(&self) -> Numbers {
+        [
+            self.cylinders,
+            self.heads,
+            self.sectors,
+            self.header,
+            self.field1,
+            self.field2,
+            self.address,
+        ]
+    }
+
     /// How many words one sector has: so many staging words the drive needs.
     pub fn sector_words(&self) -> usize {
         usize::from(self.header) + usize::from(self.field1) + usize::from(self.field2)
@@ -33,5 +65,13 @@ impl Setup {
             .map(usize::from)
             .fold(usize::from(self.cylinders), usize::saturating_mul)
             .saturating_mul(self.sector_words())
+    }
+    /// How many octets a defect map has at the most: those of field 1 in all sectors of the last
+    /// cylinder, or none where field 1 is too short for any map. A third of them holds its defects.
+    pub fn map_octets(&self) -> usize {
+        if self.field1 < LEAST_MAP_WORDS {
+            return 0;
+        }
+        2 * usize::from(self.heads) * usize::from(self.sectors) * usize::from(self.field1)
     }
 }

@@ -4,6 +4,7 @@ pub mod Division
 pub mod CrcLaws
 pub mod DefectOctets
 pub mod DefectRoundTrip
+pub mod Sequence
 pub mod Fields
 pub mod Places
 pub mod SectorFields
@@ -63,3 +64,4 @@ pub mod LeastFirst
 pub mod Copies
 pub mod WrongAnswers
 pub mod Cases
+pub mod MapOnly

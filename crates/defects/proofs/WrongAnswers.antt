@@ -4,10 +4,18 @@ use Prim.Native.Nat.{ℕ}
 use mathlib.Core.Path.{refl, ap}
 use Rattle.laws.specs.Pick.{pick}
 use Rattle.laws.proofs.Differ.{differ, differ-at, never}
-use Rattle.parts.specs.Setup.{withinLimits}
-use Rattle.defects.specs.Defect.{numberAt, defectOctets}
+use Rattle.parts.specs.Setup.{withinLimits, allWords, sectorNumber, sectorStart}
+use Rattle.defects.specs.Offence.{firstOf, testsOver}
+use Rattle.defects.specs.Crc.{crcOf, remainderAfter}
+use Rattle.defects.specs.Defect.{numberAt, defectOctets, isBlank, address}
+use Rattle.defects.specs.Field.{frontOf, defectsFrom}
+use Rattle.defects.specs.Judging.{hasWrongFlags, openingTests, laterTests, frontTests, entryTests, listTests}
 use Rattle.defects.specs.Place.{dataFields, placeOf}
+use Rattle.defects.specs.Walk.{after, fieldAt, walkAt, defectsBefore, testsAt, testsFrom}
+use Rattle.defects.specs.Encoding.{listFrom, setsFor, isUnordered, frontOctets, bodyOctets, dataField, setsFrom, mapOctets, isListable, areListable, fits, isEncodable}
+use Rattle.defects.specs.Sectors.{fieldStart, sectorField, sectorFields, storedFields}
 use Rattle.defects.specs.WrongAnswers.{WrongAnswers}
+use Rattle.defects.specs.declared.decoding.MapRead.{MapRead}
 use Rattle.defects.specs.declared.defect.DefectRead.{DefectRead}
 use Rattle.defects.specs.declared.place.MapPlace.{MapPlace}
 
@@ -19,8 +27,17 @@ abbrev headIn : MapPlace → ℕ
 headIn (MapPlace.At place) = place .head
 headIn (MapPlace.Refused n) = 0
 
+-- What an answer tells: how many defects, or where the offence lies.
+abbrev countIn : MapRead → ℕ
+countIn (MapRead.Map count cylinder head) = count
+countIn (MapRead.Refused n offset) = 99
+
+abbrev offsetIn : MapRead → ℕ
+offsetIn (MapRead.Map count cylinder head) = 99
+offsetIn (MapRead.Refused n offset) = offset
+
 pub wrong-answers : WrongAnswers
-unfolding pick withinLimits numberAt defectOctets dataFields placeOf
+unfolding pick withinLimits allWords sectorNumber sectorStart firstOf testsOver crcOf remainderAfter numberAt defectOctets isBlank address frontOf defectsFrom hasWrongFlags openingTests laterTests frontTests entryTests listTests dataFields placeOf after fieldAt walkAt defectsBefore testsAt testsFrom listFrom setsFor isUnordered frontOctets bodyOctets dataField setsFrom mapOctets isListable areListable fits isEncodable fieldStart sectorField sectorFields storedFields
 wrong-answers =
     record {
       cylinder-low-first = λ h. differ refl (ap cylinderIn (h .answer));
@@ -29,4 +46,16 @@ wrong-answers =
       octet-behind-cleared = λ h. differ-at 12 refl (h .slice);
       first-track-taken = λ h. differ refl (ap headIn (h .answer));
       cylinder-below-taken = λ h. never (cc);
+      order-broken-taken = λ after h. differ refl (ap countIn (h .answer));
+      crc-of-one-less-taken = λ after h. differ refl (ap countIn (h .answer));
+      cylinder-behind-the-last-taken = λ after h. differ refl (ap countIn (h .answer));
+      offset-within-the-data-field = λ after h. differ refl (ap offsetIn (h .answer));
+      listed-before-refused = λ h. differ-at 0 refl (h .slice);
+      listed-three-times = λ after h. differ refl (ap countIn (h .answer));
+      bit-forgotten = λ h. differ-at 86 refl (h .slice);
+      two-copies-fit = λ after h. never (cc);
+      first-track-read = λ after h. differ refl (ap countIn (h .answer));
+      rest-of-the-cylinder-judged = λ after h. differ refl (ap offsetIn (h .answer));
+      first-track-written = λ h. differ-at 82 refl (h .sectors);
+      header-written-over = λ h. differ-at 81 refl (h .sectors);
     }

@@ -4,6 +4,7 @@ pub mod CrcTable
 pub mod CrcLaws
 pub mod Defect
 pub mod DefectRoundTrip
+pub mod Sequence
 pub mod Field
 pub mod Judging
 pub mod Place
