@@ -2,7 +2,8 @@
 //!
 //! [`Board`] is a drive over sector and staging words that the caller lends, [`Capture`] a file of
 //! events, and [`Follower`] watches the control lines of one port. [`Board::event`] takes what hosts
-//! do one by one; calls such as [`Board::reserve`] stand for a whole command. All hand every request
+//! do one by one; calls such as [`Board::reserve`] stand for a whole command. [`Setup::decode_map`]
+//! reads the maker's defect map, and [`Setup::encode_map`] makes one. All hand every request
 //! to the archive of proved code that the project's `rt staticlib pantoglide` makes; [`raw`] has its calls
 //! as they are, on slices. Nothing in this interface is unsafe, and no input makes a call panic.
 //!
@@ -38,8 +39,10 @@ mod board;
 mod capture;
 pub mod command;
 pub mod control;
+mod defect;
 mod event;
 mod follower;
+mod map;
 pub mod raw;
 mod refusal;
 pub mod response;
@@ -50,8 +53,10 @@ mod whole_commands;
 pub use answer::{Answer, Outcome, Place, Status};
 pub use board::{Board, Hold, Transfer};
 pub use capture::{make_capture, Capture};
+pub use defect::Defect;
 pub use event::Event;
 pub use follower::{Follower, Move};
+pub use map::{Map, MapRefusal, Track};
 pub use refusal::Refusal;
 pub use setup::Setup;
 pub use whole_commands::NotDone;

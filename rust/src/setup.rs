@@ -25,7 +25,7 @@ pub struct Setup {
 }
 
 impl Setup {
-    /// The measures in the order in which they stand above.
+    /// The measures from their numbers, in the order of the fields.
     pub fn from_numbers(numbers: Numbers) -> Setup {
         let [cylinders, heads, sectors, header, field1, field2, address] = numbers;
         Setup {
@@ -39,7 +39,7 @@ impl Setup {
         }
     }
 
-    /// The measures in the order in which they stand above.
+    /// The numbers of the measures, in the order of the fields.
     pub fn numbers(&self) -> Numbers {
         [
             self.cylinders,
@@ -60,18 +60,21 @@ impl Setup {
     /// How many words all sectors have: so many sector words the drive needs. Measures outside
     /// their limits may have more than a `usize` counts, and then it is the greatest one.
     pub fn drive_words(&self) -> usize {
-        [self.heads, self.sectors]
-            .into_iter()
-            .map(usize::from)
-            .fold(usize::from(self.cylinders), usize::saturating_mul)
-            .saturating_mul(self.sector_words())
+        product([self.cylinders, self.heads, self.sectors]).saturating_mul(self.sector_words())
     }
+
     /// How many octets a defect map has at the most: those of field 1 in all sectors of the last
     /// cylinder, or none where field 1 is too short for any map. A third of them holds its defects.
     pub fn map_octets(&self) -> usize {
         if self.field1 < LEAST_MAP_WORDS {
             return 0;
         }
-        2 * usize::from(self.heads) * usize::from(self.sectors) * usize::from(self.field1)
+        product([self.heads, self.sectors, self.field1]).saturating_mul(2)
     }
+}
+
+/// The product, or the greatest `usize` if that does not count it.
+fn product(numbers: [u16; 3]) -> usize {
+    let numbers = numbers.into_iter().map(usize::from);
+    numbers.fold(1, usize::saturating_mul)
 }
