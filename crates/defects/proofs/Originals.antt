@@ -1,9 +1,9 @@
 -- Copy 0 judged part by part: the first part with an offence has that of the whole data field.
 -- Assumes nothing.
-use Prim.Native.Nat.{ℕ, _+_, _*_, _≤_}
+use Prim.Native.Nat.{ℕ, zero, suc, _+_, _*_, _≤_}
 use mathlib.Core.Path.{_≡_, sym, ap, _∙_}
-use mathlib.Core.Bool.{true, false}
-use mathlib.Core.List.{List, _++_}
+use mathlib.Core.Bool.{Bool, true, false}
+use mathlib.Core.List.{List, [], _∷_, _++_}
 use native.Mathlib.Omega.{arith}
 use lib.ListN.{length}
 use Rattle.laws.specs.Pick.{pick}
@@ -20,11 +20,11 @@ use Rattle.defects.proofs.Offences.{stops, goes-on}
 -- no more entries than slots
 pub entries-within : (field : List ℕ) (index left : ℕ) → length (defectsFrom field index left) ≤ left
 unfolding defectsFrom pick
-entries-within field index Prim.Native.Nat.ℕ.zero = omega arith
-entries-within field index (Prim.Native.Nat.ℕ.suc left) = by-test (isBlank (defectAt index field)) (entries-within field (index + 12) left)
+entries-within field index zero = omega arith
+entries-within field index (suc left) = by-test (isBlank (defectAt index field)) (entries-within field (index + 12) left)
   where
-    by-test : (test : mathlib.Core.Bool.Bool) → length (defectsFrom field (index + 12) left) ≤ left
-        → length (pick test mathlib.Core.List.[] (mathlib.Core.List._∷_ (defectAt index field) (defectsFrom field (index + 12) left))) ≤ Prim.Native.Nat.ℕ.suc left
+    by-test : (test : Bool) → length (defectsFrom field (index + 12) left) ≤ left
+        → length (pick test [] (defectAt index field ∷ defectsFrom field (index + 12) left)) ≤ suc left
     by-test true h = omega arith
     by-test false h = omega arith
 

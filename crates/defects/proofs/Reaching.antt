@@ -1,6 +1,6 @@
 -- The walk of the decoder: where it stands, what is left to test has the first offence of all, and behind the map's end nothing changes.
 -- Assumes nothing.
-use Prim.Native.Nat.{ℕ, zero, suc, _+_, _-_, _*_, _<_, _≤_}
+use Prim.Native.Nat.{ℕ, zero, suc, _+_, _-_, _*_, _<_, _≤_, max}
 use mathlib.Core.Path.{_≡_, refl, sym, ap, _∙_}
 use mathlib.Core.Bool.{Bool, true, false, not, _&&_}
 use mathlib.Core.List.{List, [], _∷_, _++_, append-nil}
@@ -14,7 +14,7 @@ use lib.ListN.{length}
 use Rattle.laws.specs.Pick.{pick}
 use Rattle.parts.specs.declared.setup.Setup.{Setup}
 use Rattle.defects.specs.Offence.{Test, _at_when_, noOffence, offenceAt, firstOf}
-use Rattle.defects.specs.Defect.{behindAll}
+use Rattle.defects.specs.Defect.{address, behindAll}
 use Rattle.defects.specs.Field.{isIgnored, defectsIn}
 use Rattle.defects.specs.Place.{fieldOctets, dataFields}
 use Rattle.defects.specs.Walk.{outset, isEnded, after, fieldAt, walkAt, isOriginal, defectsBefore, testsAt, testsFrom, mapTests}
@@ -30,7 +30,7 @@ use Rattle.defects.proofs.Accepted.{testsOf}
 -- the least address behind two lists, one behind the other
 behind-append : (least : ℕ) (a b : List Defect) → behindAll least (a ++ b) ≡ behindAll (behindAll least a) b
 behind-append least [] b = refl
-behind-append least (d ∷ a) b = behind-append (Prim.Native.Nat.max least (Rattle.defects.specs.Defect.address d + 1)) a b
+behind-append least (d ∷ a) b = behind-append (max least (address d + 1)) a b
 
 module _ (alone : Bool) (s : Setup) (octets : List ℕ) where
   -- no more sets than data fields, and copy 0 is one of those before

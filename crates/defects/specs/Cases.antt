@@ -190,7 +190,7 @@ pub record Cases : Type 0 where
   pub bit-of-the-crc : decoded narrow bitOfTheCrc ≡ Refused 26 14
   pub third-copy-differs : decoded narrow thirdCopyDiffers ≡ Refused 27 45
   pub fourth-data-field : decoded narrow fourthDataField ≡ Refused 28 48
-  -- "a data field cut short is never half judged": the first octets of one are 17 where it begins.
+  -- A data field cut short is not judged: the first octets of one are 17 where it begins.
   pub cut-short : decoded narrow (octetsOf 7 0x000e8000000100) ≡ Refused 17 0
   -- No data field has room for a map on a drive whose field 1 has two words.
   pub no-room : decoded (drive 2 2 3 2) noDefects ≡ Refused 16 0

@@ -1,4 +1,4 @@
--- "CRC-16 (X^16 + X^15 + X^2 + 1)": the octets as one long number, its bits the coefficients of a polynomial, divided by that one.
+-- The CRC-16 of the paper, X^16 + X^15 + X^2 + 1: the octets as one long number, its bits the coefficients of a polynomial, divided by that one.
 use Prim.Native.Nat.{ℕ, zero, suc, _+_, _-_, _*_, _/_, _%_, _^_}
 use mathlib.Core.List.{List, [], _∷_, _++_}
 use lib.Dec.{leb}

@@ -2,7 +2,7 @@
 -- sequence.
 use Prim.Native.Nat.{ℕ, zero, suc, _+_, _-_, _*_, _/_, _%_, max}
 use mathlib.Core.Path.{_≡_}
-use mathlib.Core.Bool.{Bool, false, not, _&&_, _||_}
+use mathlib.Core.Bool.{Bool, true, false, not, _&&_, _||_}
 use mathlib.Core.List.{List, [], _∷_, _++_}
 use lib.Dec.{eqb, ltb, leb}
 use lib.ListN.{length, take, drop, replicate}
@@ -98,7 +98,7 @@ unfoldable pub isListable : Setup → Defect → Bool
 isListable s d = ltb (d .cylinder) (s .cylinders) && ltb (d .head) (s .heads) && not (isBlank d)
 
 unfoldable pub areListable : Setup → List Defect → Bool
-areListable s [] = mathlib.Core.Bool.true
+areListable s [] = true
 areListable s (d ∷ defects) = isListable s d && areListable s defects
 
 -- The last cylinder has data fields for the map; where they have no room for entries there are no defects.

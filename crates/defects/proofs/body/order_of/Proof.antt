@@ -1,6 +1,6 @@
 -- `defects::body::order_of` meets its contract: what is known of the defects passed, and those left, tell what all of them do.
 -- Assumes nothing.
-use Prim.Native.Nat.{ℕ, _+_, _*_, _<_, _≤_, max}
+use Prim.Native.Nat.{ℕ, _+_, _*_, _≤_, max}
 use mathlib.Core.Path.{_≡_, refl, sym, ap, _∙_}
 use mathlib.Core.Bool.{Bool, true, false, _||_}
 use mathlib.Core.List.{List, [], _∷_}

@@ -1,6 +1,7 @@
+-- `defects::decoding::decode` meets its contract: the judging comes first, and only a map without offence is listed.
+-- Assumes nothing.
 use Prim.Native.Nat.{_<_, _^_}
-use Rattle.defects.specs.declared.walk.Walk.{Walk}
-use mathlib.Core.Path.{_≡_, refl, sym, ap, _∙_}
+use mathlib.Core.Path.{sym, ap, _∙_}
 use mathlib.Core.Bool.{not}
 use native.Mathlib.Omega.{arith}
 use Rattle.parts.proofs.Bounds.{limits}
@@ -12,32 +13,22 @@ use Rattle.defects.proofs.Thirds.{third-enough}
 use borrow.Author.Needs.{needs}
 use Rattle.defects.proofs.decoding.decode.Statement.{statement}
 use Rattle.defects.proofs.decoding.decode.Tie as tie
-use Rattle.defects.proofs.decoding.decode.Reads as reads
-use Rattle.defects.proofs.decoding.decode.Lts as lts
-use Rattle.defects.proofs.gathering.gather.Reads as gather-reads
-use Rattle.defects.proofs.walking.judge.Reads as judge-reads
 
--- src/decoding.rt:68:9
 slice-aggregate-judge : tie.Need-slice-aggregate-judge
 slice-aggregate-judge c = search needs
 
--- src/decoding.rt:69:9
 slice-aggregate-judge-2 : tie.Need-slice-aggregate-judge-2
 slice-aggregate-judge-2 c = search needs
 
--- src/decoding.rt:62:9
 judge-requires : tie.Need-judge-requires
 judge-requires c κs = search needs
 
--- src/decoding.rt:73:9
 returns : tie.Need-returns
 returns c = refused-map _ _ _ _ _ (c .before .before .before .before .judge .ensures .offence) (c .if1 .taken)
 
--- src/decoding.rt:85:9
 slice-aggregate-gather : tie.Need-slice-aggregate-gather
 slice-aggregate-gather c = search needs
 
--- src/decoding.rt:79:9
 gather-requires : tie.Need-gather-requires
 gather-requires c κs =
     let passed = c .before .before .before in
@@ -59,15 +50,12 @@ small-cylinder c =
     let few = limits (a .setup) (start .pre .0 .limits) in
     rw (judged .judge .ensures .ends (c .if1 .left) .walk) (omega (arith, inside .0))
 
--- src/decoding.rt:90:27
 cast-t22 : tie.Need-cast-t22
 cast-t22 c = record { fits = small-cylinder (c .before .before .before .before .before .before .before .before) }
 
--- src/decoding.rt:49:1
 same-length : tie.Need-same-length
 same-length c = search needs
 
--- src/decoding.rt:49:1
 returns-2 : tie.Need-returns-2
 returns-2 c =
     let gathered = c .before .before .before .before in

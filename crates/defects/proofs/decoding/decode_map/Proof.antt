@@ -1,21 +1,16 @@
+-- `defects::decoding::decode_map` meets its contract: what the walk found is the answer, on either side of the refusals.
+-- Assumes nothing.
 use Rattle.defects.proofs.Promised.{map-decoded}
-use mathlib.Core.Path.{_≡_, refl, sym, ap, _∙_}
-use mathlib.Core.Bool.{not, true, false≢true}
-use native.Mathlib.Omega.{arith}
+use mathlib.Core.Path.{_≡_, refl, sym, _∙_}
+use mathlib.Core.Bool.{true, false≢true}
 use borrow.Author.Tests.{lt-ltb, le-ltb, not-true, not-false}
-use Rattle.laws.proofs.Pick.{told}
 use Rattle.laws.specs.Pick.{pick}
 use Rattle.defects.specs.Offence.{firstOf}
 use Rattle.parts.specs.Setup.{withinLimits}
 use borrow.Author.Needs.{needs}
 use Rattle.defects.proofs.decoding.decode_map.Statement.{statement}
 use Rattle.defects.proofs.decoding.decode_map.Tie as tie
-use Rattle.defects.proofs.decoding.decode_map.Reads as reads
-use Rattle.defects.proofs.decoding.decode_map.Lts as lts
-use Rattle.defects.proofs.decoding.decode.Reads as decode-reads
-use Rattle.parts.proofs.setup.Setup.within_limits.Reads as within-limits-reads
 
--- src/decoding.rt:32:9
 within-limits-requires : tie.Need-within-limits-requires
 within-limits-requires c κs = search needs
 
@@ -23,36 +18,30 @@ within-limits-requires c κs = search needs
 small : (c : tie.Else1) → withinLimits (c .before .before .before .before .args .setup) ≡ true
 small c = sym (c .before .within-limits .ensures) ∙ not-false _ (c .if1 .left)
 
--- src/decoding.rt:33:9
 returns : tie.Need-returns
 unfolding firstOf pick
 returns c =
     let limited = sym (c .before .within-limits .ensures) ∙ not-true _ (c .if1 .taken) in
     map-decoded (rw limited) (rw limited)
 
--- src/decoding.rt:39:9
 returns-2 : tie.Need-returns-2
 unfolding firstOf pick
 returns-2 c =
     let limited = small (c .before) in
     map-decoded (rw (limited, lt-ltb _ _ (c .if2 .taken))) (rw (limited, lt-ltb _ _ (c .if2 .taken)))
 
--- src/decoding.rt:45:48
 slice-aggregate-decode : tie.Need-slice-aggregate-decode
 slice-aggregate-decode c = search needs
 
--- src/decoding.rt:45:5
 decode-requires : tie.Need-decode-requires
 unfolding pick
 decode-requires c κs =
     let passed = c .before .before in
     (record { limits = small (passed .before); room = λ e. absurd (false≢true e); sized = refl }, passed .if2 .left)
 
--- src/decoding.rt:29:1
 same-length : tie.Need-same-length
 same-length c = search needs
 
--- src/decoding.rt:29:1
 returns-3 : tie.Need-returns-3
 unfolding firstOf pick
 returns-3 c =

@@ -1,6 +1,6 @@
-use Rattle.defects.proofs.Promised.{map-wrote}
 -- `defects::encoding::write_map` meets its contract: at each `return` the tests that led there say which row holds first, or that none does.
 -- Assumes nothing.
+use Rattle.defects.proofs.Promised.{map-wrote}
 use mathlib.Core.Path.{_≡_, refl, sym, _∙_}
 use mathlib.Core.Bool.{true, false}
 use native.Mathlib.Omega.{arith}

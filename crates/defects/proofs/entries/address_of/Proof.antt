@@ -1,40 +1,32 @@
+-- `defects::entries::address_of` meets its contract: the three numbers side by side fit.
+-- Assumes nothing.
 use Rattle.defects.specs.Defect.{address}
 use native.Mathlib.Omega.{arith}
 use borrow.Author.Needs.{needs}
 use Rattle.defects.proofs.entries.address_of.Statement.{statement}
 use Rattle.defects.proofs.entries.address_of.Tie as tie
-use Rattle.defects.proofs.entries.address_of.Reads as reads
-use Rattle.defects.proofs.entries.address_of.Lts as lts
 
--- src/entries.rt:114:6
 cast-result : tie.Need-cast-result
 cast-result c = search needs
 
--- src/entries.rt:114:6
 mul-result : tie.Need-mul-result
 mul-result c = search needs
 
--- src/entries.rt:114:37
 cast-result-2 : tie.Need-cast-result-2
 cast-result-2 c = search needs
 
--- src/entries.rt:114:6
 add-result : tie.Need-add-result
 add-result c = search needs
 
--- src/entries.rt:114:5
 mul-result-2 : tie.Need-mul-result-2
 mul-result-2 c = search needs
 
--- src/entries.rt:114:70
 cast-result-3 : tie.Need-cast-result-3
 cast-result-3 c = search needs
 
--- src/entries.rt:114:5
 add-result-2 : tie.Need-add-result-2
 add-result-2 c = search needs
 
--- src/entries.rt:110:1
 returns : tie.Need-returns
 unfolding address
 returns c = omega arith

@@ -1,3 +1,5 @@
+-- `defects::entries::entries_offence` meets its contract: the invariant is that the entries judged so far show nothing, so what is left to judge is all that counts.
+-- Assumes nothing.
 use Prim.Native.Nat.{_<_}
 use mathlib.Core.Path.{_≡_, ap}
 use lib.ListN.{length}
@@ -7,17 +9,9 @@ use Prim.Native.Nat.{_-_}
 use native.Mathlib.Omega.{arith}
 use borrow.Author.Needs.{needs}
 use mathlib.Core.Path.{refl, sym, _∙_}
-use Rattle.laws.proofs.Pick.{told}
 use Rattle.defects.proofs.EntriesLeft.{Left, left-start, left-none, left-stop, left-next, blank-left, none-left}
 use Rattle.defects.proofs.entries.entries_offence.Statement.{statement}
 use Rattle.defects.proofs.entries.entries_offence.Tie as tie
-use Rattle.defects.proofs.entries.entries_offence.Reads as reads
-use Rattle.defects.proofs.entries.entries_offence.Lts as lts
-use Rattle.defects.proofs.defect.defect_at.Reads as defect-at-reads
-use Rattle.defects.proofs.defect.is_blank.Reads as is-blank-reads
-use Rattle.defects.proofs.entries.judge_entry.Reads as judge-entry-reads
-use Rattle.defects.proofs.entries.none_after.Reads as none-after-reads
-use Rattle.defects.proofs.entries.slots_of.Reads as slots-of-reads
 
 abbrev Inv-loop : tie.InvT-loop
 Inv-loop setup flagged least start field slots i₀ at₀ above₀ i at above = Left setup flagged least start field i at above
@@ -25,23 +19,18 @@ Inv-loop setup flagged least start field slots i₀ at₀ above₀ i at above = 
 abbrev μ-loop : tie.MeasureT-loop
 μ-loop setup flagged least start field slots i₀ at₀ above₀ i at above = slots - i
 
--- src/entries.rt:38:9
 slots-of-requires : tie.Need-slots-of-requires Inv-loop μ-loop
 slots-of-requires c κs = search needs
 
--- src/entries.rt:42:5
 loop-holds : tie.Need-loop-holds Inv-loop μ-loop
 loop-holds c = left-start _ _ _ _ _
 
--- src/entries.rt:43:13
 defect-at-requires : tie.Need-defect-at-requires Inv-loop μ-loop
 defect-at-requires c κs = search needs
 
--- src/entries.rt:44:12
 is-blank-requires : tie.Need-is-blank-requires Inv-loop μ-loop
 is-blank-requires c κs = search needs
 
--- src/entries.rt:45:13
 none-after-requires : tie.Need-none-after-requires Inv-loop μ-loop
 none-after-requires c κs = search needs
 
@@ -54,22 +43,18 @@ blank-told : (c : tie.After-is-blank Inv-loop μ-loop)
     isBlank (defectAt (loop .loop .at) (loop .before .before .before .args .field .now)) ≡ c .is-blank .result
 blank-told c = sym (c .is-blank .ensures ∙ ap isBlank (c .before .defect-at .ensures))
 
--- src/entries.rt:45:13
 returns : tie.Need-returns Inv-loop μ-loop
 returns c =
     let blank = c .before .before in
     let turn = blank .before .before in
     left-none _ _ _ _ _ _ _ _ _ (turn .before .loop .inv) (blank-left _ _ _ (in-slot turn) (blank-told blank ∙ c .before .if1 .taken)) (c .none-after .ensures)
 
--- src/entries.rt:47:56
 add-judge-entry : tie.Need-add-judge-entry Inv-loop μ-loop
 add-judge-entry c = search needs
 
--- src/entries.rt:47:13
 judge-entry-requires : tie.Need-judge-entry-requires Inv-loop μ-loop
 judge-entry-requires c κs = search needs
 
--- src/entries.rt:50:13
 returns-2 : tie.Need-returns-2 Inv-loop μ-loop
 returns-2 c =
     let entry = c .before .before in
@@ -78,19 +63,15 @@ returns-2 c =
     left-stop _ _ _ _ _ _ _ _ _ _ (turn .before .loop .inv) (in-slot turn) (blank-told blank ∙ entry .before .if1 .left)
     (entry .judge-entry .ensures .offence ∙ rw (blank .before .defect-at .ensures)) (c .if2 .taken) refl
 
--- src/entries.rt:57:9
 add-at : tie.Need-add-at Inv-loop μ-loop
 add-at c = search needs
 
--- src/entries.rt:58:9
 add-i : tie.Need-add-i Inv-loop μ-loop
 add-i c = search needs
 
--- src/entries.rt:42:5
 loop-less : tie.Need-loop-less Inv-loop μ-loop
 loop-less c = search needs
 
--- src/entries.rt:42:5
 loop-again : tie.Need-loop-again Inv-loop μ-loop
 loop-again c =
     let entry = c .before .before in
@@ -99,11 +80,9 @@ loop-again c =
     left-next _ _ _ _ _ _ _ _ _ _ (turn .before .loop .inv) (in-slot turn) (blank-told blank ∙ entry .before .if1 .left)
     (entry .judge-entry .ensures .offence ∙ rw (blank .before .defect-at .ensures)) (c .if2 .left) (entry .judge-entry .ensures .next (c .if2 .left) ∙ rw (blank .before .defect-at .ensures))
 
--- src/entries.rt:60:5
 none-after-requires-2 : tie.Need-none-after-requires-2 Inv-loop μ-loop
 none-after-requires-2 c κs = search needs
 
--- src/entries.rt:28:1
 returns-3 : tie.Need-returns-3 Inv-loop μ-loop
 returns-3 c =
     let loop : tie.At-loop Inv-loop μ-loop = search in

@@ -1,3 +1,5 @@
+-- `defects::entries::judge_entry` meets its contract: each way it goes is one row.
+-- Assumes nothing.
 use native.Mathlib.Omega.{arith}
 use mathlib.Core.Logic.{⊎-elim}
 use Rattle.parts.proofs.Bounds.{limits}
@@ -6,63 +8,46 @@ use Rattle.defects.proofs.Offences.{judged, found}
 use borrow.Author.Needs.{needs}
 use Rattle.defects.proofs.entries.judge_entry.Statement.{statement}
 use Rattle.defects.proofs.entries.judge_entry.Tie as tie
-use Rattle.defects.proofs.entries.judge_entry.Reads as reads
-use Rattle.defects.proofs.entries.judge_entry.Lts as lts
-use Rattle.defects.proofs.entries.address_of.Reads as address-of-reads
-use Rattle.defects.proofs.offence.no_offence.Reads as no-offence-reads
-use Rattle.defects.proofs.offence.offence_at.Reads as offence-at-reads
 
--- src/entries.rt:79:8
 cast-if1 : tie.Need-cast-if1
 cast-if1 c = search needs
 
--- src/entries.rt:81:22
 offence-at-requires : tie.Need-offence-at-requires
 offence-at-requires c κs = search needs
 
--- src/entries.rt:80:9
 returns : tie.Need-returns
 unfolding entryTests
 returns c = record { offence = search judged; next = found (c .offence-at .ensures) }
 
--- src/entries.rt:85:9
 address-of-requires : tie.Need-address-of-requires
 address-of-requires c κs =
     let start : tie.Start = search in
     let few = limits (start .args .setup) (start .pre .0) in
     omega arith
 
--- src/entries.rt:88:22
 offence-at-requires-2 : tie.Need-offence-at-requires-2
 offence-at-requires-2 c κs = search needs
 
--- src/entries.rt:87:9
 returns-2 : tie.Need-returns-2
 unfolding entryTests
 returns-2 c = record { offence = rw (← (c .before .before .address-of .ensures .0)) (search judged); next = found (c .offence-at2 .ensures) }
 
--- src/entries.rt:94:37
 add-offence-at : tie.Need-add-offence-at
 add-offence-at c = search needs
 
--- src/entries.rt:94:22
 offence-at-requires-3 : tie.Need-offence-at-requires-3
 offence-at-requires-3 c κs = search needs
 
--- src/entries.rt:93:9
 returns-3 : tie.Need-returns-3
 unfolding entryTests
 returns-3 c = record { offence = rw (← (c .before .before .before .before .before .address-of .ensures .0)) (search judged depth 9); next = found (c .offence-at3 .ensures) }
 
--- src/entries.rt:98:52
 add-next : tie.Need-add-next
 add-next c = search needs
 
--- src/entries.rt:100:18
 no-offence-requires : tie.Need-no-offence-requires
 no-offence-requires c κs = search needs
 
--- src/entries.rt:75:1
 returns-4 : tie.Need-returns-4
 unfolding entryTests
 returns-4 c =

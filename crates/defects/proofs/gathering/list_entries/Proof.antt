@@ -1,27 +1,19 @@
-use mathlib.Core.List.{_++_}
+-- `defects::gathering::list_entries` meets its contract: the defects listed so far, before those of the entries left, are all of them.
+-- Assumes nothing.
 use Rattle.laws.proofs.Runs.{rest-whole}
-use lib.ListN.{length-drop, drop, take}
-use Rattle.laws.proofs.Pick.{told}
-use mathlib.Core.Bool.{false}
-use Rattle.defects.specs.Field.{slots, defectsIn}
+use lib.ListN.{length-drop}
+use Rattle.defects.specs.Field.{slots}
 use Rattle.defects.specs.Defect.{defectAt, defectOctets, isBlank}
 use Rattle.defects.proofs.EntriesLeft.{blank-left, none-left}
 use Rattle.defects.proofs.Listing.{part-back}
-use Prim.Native.Nat.{ℕ, _+_, _-_, _*_, _≤_, _<_}
-use mathlib.Core.Path.{_≡_, refl, sym, ap, _∙_}
-use mathlib.Core.List.{List}
+use Prim.Native.Nat.{_+_, _-_, _*_, _≤_, _<_}
+use mathlib.Core.Path.{_≡_, sym, ap, _∙_}
 use native.Mathlib.Omega.{arith}
 use borrow.Author.Needs.{needs}
 use lib.ListN.{length}
 use Rattle.defects.proofs.Listing.{Listing, listing-start, listing-none, listing-next}
 use Rattle.defects.proofs.gathering.list_entries.Statement.{statement}
 use Rattle.defects.proofs.gathering.list_entries.Tie as tie
-use Rattle.defects.proofs.gathering.list_entries.Reads as reads
-use Rattle.defects.proofs.gathering.list_entries.Lts as lts
-use Rattle.defects.proofs.defect.defect_at.Reads as defect-at-reads
-use Rattle.defects.proofs.defect.is_blank.Reads as is-blank-reads
-use Rattle.defects.proofs.defect.write_defect.Reads as write-defect-reads
-use Rattle.defects.proofs.entries.slots_of.Reads as slots-of-reads
 
 abbrev Inv-loop : tie.InvT-loop
 Inv-loop field count defects₀ slots i₀ defects i = Listing field count defects₀ slots defects i
@@ -29,35 +21,27 @@ Inv-loop field count defects₀ slots i₀ defects i = Listing field count defec
 abbrev μ-loop : tie.MeasureT-loop
 μ-loop field count defects₀ slots i₀ defects i = slots - i
 
--- src/gathering.rt:58:9
 slots-of-requires : tie.Need-slots-of-requires Inv-loop μ-loop
 slots-of-requires c κs = search needs
 
--- src/gathering.rt:60:5
 loop-holds : tie.Need-loop-holds Inv-loop μ-loop
 loop-holds c = listing-start _ _ _ _ (c .slots-of .ensures)
 
--- src/gathering.rt:61:44
 mul-defect-at : tie.Need-mul-defect-at Inv-loop μ-loop
 mul-defect-at c = search needs
 
--- src/gathering.rt:61:34
 add-defect-at : tie.Need-add-defect-at Inv-loop μ-loop
 add-defect-at c = search needs
 
--- src/gathering.rt:61:13
 defect-at-requires : tie.Need-defect-at-requires Inv-loop μ-loop
 defect-at-requires c κs = search needs
 
--- src/gathering.rt:62:12
 is-blank-requires : tie.Need-is-blank-requires Inv-loop μ-loop
 is-blank-requires c κs = search needs
 
--- src/gathering.rt:63:20
 add-result : tie.Need-add-result Inv-loop μ-loop
 add-result c = search needs
 
--- src/gathering.rt:63:13
 same-length : tie.Need-same-length Inv-loop μ-loop
 same-length c = search needs
 
@@ -70,7 +54,6 @@ blank-told : (c : tie.After-is-blank Inv-loop μ-loop)
     isBlank (defectAt (14 + 12 * loop .loop .i) (loop .before .before .before .before .args .field .now)) ≡ c .is-blank .result
 blank-told c = sym (c .is-blank .ensures ∙ ap isBlank (c .before .defect-at .ensures))
 
--- src/gathering.rt:63:13
 returns : tie.Need-returns Inv-loop μ-loop
 returns c =
     let blank = c .before in
@@ -78,23 +61,18 @@ returns c =
     let loop = turn .before in
     listing-none _ _ _ _ _ _ (loop .loop .inv) (blank-left _ _ _ (in-slot turn) (blank-told blank ∙ c .if1 .taken))
 
--- src/gathering.rt:65:34
 add-at : tie.Need-add-at Inv-loop μ-loop
 add-at c = search needs
 
--- src/gathering.rt:65:18
 mul-at : tie.Need-mul-at Inv-loop μ-loop
 mul-at c = search needs
 
--- src/gathering.rt:66:25
 sub-write-defect : tie.Need-sub-write-defect Inv-loop μ-loop
 sub-write-defect c = search needs
 
--- src/gathering.rt:66:25
 part-write-defect-start : tie.Need-part-write-defect-start Inv-loop μ-loop
 part-write-defect-start c = search needs
 
--- src/gathering.rt:66:25
 part-write-defect-end : tie.Need-part-write-defect-end Inv-loop μ-loop
 part-write-defect-end c = search needs
 
@@ -110,22 +88,18 @@ has-room c =
     let next = listing-next _ _ _ _ _ _ (loop .loop .inv) (in-slot turn) (blank-told blank ∙ c .if1 .left) (start .pre .1) in
     omega (arith, next .many, loop .loop .inv .kept, start .pre .1)
 
--- src/gathering.rt:66:9
 write-defect-requires : tie.Need-write-defect-requires Inv-loop μ-loop
 write-defect-requires c κs =
     let loop = c .before .before .before .before .before in
     let at = 12 * (loop .before .before .before .before .args .count + loop .loop .i) in
     rw (rest-whole (loop .loop .defects) at) (simp length-drop (omega (arith, has-room (c .before))))
 
--- src/gathering.rt:67:9
 add-i : tie.Need-add-i Inv-loop μ-loop
 add-i c = search needs
 
--- src/gathering.rt:60:5
 loop-less : tie.Need-loop-less Inv-loop μ-loop
 loop-less c = search needs
 
--- src/gathering.rt:60:5
 loop-again : tie.Need-loop-again Inv-loop μ-loop
 loop-again c =
     let wrote = c .before .before in
@@ -138,15 +112,12 @@ loop-again c =
     let written = part-back (loop .loop .defects) at (wrote .write-defect .last .1 .0) (defectOctets (defectAt (14 + 12 * loop .loop .i) (start .args .field .now))) (wrote .write-defect .ensures ∙ rw (blank .before .defect-at .ensures)) in
     rw written (listing-next _ _ _ _ _ _ (loop .loop .inv) (in-slot turn) (blank-told blank ∙ passed .if1 .left) (start .pre .1))
 
--- src/gathering.rt:69:5
 add-result-2 : tie.Need-add-result-2 Inv-loop μ-loop
 add-result-2 c = search needs
 
--- src/gathering.rt:54:1
 same-length-2 : tie.Need-same-length-2 Inv-loop μ-loop
 same-length-2 c = search needs
 
--- src/gathering.rt:54:1
 returns-2 : tie.Need-returns-2 Inv-loop μ-loop
 returns-2 c =
     let loop = c .before in

@@ -1,23 +1,18 @@
-use Prim.Native.Nat.{_+_, _*_}
-use mathlib.Core.Path.{_≡_, refl, sym, _∙_}
+-- `defects::gathering::list_field` meets its contract.
+-- Assumes nothing.
+use Prim.Native.Nat.{_*_}
+use mathlib.Core.Path.{sym}
 use native.Mathlib.Nat.{add-zero}
-use native.Mathlib.Omega.{arith}
 use borrow.Author.Tests.{eq-eqb, ne-eqb}
 use Rattle.laws.specs.Pick.{pick}
 use Rattle.defects.proofs.Listing.{written-none}
 use borrow.Author.Needs.{needs}
 use Rattle.defects.proofs.gathering.list_field.Statement.{statement}
 use Rattle.defects.proofs.gathering.list_field.Tie as tie
-use Rattle.defects.proofs.gathering.list_field.Reads as reads
-use Rattle.defects.proofs.gathering.list_field.Lts as lts
-use Rattle.defects.proofs.gathering.list_entries.Reads as list-entries-reads
-use Rattle.defects.proofs.gathering.next_copy.Reads as next-copy-reads
 
--- src/gathering.rt:63:8
 shared-slice-read-if1 : tie.Need-shared-slice-read-if1
 shared-slice-read-if1 c = search needs
 
--- src/gathering.rt:64:9
 returns : tie.Need-returns
 unfolding pick
 returns c =
@@ -25,11 +20,9 @@ returns c =
     let ignored = eq-eqb _ _ (c .if1 .taken) in
     record { count′ = rw (ignored, add-zero); copy′ = rw ignored; slice = rw ignored (sym (written-none (start .args .defects .now) (12 * start .args .count))) }
 
--- src/gathering.rt:69:19
 next-copy-requires : tie.Need-next-copy-requires
 next-copy-requires c κs = search needs
 
--- src/gathering.rt:67:9
 returns-2 : tie.Need-returns-2
 unfolding pick
 returns-2 c =
@@ -39,7 +32,6 @@ returns-2 c =
     let copy = ne-eqb _ _ (copied .if2 .taken) in
     record { count′ = rw (judged, copy, add-zero); copy′ = rw (judged, copy) (c .next-copy .ensures); slice = rw (judged, copy) (sym (written-none (start .args .defects .now) (12 * start .args .count))) }
 
--- src/gathering.rt:73:16
 list-entries-requires : tie.Need-list-entries-requires
 unfolding pick
 list-entries-requires c κs =
@@ -47,11 +39,9 @@ list-entries-requires c κs =
     let first = c .before in
     (start .pre .0, rw (ne-eqb _ _ (first .before .if1 .left), eq-eqb _ _ (first .if2 .left)) at (start .pre .1))
 
--- src/gathering.rt:59:1
 same-length : tie.Need-same-length
 same-length c = search needs
 
--- src/gathering.rt:59:1
 returns-3 : tie.Need-returns-3
 unfolding pick
 returns-3 c =

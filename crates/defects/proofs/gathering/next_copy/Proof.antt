@@ -1,14 +1,12 @@
+-- `defects::gathering::next_copy` meets its contract.
+-- Assumes nothing.
 use Rattle.laws.proofs.Pick.{steps}
 use Rattle.defects.proofs.gathering.next_copy.Statement.{statement}
 use Rattle.defects.proofs.gathering.next_copy.Tie as tie
-use Rattle.defects.proofs.gathering.next_copy.Reads as reads
-use Rattle.defects.proofs.gathering.next_copy.Lts as lts
 
--- src/gathering.rt:98:1
 returns : tie.Need-returns
 returns c = search steps
 
--- src/gathering.rt:98:1
 returns-2 : tie.Need-returns-2
 returns-2 c = search steps
 

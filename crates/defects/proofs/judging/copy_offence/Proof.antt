@@ -1,5 +1,7 @@
+-- `defects::judging::copy_offence` meets its contract: the octets are compared first, the count between them is not.
+-- Assumes nothing.
 use Prim.Native.Nat.{ℕ, _+_, _-_}
-use mathlib.Core.Path.{_≡_, refl, ap, _∙_}
+use mathlib.Core.Path.{_≡_, ap, _∙_}
 use native.Mathlib.Omega.{arith}
 use borrow.Author.Tests.{eq-eqb, ne-eqb}
 use lib.ListN.{length, getD}
@@ -14,35 +16,24 @@ use Rattle.defects.proofs.Offences.{first-hit, first-miss, stops, goes-
 use borrow.Author.Needs.{needs}
 use Rattle.defects.proofs.judging.copy_offence.Statement.{statement}
 use Rattle.defects.proofs.judging.copy_offence.Tie as tie
-use Rattle.defects.proofs.judging.copy_offence.Reads as reads
-use Rattle.defects.proofs.judging.copy_offence.Lts as lts
-use Rattle.defects.proofs.judging.crc_offence.Reads as crc-offence-reads
-use Rattle.defects.proofs.judging.same_offence.Reads as same-offence-reads
-use Rattle.defects.proofs.offence.offence_at.Reads as offence-at-reads
 
--- src/judging.rt:73:9
 same-offence-requires : tie.Need-same-offence-requires
 same-offence-requires c κs = search needs
 
--- src/judging.rt:75:9
 returns : tie.Need-returns
 returns c =
     let same = c .before .same-offence in
     stops _ _ _ (stops _ _ _ (same .ensures) (c .if1 .taken)) (c .if1 .taken)
 
--- src/judging.rt:77:8
 shared-slice-read-if2 : tie.Need-shared-slice-read-if2
 shared-slice-read-if2 c = search needs
 
--- src/judging.rt:78:31
 add-offence-at : tie.Need-add-offence-at
 add-offence-at c = search needs
 
--- src/judging.rt:78:9
 offence-at-requires : tie.Need-offence-at-requires
 offence-at-requires c κs = search needs
 
--- src/judging.rt:78:9
 returns-2 : tie.Need-returns-2
 returns-2 c =
     let passed = c .before .before .before .before in
@@ -50,23 +41,18 @@ returns-2 c =
     stops _ _ _ (goes-on _ _ _ _ (passed .before .same-offence .ensures) (passed .if1 .left) (first-hit _ _ _ (not-t _ (ne-eqb _ _ (c .before .if2 .taken))) (offence .ensures)))
     (ap (λ (o : Offence). o .found) (offence .ensures))
 
--- src/judging.rt:84:9
 add-same-offence : tie.Need-add-same-offence
 add-same-offence c = search needs
 
--- src/judging.rt:85:9
 sub-same-offence : tie.Need-sub-same-offence
 sub-same-offence c = search needs
 
--- src/judging.rt:85:9
 sub-same-offence-2 : tie.Need-sub-same-offence-2
 sub-same-offence-2 c = search needs
 
--- src/judging.rt:85:9
 sub-same-offence-3 : tie.Need-sub-same-offence-3
 sub-same-offence-3 c = search needs
 
--- src/judging.rt:80:9
 same-offence-requires-2 : tie.Need-same-offence-requires-2
 same-offence-requires-2 c κs = search needs
 
@@ -81,15 +67,12 @@ up-to-crc c =
     goes-on _ _ _ _ (passed .before .same-offence .ensures) (passed .if1 .left)
     (first-miss _ _ _ (not-f _ (eq-eqb _ _ (c .before .if2 .left))) (c .same-offence2 .ensures ∙ ap (λ (n : ℕ). firstOf (testsOver (sameTest (a .start) (a .field .now) (a .original .now)) 4 n)) left))
 
--- src/judging.rt:88:9
 returns-3 : tie.Need-returns-3
 returns-3 c = stops _ _ _ (up-to-crc (c .before)) (c .if3 .taken)
 
--- src/judging.rt:90:5
 crc-offence-requires : tie.Need-crc-offence-requires
 crc-offence-requires c κs = search needs
 
--- src/judging.rt:69:1
 returns-4 : tie.Need-returns-4
 returns-4 c = goes-on _ _ _ _ (up-to-crc (c .before .before)) (c .before .if3 .left) (c .crc-offence .ensures)
 

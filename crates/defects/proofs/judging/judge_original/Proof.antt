@@ -1,3 +1,5 @@
+-- `defects::judging::judge_original` meets its contract: the groups of rows are asked in the order of their offsets.
+-- Assumes nothing.
 use Prim.Native.Nat.{ℕ}
 use native.Mathlib.Omega.{arith}
 use lib.ListN.{length}
@@ -5,34 +7,24 @@ use Rattle.defects.specs.Offence.{firstOf}
 use Rattle.defects.specs.Field.{slots, defectsIn}
 use Rattle.defects.specs.Judging.{paddingTests}
 use Rattle.defects.proofs.Originals.{entries-within, in-front, in-entries, in-padding, in-crc}
-use mathlib.Core.Path.{_≡_, refl, sym, ap, _∙_}
-use Rattle.defects.proofs.Offences.{stops, goes-on, caught}
+use mathlib.Core.Path.{_≡_, refl, ap, _∙_}
+use Rattle.defects.proofs.Offences.{caught}
 use borrow.Author.Needs.{needs}
 use Rattle.defects.proofs.judging.judge_original.Statement.{statement}
 use Rattle.defects.proofs.judging.judge_original.Tie as tie
-use Rattle.defects.proofs.judging.judge_original.Reads as reads
-use Rattle.defects.proofs.judging.judge_original.Lts as lts
-use Rattle.defects.proofs.entries.entries_offence.Reads as entries-offence-reads
-use Rattle.defects.proofs.front.front_offence.Reads as front-offence-reads
-use Rattle.defects.proofs.judging.crc_offence.Reads as crc-offence-reads
-use Rattle.defects.proofs.judging.padding_offence.Reads as padding-offence-reads
 
--- src/judging.rt:43:9
 front-offence-requires : tie.Need-front-offence-requires
 front-offence-requires c κs = search needs
 
--- src/judging.rt:45:9
 returns : tie.Need-returns
 returns c =
     let front = c .before .front-offence in
     let start = c .before .before .before in
     record { offence = in-front _ _ _ _ _ _ (start .pre .2) _ (front .ensures) (c .if1 .taken); next = caught {x = front .result} refl (c .if1 .taken) }
 
--- src/judging.rt:50:9
 entries-offence-requires : tie.Need-entries-offence-requires
 entries-offence-requires c κs = search needs
 
--- src/judging.rt:53:9
 returns-2 : tie.Need-returns-2
 returns-2 c =
     let entries = c .before .before in
@@ -43,7 +35,6 @@ returns-2 c =
       next = caught {x = entries .entries-offence .result .offence} refl (c .if2 .taken);
     }
 
--- src/judging.rt:55:9
 padding-offence-requires : tie.Need-padding-offence-requires
 padding-offence-requires c κs =
     let entries = c .before .before in
@@ -62,7 +53,6 @@ padded c =
     let start = c .before .before .before .before .before .before .before .before in
     c .padding-offence .ensures ∙ ap (λ (n : ℕ). firstOf (paddingTests (start .args .start) (start .args .field .now) n)) (c .before .before .before .entries-offence .ensures .count (c .before .if2 .left))
 
--- src/judging.rt:57:9
 returns-3 : tie.Need-returns-3
 returns-3 c =
     let entries = c .before .before .before .before in
@@ -73,11 +63,9 @@ returns-3 c =
       next = caught {x = c .before .padding-offence .result} refl (c .if3 .taken);
     }
 
--- src/judging.rt:63:18
 crc-offence-requires : tie.Need-crc-offence-requires
 crc-offence-requires c κs = search needs
 
--- src/judging.rt:32:1
 returns-4 : tie.Need-returns-4
 returns-4 c =
     let entries = c .before .before .before .before .before in

@@ -1,3 +1,5 @@
+-- `defects::judging::padding_offence` meets its contract: the first octet that is not zero is the one that the loop stops at.
+-- Assumes nothing.
 use Prim.Native.Nat.{_-_, _≤_}
 use mathlib.Core.Path.{_≡_, refl}
 use borrow.Author.Needs.{needs}
@@ -9,10 +11,6 @@ use Rattle.defects.specs.Judging.{zeroTest, paddingTests}
 use Rattle.defects.proofs.Offences.{over-next, over-hit, over-end}
 use Rattle.defects.proofs.judging.padding_offence.Statement.{statement}
 use Rattle.defects.proofs.judging.padding_offence.Tie as tie
-use Rattle.defects.proofs.judging.padding_offence.Reads as reads
-use Rattle.defects.proofs.judging.padding_offence.Lts as lts
-use Rattle.defects.proofs.offence.no_offence.Reads as no-offence-reads
-use Rattle.defects.proofs.offence.offence_at.Reads as offence-at-reads
 
 abbrev Inv-loop : tie.InvT-loop
 Inv-loop start field count end i₀ i = (end ≡ length field - 2) × (i ≤ end) × (firstOf (paddingTests start field count) ≡ firstOf (testsOver (zeroTest start field) i (end - i)))
@@ -20,59 +18,46 @@ Inv-loop start field count end i₀ i = (end ≡ length field - 2) × (i ≤ end
 abbrev μ-loop : tie.MeasureT-loop
 μ-loop start field count end i₀ i = end - i
 
--- src/judging.rt:98:15
 sub-end : tie.Need-sub-end Inv-loop μ-loop
 sub-end c = search needs
 
--- src/judging.rt:99:27
 mul-i : tie.Need-mul-i Inv-loop μ-loop
 mul-i c = search needs
 
--- src/judging.rt:99:17
 add-i : tie.Need-add-i Inv-loop μ-loop
 add-i c = search needs
 
--- src/judging.rt:100:5
 loop-holds : tie.Need-loop-holds Inv-loop μ-loop
 loop-holds c = (search needs, search needs, refl)
 
--- src/judging.rt:101:12
 shared-slice-read-if1 : tie.Need-shared-slice-read-if1 Inv-loop μ-loop
 shared-slice-read-if1 c = search needs
 
--- src/judging.rt:102:35
 add-offence-at : tie.Need-add-offence-at Inv-loop μ-loop
 add-offence-at c = search needs
 
--- src/judging.rt:102:13
 offence-at-requires : tie.Need-offence-at-requires Inv-loop μ-loop
 offence-at-requires c κs = search needs
 
--- src/judging.rt:102:13
 returns : tie.Need-returns Inv-loop μ-loop
 returns c =
     let loop = c .before .before .before .before .loop in
     over-hit _ (loop .i) _ _ _ (search needs) (not-t _ (ne-eqb _ _ (c .before .if1 .taken))) (c .offence-at .ensures) (loop .inv .2)
 
--- src/judging.rt:104:9
 add-i-2 : tie.Need-add-i-2 Inv-loop μ-loop
 add-i-2 c = search needs
 
--- src/judging.rt:100:5
 loop-less : tie.Need-loop-less Inv-loop μ-loop
 loop-less c = search needs
 
--- src/judging.rt:100:5
 loop-again : tie.Need-loop-again Inv-loop μ-loop
 loop-again c =
     let loop = c .before .before .before .loop in
     (search needs, search needs, over-next _ (loop .i) _ _ (search needs) (not-f _ (eq-eqb _ _ (c .if1 .left))) (loop .inv .2))
 
--- src/judging.rt:106:5
 no-offence-requires : tie.Need-no-offence-requires Inv-loop μ-loop
 no-offence-requires c κs = search needs
 
--- src/judging.rt:94:1
 returns-2 : tie.Need-returns-2 Inv-loop μ-loop
 returns-2 c =
     let loop = c .before .before .loop in

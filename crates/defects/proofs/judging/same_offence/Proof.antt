@@ -1,3 +1,5 @@
+-- `defects::judging::same_offence` meets its contract: the first octet that differs is the one that the loop stops at.
+-- Assumes nothing.
 use Prim.Native.Nat.{ℕ, _+_, _-_, _≤_}
 use mathlib.Core.Path.{_≡_, refl, ap}
 use native.Mathlib.Omega.{arith}
@@ -9,10 +11,6 @@ use Rattle.defects.specs.Judging.{sameTest}
 use Rattle.defects.proofs.Offences.{over-next, over-hit, over-end}
 use Rattle.defects.proofs.judging.same_offence.Statement.{statement}
 use Rattle.defects.proofs.judging.same_offence.Tie as tie
-use Rattle.defects.proofs.judging.same_offence.Reads as reads
-use Rattle.defects.proofs.judging.same_offence.Lts as lts
-use Rattle.defects.proofs.offence.no_offence.Reads as no-offence-reads
-use Rattle.defects.proofs.offence.offence_at.Reads as offence-at-reads
 
 abbrev Inv-loop : tie.InvT-loop
 Inv-loop start field original from count end i₀ i = (from ≤ i) × (i ≤ end) × (end ≡ from + count) × (firstOf (testsOver (sameTest start field original) from count) ≡ firstOf (testsOver (sameTest start field original) i (end - i)))
@@ -20,11 +18,9 @@ Inv-loop start field original from count end i₀ i = (from ≤ i) × (i ≤ end
 abbrev μ-loop : tie.MeasureT-loop
 μ-loop start field original from count end i₀ i = end - i
 
--- src/judging.rt:120:15
 add-end : tie.Need-add-end Inv-loop μ-loop
 add-end c = search needs
 
--- src/judging.rt:122:5
 loop-holds : tie.Need-loop-holds Inv-loop μ-loop
 loop-holds c =
     let start : tie.Start Inv-loop μ-loop = search in
@@ -32,49 +28,39 @@ loop-holds c =
     let all : a .count ≡ a .from + a .count - a .from = omega arith in
     (search needs, search needs, refl, ap (λ (n : ℕ). firstOf (testsOver (sameTest (a .start) (a .field .now) (a .original .now)) (a .from) n)) all)
 
--- src/judging.rt:123:12
 shared-slice-read-if1 : tie.Need-shared-slice-read-if1 Inv-loop μ-loop
 shared-slice-read-if1 c = search needs
 
--- src/judging.rt:123:24
 shared-slice-read-if1-2 : tie.Need-shared-slice-read-if1-2 Inv-loop μ-loop
 shared-slice-read-if1-2 c = search needs
 
--- src/judging.rt:124:35
 add-offence-at : tie.Need-add-offence-at Inv-loop μ-loop
 add-offence-at c = search needs
 
--- src/judging.rt:124:13
 offence-at-requires : tie.Need-offence-at-requires Inv-loop μ-loop
 offence-at-requires c κs = search needs
 
--- src/judging.rt:124:13
 returns : tie.Need-returns Inv-loop μ-loop
 returns c =
     let loop : tie.At-loop Inv-loop μ-loop = search in
     let turn : tie.In-loop Inv-loop μ-loop = search in
     over-hit _ (loop .loop .i) _ _ _ (turn .loop-test .taken) (not-t _ (ne-eqb _ _ (c .before .if1 .taken))) (c .offence-at .ensures) (loop .loop .inv .3)
 
--- src/judging.rt:126:9
 add-i : tie.Need-add-i Inv-loop μ-loop
 add-i c = search needs
 
--- src/judging.rt:122:5
 loop-less : tie.Need-loop-less Inv-loop μ-loop
 loop-less c = search needs
 
--- src/judging.rt:122:5
 loop-again : tie.Need-loop-again Inv-loop μ-loop
 loop-again c =
     let loop : tie.At-loop Inv-loop μ-loop = search in
     let turn : tie.In-loop Inv-loop μ-loop = search in
     (search needs, search needs, search needs, over-next _ (loop .loop .i) _ _ (turn .loop-test .taken) (not-f _ (eq-eqb _ _ (c .if1 .left))) (loop .loop .inv .3))
 
--- src/judging.rt:128:5
 no-offence-requires : tie.Need-no-offence-requires Inv-loop μ-loop
 no-offence-requires c κs = search needs
 
--- src/judging.rt:110:1
 returns-2 : tie.Need-returns-2 Inv-loop μ-loop
 returns-2 c =
     let loop : tie.At-loop Inv-loop μ-loop = search in

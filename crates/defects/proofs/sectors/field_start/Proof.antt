@@ -1,8 +1,5 @@
 -- `defects::sectors::field_start` meets its contract: the place of a data field is one of the drive.
 -- Assumes nothing.
-use mathlib.Core.Path.{_≡_}
-use mathlib.Core.Bool.{true}
-use Rattle.parts.specs.Setup.{isPlace}
 use Rattle.defects.specs.Sectors.{fieldStart}
 use Rattle.defects.proofs.Places.{places}
 use borrow.Author.Needs.{needs}

@@ -1,38 +1,28 @@
-use mathlib.Core.Bool.{false}
-use Rattle.defects.specs.Steps.{stringIn, Loadable}
-use Rattle.defects.specs.Place.{fieldOctets}
-use Prim.Native.Nat.{ℕ, _+_, _*_, _≤_}
-use mathlib.Core.Path.{_≡_, sym, ap, _∙_}
+-- `defects::sectors::load` meets its contract: each way it goes loads the data field from the one that was meant.
+-- Assumes nothing.
+use Rattle.defects.specs.Steps.{stringIn}
+use Prim.Native.Nat.{_+_, _*_, _≤_}
+use mathlib.Core.Path.{_≡_, sym, _∙_}
 use native.Mathlib.Omega.{arith}
-use lib.ListN.{length, take, drop}
+use lib.ListN.{length}
 use Rattle.laws.specs.Pick.{pick}
 use Rattle.parts.proofs.Bounds.{limits}
-use Rattle.defects.specs.Sectors.{wordOctets, sectorField, lastCylinder}
+use Rattle.defects.specs.Sectors.{sectorField}
 use Rattle.defects.specs.Walk.{fieldAt}
 use Rattle.defects.proofs.SectorFields.{field-in-room, field-of-cylinder}
 use borrow.Author.Needs.{needs}
 use Rattle.defects.proofs.sectors.load.Statement.{statement}
 use Rattle.defects.proofs.sectors.load.Tie as tie
-use Rattle.defects.proofs.sectors.load.Reads as reads
-use Rattle.defects.proofs.sectors.load.Lts as lts
-use Rattle.defects.proofs.place.field_octets.Reads as field-octets-reads
-use Rattle.defects.proofs.sectors.field_start.Reads as field-start-reads
-use Rattle.defects.proofs.sectors.load_octets.Reads as load-octets-reads
-use Rattle.defects.proofs.sectors.load_words.Reads as load-words-reads
 
--- src/sectors.rt:28:9
 field-octets-requires : tie.Need-field-octets-requires
 field-octets-requires c κs = search needs
 
--- src/sectors.rt:32:13
 field-start-requires : tie.Need-field-start-requires
 field-start-requires c κs = search needs
 
--- src/sectors.rt:33:13
 cast-load-words : tie.Need-cast-load-words
 cast-load-words c = search needs
 
--- src/sectors.rt:30:9
 load-words-requires : tie.Need-load-words-requires
 load-words-requires c κs =
     let start : tie.Start = search in
@@ -42,11 +32,9 @@ load-words-requires c κs =
     let few = limits _ (pre .limits) in
     (rw (c .before .before .field-start .ensures) fits, omega arith)
 
--- src/sectors.rt:36:9
 same-length : tie.Need-same-length
 same-length c = search needs
 
--- src/sectors.rt:36:9
 returns : tie.Need-returns
 unfolding pick sectorField
 returns c =
@@ -69,22 +57,18 @@ octets-whole : (c : tie.Else1)
     a .k * c .before .field-octets .result + c .before .field-octets .result ≤ length (a .octets .now)
 octets-whole c = rw (c .before .field-octets .ensures, ← (from-octets c)) (c .before .before .before .before .before .pre .0 .whole)
 
--- src/sectors.rt:38:25
 mul-load-octets : tie.Need-mul-load-octets
 mul-load-octets c = omega (arith, octets-whole c)
 
--- src/sectors.rt:38:5
 load-octets-requires : tie.Need-load-octets-requires
 load-octets-requires c κs =
     let start : tie.Start = search in
     let few = limits _ (start .pre .0 .limits) in
     (octets-whole (c .before), omega arith)
 
--- src/sectors.rt:17:1
 same-length-2 : tie.Need-same-length-2
 same-length-2 c = search needs
 
--- src/sectors.rt:17:1
 returns-2 : tie.Need-returns-2
 unfolding fieldAt
 returns-2 c =

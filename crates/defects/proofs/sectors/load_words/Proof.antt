@@ -1,14 +1,14 @@
+-- `defects::sectors::load_words` meets its contract: after i turns, the words of i more octets are loaded.
+-- Assumes nothing.
 use Rattle.defects.proofs.Loading.{word-loaded}
-use Prim.Native.Nat.{_+_, _-_, _*_, _<_, _≤_}
+use Prim.Native.Nat.{_+_, _-_, _*_, _≤_}
 use mathlib.Core.Path.{_≡_, refl}
 use native.Mathlib.Omega.{arith}
 use borrow.Author.Needs.{needs}
-use lib.ListN.{length, take, drop, length-set, length-drop}
+use lib.ListN.{length, take, drop, length-set}
 use Rattle.defects.specs.Sectors.{wordOctets}
 use Rattle.defects.proofs.sectors.load_words.Statement.{statement}
 use Rattle.defects.proofs.sectors.load_words.Tie as tie
-use Rattle.defects.proofs.sectors.load_words.Reads as reads
-use Rattle.defects.proofs.sectors.load_words.Lts as lts
 
 abbrev Inv-loop : tie.InvT-loop
 Inv-loop sectors start count field₀ i₀ field i = (i ≤ count) × (length field ≡ length field₀) × (take (2 * i) field ≡ wordOctets (take i (drop start sectors)))
@@ -16,72 +16,56 @@ Inv-loop sectors start count field₀ i₀ field i = (i ≤ count) × (length fi
 abbrev μ-loop : tie.MeasureT-loop
 μ-loop sectors start count field₀ i₀ field i = count - i
 
--- src/sectors.rt:57:5
 loop-holds : tie.Need-loop-holds Inv-loop μ-loop
 loop-holds c = (search needs, refl, refl)
 
--- src/sectors.rt:58:28
 add-word : tie.Need-add-word Inv-loop μ-loop
 add-word c = search needs
 
--- src/sectors.rt:58:20
 mul-word : tie.Need-mul-word Inv-loop μ-loop
 mul-word c = search needs
 
--- src/sectors.rt:58:20
 shared-slice-read-word : tie.Need-shared-slice-read-word Inv-loop μ-loop
 shared-slice-read-word c = search needs
 
--- src/sectors.rt:59:24
 cast-field : tie.Need-cast-field Inv-loop μ-loop
 cast-field c =
     let loop = c .before .before in
     omega (arith, c .shared-slice-known .given (loop .before .args .start + loop .loop .i))
 
--- src/sectors.rt:59:15
 mul-field : tie.Need-mul-field Inv-loop μ-loop
 mul-field c = search needs
 
--- src/sectors.rt:59:9
 slice-write-field : tie.Need-slice-write-field Inv-loop μ-loop
 slice-write-field c = search needs
 
--- src/sectors.rt:60:28
 cast-field-2 : tie.Need-cast-field-2 Inv-loop μ-loop
 cast-field-2 c = search needs
 
--- src/sectors.rt:60:15
 mul-field-2 : tie.Need-mul-field-2 Inv-loop μ-loop
 mul-field-2 c = search needs
 
--- src/sectors.rt:60:15
 add-field : tie.Need-add-field Inv-loop μ-loop
 add-field c = search needs
 
--- src/sectors.rt:60:9
 slice-write-field-2 : tie.Need-slice-write-field-2 Inv-loop μ-loop
 slice-write-field-2 c = simp length-set (omega arith)
 
--- src/sectors.rt:61:9
 add-i : tie.Need-add-i Inv-loop μ-loop
 add-i c = search needs
 
--- src/sectors.rt:57:5
 loop-less : tie.Need-loop-less Inv-loop μ-loop
 loop-less c = search needs
 
--- src/sectors.rt:57:5
 loop-again : tie.Need-loop-again Inv-loop μ-loop
 loop-again c =
     let loop : tie.At-loop Inv-loop μ-loop = search in
     let a = loop .before .args in
     (search needs, simp length-set (search needs), word-loaded (loop .loop .field) (a .sectors .now) (a .start) (loop .loop .i) (omega arith) (omega arith) (loop .loop .inv .2))
 
--- src/sectors.rt:52:1
 same-length : tie.Need-same-length Inv-loop μ-loop
 same-length c = search needs
 
--- src/sectors.rt:52:1
 returns : tie.Need-returns Inv-loop μ-loop
 returns c =
     let loop : tie.At-loop Inv-loop μ-loop = search in

@@ -1,3 +1,5 @@
+-- `defects::walk::step` meets its contract: each of its three ways is one arm of the definition.
+-- Assumes nothing.
 use mathlib.Core.Path.{_∙_}
 use borrow.Author.Tests.{eq-eqb, ne-eqb}
 use Rattle.laws.specs.Pick.{pick}
@@ -6,39 +8,25 @@ use Rattle.defects.specs.Walk.{after}
 use borrow.Author.Needs.{needs}
 use Rattle.defects.proofs.walk.step.Statement.{statement}
 use Rattle.defects.proofs.walk.step.Tie as tie
-use Rattle.defects.proofs.walk.step.Reads as reads
-use Rattle.defects.proofs.walk.step.Lts as lts
-use Rattle.defects.proofs.front.front_of.Reads as front-of-reads
-use Rattle.defects.proofs.judging.copy_offence.Reads as copy-offence-reads
-use Rattle.defects.proofs.judging.judge_original.Reads as judge-original-reads
-use Rattle.defects.proofs.offence.no_offence.Reads as no-offence-reads
-use Rattle.defects.proofs.walk.after_copy.Reads as after-copy-reads
-use Rattle.defects.proofs.walk.after_original.Reads as after-original-reads
 
--- src/walk.rt:73:8
 shared-slice-read-if1 : tie.Need-shared-slice-read-if1
 shared-slice-read-if1 c = search needs
 
--- src/walk.rt:75:22
 no-offence-requires : tie.Need-no-offence-requires
 no-offence-requires c κs = search needs
 
--- src/walk.rt:74:9
 returns : tie.Need-returns
 unfolding pick firstOf after
 returns c =
     let ignored = eq-eqb _ _ (c .before .if1 .taken) in
     record { offence = rw ignored (c .no-offence .ensures); walk = λ f. rw ignored; least′ = λ f. rw ignored }
 
--- src/walk.rt:82:22
 copy-offence-requires : tie.Need-copy-offence-requires
 copy-offence-requires c κs = search needs
 
--- src/walk.rt:83:19
 after-copy-requires : tie.Need-after-copy-requires
 after-copy-requires c κs = search needs
 
--- src/walk.rt:81:9
 returns-2 : tie.Need-returns-2
 unfolding pick after
 returns-2 c =
@@ -51,19 +39,15 @@ returns-2 c =
       least′ = λ f. rw (judged, copy);
     }
 
--- src/walk.rt:87:9
 front-of-requires : tie.Need-front-of-requires
 front-of-requires c κs = search needs
 
--- src/walk.rt:88:9
 judge-original-requires : tie.Need-judge-original-requires
 judge-original-requires c κs = search needs
 
--- src/walk.rt:92:15
 after-original-requires : tie.Need-after-original-requires
 after-original-requires c κs = search needs
 
--- src/walk.rt:61:1
 returns-3 : tie.Need-returns-3
 unfolding pick after
 returns-3 c =

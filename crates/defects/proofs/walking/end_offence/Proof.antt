@@ -1,25 +1,19 @@
+-- `defects::walking::end_offence` meets its contract.
+-- Assumes nothing.
 use Rattle.defects.proofs.Offences.{first-hit, first-miss, first-none}
 use borrow.Author.Needs.{needs}
 use Rattle.defects.proofs.walking.end_offence.Statement.{statement}
 use Rattle.defects.proofs.walking.end_offence.Tie as tie
-use Rattle.defects.proofs.walking.end_offence.Reads as reads
-use Rattle.defects.proofs.walking.end_offence.Lts as lts
-use Rattle.defects.proofs.offence.no_offence.Reads as no-offence-reads
-use Rattle.defects.proofs.offence.offence_at.Reads as offence-at-reads
 
--- src/walking.rt:135:9
 offence-at-requires : tie.Need-offence-at-requires
 offence-at-requires c κs = search needs
 
--- src/walking.rt:135:9
 returns : tie.Need-returns
 returns c = first-hit _ _ _ (c .before .if1 .taken) (c .offence-at .ensures)
 
--- src/walking.rt:137:5
 no-offence-requires : tie.Need-no-offence-requires
 no-offence-requires c κs = search needs
 
--- src/walking.rt:131:1
 returns-2 : tie.Need-returns-2
 returns-2 c = first-miss _ _ _ (c .before .if1 .left) (first-none _ (c .no-offence .ensures))
 

@@ -1,7 +1,9 @@
+-- `defects::walking::judge` meets its contract: after so many turns the walk stands where the definition has it, and no offence is behind it.
+-- Assumes nothing.
 use Rattle.parts.proofs.Bounds.{limits}
 use Prim.Native.Nat.{_*_, _+_, _^_, _<_, _≤_}
 use Prim.Native.Nat.{ℕ, _-_}
-use mathlib.Core.Path.{_≡_, refl, sym, ap, _∙_}
+use mathlib.Core.Path.{_≡_, refl, _∙_}
 use mathlib.Core.Bool.{Bool, not, false}
 use mathlib.Core.List.{List}
 use native.Mathlib.Omega.{arith}
@@ -18,16 +20,6 @@ use Rattle.defects.proofs.Reaching.{Reached, reached-outset, reached-ne
 use Rattle.defects.proofs.Judgements.{judged-end, judged-short, judged-stop, judged-last}
 use Rattle.defects.proofs.walking.judge.Statement.{statement}
 use Rattle.defects.proofs.walking.judge.Tie as tie
-use Rattle.defects.proofs.walking.judge.Reads as reads
-use Rattle.defects.proofs.walking.judge.Lts as lts
-use Rattle.defects.proofs.offence.offence_at.Reads as offence-at-reads
-use Rattle.defects.proofs.place.data_fields.Reads as data-fields-reads
-use Rattle.defects.proofs.place.field_octets.Reads as field-octets-reads
-use Rattle.defects.proofs.walk.is_ended.Reads as is-ended-reads
-use Rattle.defects.proofs.walk.outset_of_map.Reads as outset-of-map-reads
-use Rattle.defects.proofs.walking.end_offence.Reads as end-offence-reads
-use Rattle.defects.proofs.walking.last_offence.Reads as last-offence-reads
-use Rattle.defects.proofs.walking.turn.Reads as turn-reads
 
 -- no test before data field k holds
 record Judging (setup : Setup) (inSectors : Bool) (octets sectors original₀ field₀ : List ℕ) (count each : ℕ) (original field : List ℕ) (walk : Walk) (least k : ℕ) : Type 0 where
@@ -44,19 +36,15 @@ Inv-loop setup in-sectors size octets sectors original₀ field₀ count each wa
 abbrev μ-loop : tie.MeasureT-loop
 μ-loop setup in-sectors size octets sectors original₀ field₀ count each walk₀ least₀ k₀ original field walk least k = count - k
 
--- src/walking.rt:49:9
 data-fields-requires : tie.Need-data-fields-requires Inv-loop μ-loop
 data-fields-requires c κs = search needs
 
--- src/walking.rt:50:9
 field-octets-requires : tie.Need-field-octets-requires Inv-loop μ-loop
 field-octets-requires c κs = search needs
 
--- src/walking.rt:51:9
 outset-of-map-requires : tie.Need-outset-of-map-requires Inv-loop μ-loop
 outset-of-map-requires c κs = search needs
 
--- src/walking.rt:54:5
 loop-holds : tie.Need-loop-holds Inv-loop μ-loop
 loop-holds c =
     let start : tie.Start Inv-loop μ-loop = search in
@@ -75,27 +63,21 @@ start-small c =
     let start : tie.Start Inv-loop μ-loop = search in
     rw (c .loop .inv .sized) (start-few (start .args .setup) (c .loop .k) (start .pre .0 .limits) (c .loop .inv .reached .within))
 
--- src/walking.rt:55:21
 mul-start : tie.Need-mul-start Inv-loop μ-loop
 mul-start c = omega (arith, start-small (c .before))
 
--- src/walking.rt:56:12
 is-ended-requires : tie.Need-is-ended-requires Inv-loop μ-loop
 is-ended-requires c κs = search needs
 
--- src/walking.rt:58:26
 end-offence-requires : tie.Need-end-offence-requires Inv-loop μ-loop
 end-offence-requires c κs = search needs
 
--- src/walking.rt:57:13
 same-length : tie.Need-same-length Inv-loop μ-loop
 same-length c = search needs
 
--- src/walking.rt:57:13
 same-length-2 : tie.Need-same-length-2 Inv-loop μ-loop
 same-length-2 c = search needs
 
--- src/walking.rt:57:13
 returns : tie.Need-returns Inv-loop μ-loop
 returns c =
     let ended = c .before .before in
@@ -103,7 +85,6 @@ returns c =
     let start : tie.Start Inv-loop μ-loop = search in
     judged-end _ _ _ _ _ (start .pre .0 .sized) (loop .loop .inv .sized) _ _ _ (loop .loop .inv .reached) _ (told _ _ _ (ended .is-ended .ensures) (c .before .if1 .taken)) (c .end-offence .ensures)
 
--- src/walking.rt:63:19
 add-if2 : tie.Need-add-if2 Inv-loop μ-loop
 add-if2 c =
     let loop : tie.At-loop Inv-loop μ-loop = search in
@@ -111,15 +92,12 @@ add-if2 c =
     let few = limits (start .args .setup) (start .pre .0 .limits) in
     omega (arith, start-small loop, loop .loop .inv .sized)
 
--- src/walking.rt:65:26
 offence-at-requires : tie.Need-offence-at-requires Inv-loop μ-loop
 offence-at-requires c κs = search needs
 
--- src/walking.rt:64:13
 same-length-3 : tie.Need-same-length-3 Inv-loop μ-loop
 same-length-3 c = search needs
 
--- src/walking.rt:64:13
 same-length-4 : tie.Need-same-length-4 Inv-loop μ-loop
 same-length-4 c = search needs
 
@@ -131,7 +109,6 @@ one-more : (c : tie.In-loop Inv-loop μ-loop)
     → c .before .loop .k < dataFields (c .before .before .before .before .before .before .before .before .before .args .setup)
 one-more c = rw (← (c .before .loop .inv .counted)) (c .loop-test .taken)
 
--- src/walking.rt:64:13
 returns-2 : tie.Need-returns-2 Inv-loop μ-loop
 returns-2 c =
     let passed = c .before .before in
@@ -150,7 +127,6 @@ is-whole c =
     let start = loop .before .before .before .before .before .before .before .before in
     rw (← (loop .loop .inv .sized), ← (start .pre .0 .sized)) (c .if2 .left)
 
--- src/walking.rt:70:13
 turn-requires : tie.Need-turn-requires Inv-loop μ-loop
 turn-requires c κs =
     let passed = c .before .before in
@@ -169,15 +145,12 @@ turn-requires c κs =
       omega (arith, loop .loop .inv .fields, start .pre .2),
     )
 
--- src/walking.rt:73:13
 same-length-5 : tie.Need-same-length-5 Inv-loop μ-loop
 same-length-5 c = search needs
 
--- src/walking.rt:73:13
 same-length-6 : tie.Need-same-length-6 Inv-loop μ-loop
 same-length-6 c = search needs
 
--- src/walking.rt:73:13
 returns-3 : tie.Need-returns-3 Inv-loop μ-loop
 returns-3 c =
     let turned = c .before .before .before .before .before .before in
@@ -187,15 +160,12 @@ returns-3 c =
     let start = loop .before .before .before .before .before .before .before .before in
     judged-stop _ _ _ _ _ (start .pre .0 .sized) (loop .loop .inv .sized) _ _ _ (loop .loop .inv .reached) _ (one-more turn) (going (passed .before)) (passed .if2 .left) (turned .turn .ensures) (c .if3 .taken)
 
--- src/walking.rt:81:9
 add-k : tie.Need-add-k Inv-loop μ-loop
 add-k c = search needs
 
--- src/walking.rt:54:5
 loop-less : tie.Need-loop-less Inv-loop μ-loop
 loop-less c = search needs
 
--- src/walking.rt:54:5
 loop-again : tie.Need-loop-again Inv-loop μ-loop
 loop-again c =
     let turned = c .before .before .before .before .before .before .before in
@@ -210,23 +180,18 @@ loop-again c =
       fields = turned .turn .kept .1 .1 .1 .1 .1 .1 .1 .1 .0 ∙ loop .loop .inv .fields;
     }
 
--- src/walking.rt:84:50
 mul-last-offence : tie.Need-mul-last-offence Inv-loop μ-loop
 mul-last-offence c = omega (arith, start-small (c .before))
 
--- src/walking.rt:84:18
 last-offence-requires : tie.Need-last-offence-requires Inv-loop μ-loop
 last-offence-requires c κs = search needs
 
--- src/walking.rt:37:1
 same-length-7 : tie.Need-same-length-7 Inv-loop μ-loop
 same-length-7 c = search needs
 
--- src/walking.rt:37:1
 same-length-8 : tie.Need-same-length-8 Inv-loop μ-loop
 same-length-8 c = search needs
 
--- src/walking.rt:37:1
 returns-4 : tie.Need-returns-4 Inv-loop μ-loop
 returns-4 c =
     let loop = c .before .before in

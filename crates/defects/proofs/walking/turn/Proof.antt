@@ -1,35 +1,26 @@
-use Prim.Native.Nat.{_*_, _≤_}
-use mathlib.Core.Path.{_≡_, sym, ap, _∙_}
+-- `defects::walking::turn` meets its contract: the data field is loaded, and the step is that of the definition.
+-- Assumes nothing.
+use Prim.Native.Nat.{_≤_}
+use mathlib.Core.Path.{sym}
 use native.Mathlib.Omega.{arith}
-use lib.ListN.{length, take}
 use lib.Seq.{length-take-le}
 use Rattle.parts.proofs.Bounds.{limits}
-use Rattle.defects.specs.Place.{fieldOctets}
 use Rattle.defects.proofs.Loadables.{start-few, loadable-before, judgeable}
 use borrow.Author.Needs.{needs}
 use Rattle.defects.proofs.walking.turn.Statement.{statement}
 use Rattle.defects.proofs.walking.turn.Tie as tie
-use Rattle.defects.proofs.walking.turn.Reads as reads
-use Rattle.defects.proofs.walking.turn.Lts as lts
-use Rattle.defects.proofs.place.field_octets.Reads as field-octets-reads
-use Rattle.defects.proofs.sectors.load.Reads as load-reads
-use Rattle.defects.proofs.walk.step.Reads as step-reads
 
--- src/walking.rt:105:9
 field-octets-requires : tie.Need-field-octets-requires
 field-octets-requires c κs = search needs
 
--- src/walking.rt:107:5
 load-requires : tie.Need-load-requires
 load-requires c κs =
     let start : tie.Start = search in
     (loadable-before _ (start .pre .0) (start .pre .2), start .pre .3)
 
--- src/walking.rt:108:5
 load-requires-2 : tie.Need-load-requires-2
 load-requires-2 c κs = search needs
 
--- src/walking.rt:114:9
 mul-step : tie.Need-mul-step
 mul-step c =
     let start : tie.Start = search in
@@ -44,18 +35,15 @@ fits c =
     let few = limits _ (start .pre .0 .limits) in
     omega (arith, c .field-octets .ensures)
 
--- src/walking.rt:115:9
 slice-reshare-prefix-step : tie.Need-slice-reshare-prefix-step
 slice-reshare-prefix-step c =
     let told : tie.After-field-octets = search in
     let loaded : tie.After-load = search in
     omega (arith, fits told, loaded .load .kept, loaded .before .before .before .before .before .before .before .pre)
 
--- src/walking.rt:115:9
 slice-aggregate-step : tie.Need-slice-aggregate-step
 slice-aggregate-step c = sym (length-take-le _ _ (slice-reshare-prefix-step (c .before)))
 
--- src/walking.rt:116:9
 slice-reshare-prefix-step-2 : tie.Need-slice-reshare-prefix-step-2
 slice-reshare-prefix-step-2 c =
     let told : tie.After-field-octets = search in
@@ -63,11 +51,9 @@ slice-reshare-prefix-step-2 c =
     let start : tie.Start = search in
     omega (arith, fits told, loaded .load2 .kept, start .pre)
 
--- src/walking.rt:116:9
 slice-aggregate-step-2 : tie.Need-slice-aggregate-step-2
 slice-aggregate-step-2 c = sym (length-take-le _ _ (slice-reshare-prefix-step-2 (c .before)))
 
--- src/walking.rt:109:5
 step-requires : tie.Need-step-requires
 step-requires c κs =
     let told : tie.After-field-octets = search in
@@ -76,15 +62,12 @@ step-requires c κs =
     let this : tie.After-load2 = search in
     judgeable _ _ _ _ (start .pre .0) (start .pre .1) (start .pre .2) (rw (told .field-octets .ensures)) (rw (told .field-octets .ensures) (first .load .ensures)) (rw (told .field-octets .ensures) (this .load2 .ensures))
 
--- src/walking.rt:91:1
 same-length : tie.Need-same-length
 same-length c = search needs
 
--- src/walking.rt:91:1
 same-length-2 : tie.Need-same-length-2
 same-length-2 c = search needs
 
--- src/walking.rt:91:1
 returns : tie.Need-returns
 returns c =
     let told : tie.After-field-octets = search in
