@@ -8,25 +8,19 @@ use native.Mathlib.Nat.{zero-add, add-zero, le-refl}
 use native.Mathlib.Omega.{arith}
 use borrow.Author.Tests.{ltb-false, leb-false, ne-eqb}
 use lib.Dec.{ltb, leb}
-use lib.ListN.{length, drop, length-drop}
-use lib.Seq.{length-take-le}
+use lib.ListN.{length}
 use Rattle.laws.specs.Pick.{pick}
 use Rattle.parts.specs.declared.setup.Setup.{Setup}
-use Rattle.defects.specs.Offence.{Test, _at_when_, firstOf}
+use Rattle.defects.specs.Offence.{_at_when_, firstOf}
 use Rattle.defects.specs.Defect.{behindAll}
 use Rattle.defects.specs.Field.{isIgnored}
 use Rattle.defects.specs.Place.{fieldOctets, dataFields}
-use Rattle.defects.specs.Judging.{fieldTests}
 use Rattle.defects.specs.Walk.{isOriginal, isEnded, fieldAt, walkAt, defectsBefore, testsAt, testsFrom, mapTests}
+use Rattle.defects.proofs.WalkSteps.{begins-set}
+use Rattle.defects.proofs.TestsAt.{testsOf}
+use Rattle.defects.proofs.Fields.{some-field, field-length}
 use Rattle.defects.proofs.Offences.{none-head, none-parts}
-use Rattle.defects.proofs.Standing.{begins-set}
 use Rattle.defects.proofs.PassedFields.{OriginalPassed, original-passed, CopyPassed, copy-passed}
-
--- what is judged of data field k itself
-abbrev pub testsOf : Setup → List ℕ → ℕ → List Test
-testsOf s octets k =
-    let w = walkAt s octets k in
-    fieldTests s w (behindAll 0 (defectsBefore s octets k)) (k * fieldOctets s) (fieldAt s octets (w .original)) (fieldAt s octets k)
 
 pub record Whole (s : Setup) (octets : List ℕ) (k : ℕ) : Type 0 where
   pub inside : k < dataFields s
@@ -34,19 +28,6 @@ pub record Whole (s : Setup) (octets : List ℕ) (k : ℕ) : Type 0 where
   pub passed : isIgnored (fieldAt s octets k) ≡ false → firstOf (testsOf s octets k) .found ≡ false
 
 -- ---- a whole data field
-
--- the octets in front and the CRC have room
-pub room : (s : Setup) (k : ℕ) → k < dataFields s → 8 ≤ s .field1
-unfolding dataFields pick
-room s k h = by-test (ltb (s .field1) 8) refl h
-  where
-    by-test : (narrow : Bool) → ltb (s .field1) 8 ≡ narrow → k < pick narrow 0 (s .heads * s .sectors) → 8 ≤ s .field1
-    by-test true e h = absurd (omega arith)
-    by-test false e h = ltb-false _ _ e
-
-pub field-length : (s : Setup) (octets : List ℕ) (k : ℕ) → k * fieldOctets s + fieldOctets s ≤ length octets → length (fieldAt s octets k) ≡ fieldOctets s
-unfolding fieldAt
-field-length s octets k h = length-take-le (fieldOctets s) (drop (k * fieldOctets s) octets) (simp length-drop (omega arith))
 
 pub length-field : {s : Setup} {octets : List ℕ} {k : ℕ} → Whole s octets k → length (fieldAt s octets k) ≡ fieldOctets s
 length-field {s} {octets} {k} w = field-length s octets k (w .whole)
@@ -106,5 +87,5 @@ module _ (alone : Bool) (s : Setup) (octets : List ℕ) (accepted : firstOf (map
   unfolding pick
   copy-at k h going heard other =
       let w = whole k h going in
-      let long : 6 ≤ length (fieldAt s octets k) = omega (arith, length-field w, room s k (w .inside)) in
+      let long : 6 ≤ length (fieldAt s octets k) = omega (arith, length-field w, some-field s k (w .inside)) in
       copy-passed _ _ _ _ long (rw (ne-eqb _ _ other) at (w .passed heard))

@@ -10,13 +10,12 @@ use Rattle.laws.specs.Lists.{writtenOver, writtenAt}
 use Rattle.laws.specs.Octets.{octetsOf}
 use Rattle.parts.specs.declared.setup.Setup.{Setup}
 use Rattle.defects.specs.Crc.{crcOf}
-use Rattle.defects.specs.Defect.{defectOctets, listOctets}
+use Rattle.defects.specs.Defect.{listOctets}
 use Rattle.defects.specs.Field.{slots}
 use Rattle.defects.specs.Place.{fieldOctets}
 use Rattle.defects.specs.Encoding.{Value, defectsOfSet, frontOctets, bodyOctets, dataField}
 use Rattle.defects.specs.EncodeSteps.{finished, blankField}
-use Rattle.defects.specs.declared.defect.Defect.{Defect}
-use Rattle.defects.proofs.DefectOctets.{length-defect-octets}
+use Rattle.defects.proofs.DefectOctets.{length-list}
 
 -- ---- from zeros
 
@@ -56,34 +55,32 @@ over-zeros size front entries e h =
 
 -- ---- its length
 
-length-entries : (defects : List Defect) → length (listOctets defects) ≡ 12 * length defects
-length-entries [] = refl
-length-entries (d ∷ defects) = omega (arith, length-append (defectOctets d) (listOctets defects), length-defect-octets d, length-entries defects)
+module _ (s : Setup) (v : Value) (number : ℕ) where
+  pub few-entries : length (defectsOfSet s v number) ≤ slots (fieldOctets s)
+  few-entries = omega (arith, length-take (slots (fieldOctets s)) (drop (number * slots (fieldOctets s)) (v .defects)))
 
-pub entries-fit : (s : Setup) (v : Value) (number : ℕ) → 16 ≤ fieldOctets s → 16 + length (listOctets (defectsOfSet s v number)) ≤ fieldOctets s
-entries-fit s v number h =
-    let each = slots (fieldOctets s) in
-    omega (arith, length-entries (defectsOfSet s v number), length-take each (drop (number * each) (v .defects)))
+  pub entries-fit : 8 ≤ s .field1 → 16 + length (listOctets (defectsOfSet s v number)) ≤ fieldOctets s
+  entries-fit h = omega (arith, length-list (defectsOfSet s v number), few-entries)
 
-pub length-front : (s : Setup) (v : Value) (number copy : ℕ) → length (frontOctets s v number copy) ≡ 14
-unfolding frontOctets
-length-front s v number copy = refl
+  pub length-front : (copy : ℕ) → length (frontOctets s v number copy) ≡ 14
+  unfolding frontOctets
+  length-front copy = refl
 
-length-body : (s : Setup) (v : Value) (number copy : ℕ) → 16 ≤ fieldOctets s → length (bodyOctets s v number copy) ≡ fieldOctets s - 2
-unfolding bodyOctets frontOctets
-length-body s v number copy h =
-    let entries = listOctets (defectsOfSet s v number) in
-    let left = fieldOctets s - 16 - length entries in
-    omega (arith, entries-fit s v number h, length-append entries (replicate left 0), length-replicate {A = ℕ} left 0)
+  pub length-body : (copy : ℕ) → 8 ≤ s .field1 → length (bodyOctets s v number copy) ≡ fieldOctets s - 2
+  unfolding bodyOctets frontOctets
+  length-body copy h =
+      let entries = listOctets (defectsOfSet s v number) in
+      let left = fieldOctets s - 16 - length entries in
+      omega (arith, entries-fit h, length-append entries (replicate left 0), length-replicate {A = ℕ} left 0)
 
-pub length-field : (s : Setup) (v : Value) (number copy : ℕ) → 16 ≤ fieldOctets s → length (dataField s v number copy) ≡ fieldOctets s
-unfolding dataField
-length-field s v number copy h = let body = bodyOctets s v number copy in omega (arith, length-append body (octetsOf 2 (crcOf body)), length-body s v number copy h)
+  pub length-field : (copy : ℕ) → 8 ≤ s .field1 → length (dataField s v number copy) ≡ fieldOctets s
+  unfolding dataField
+  length-field copy h = let body = bodyOctets s v number copy in omega (arith, length-append body (octetsOf 2 (crcOf body)), length-body copy h)
 
 -- ---- the copies
 
 -- a body with another number of its copy
-renumbered : (s : Setup) (v : Value) (number copy other : ℕ) → set (bodyOctets s v number copy) 3 other ≡ bodyOctets s v number other
+pub renumbered : (s : Setup) (v : Value) (number copy other : ℕ) → set (bodyOctets s v number copy) 3 other ≡ bodyOctets s v number other
 unfolding bodyOctets frontOctets
 renumbered s v number copy other = refl
 

@@ -2,7 +2,7 @@
 -- Assumes nothing.
 use Prim.Native.Nat.{ℕ, _*_, _/_, _%_, _≤_}
 use mathlib.Core.Path.{_≡_, refl, sym, _∙_}
-use mathlib.Core.Bool.{Bool, true, false, not, _||_}
+use mathlib.Core.Bool.{true, false, not, _||_}
 use mathlib.Core.List.{List}
 use native.Mathlib.Omega.{arith}
 use borrow.Author.Tests.{ltb-false, eqb-true, not-false}
@@ -12,7 +12,6 @@ use lib.Seq.{take-at}
 use Rattle.laws.specs.Pick.{pick}
 use Rattle.laws.specs.Lists.{writtenOver}
 use Rattle.laws.specs.Octets.{AllOctets}
-use Rattle.laws.proofs.Differ.{never}
 use Rattle.laws.proofs.Rows.{none-given, accepted}
 use Rattle.laws.proofs.Tests.{or-l, or-r}
 use Rattle.parts.specs.Setup.{withinLimits}
@@ -29,31 +28,22 @@ use Rattle.defects.specs.declared.decoding.MapRead.{MapRead}
 use Rattle.defects.specs.declared.defect.Encoded.{Encoded}
 use Rattle.defects.specs.declared.encoding.MapEncoded.{MapEncoded}
 use Rattle.defects.specs.declared.offence.Offence.{Offence}
+use Rattle.defects.proofs.Answers.{accepted-map}
 use Rattle.defects.proofs.EncodableValue.{encodable}
 use Rattle.defects.proofs.EncodedMap.{length-map}
-use Rattle.defects.proofs.ListedDefects.{length-listed, all-fitting, same-octets}
+use Rattle.defects.proofs.Listed.{length-listed, all-fitting, same-octets}
 use Rattle.defects.proofs.OnTheCylinder.{on-the-cylinder}
 use Rattle.defects.proofs.RoundTrip.{map-round-trip}
 
--- an answer that is a map is no refusal
-no-offence : (o : Offence) (map : MapRead) (count cylinder head : ℕ)
-    → pick (o .found) (MapRead.Refused (o .number) (o .offset)) map ≡ MapRead.Map count cylinder head → o .found ≡ false
-unfolding pick
-no-offence o map count cylinder head e = by-found (o .found) e
-  where
-    by-found : (found : Bool) → pick found (MapRead.Refused (o .number) (o .offset)) map ≡ MapRead.Map count cylinder head → found ≡ false
-    by-found true e = absurd (never (cc))
-    by-found false e = refl
-
 -- ---- octets that list whole defects, and a storage track
 
-abbrev valueOf : ℕ → ℕ → List ℕ → Value
-valueOf cylinder head defects = record { cylinder = cylinder; head = head; defects = defectsListed defects }
+abbrev valueListed : ℕ → ℕ → List ℕ → Value
+valueListed cylinder head defects = record { cylinder = cylinder; head = head; defects = defectsListed defects }
 
 module _ (s : Setup) (cylinder head : ℕ) (defects : List ℕ) where
   -- what row 8 leaves
-  whole-defects : (not (eqb (length defects % 12) 0) || not (isEncodable s (valueOf cylinder head defects))) ≡ false
-      → (length defects % 12 ≡ 0) × (isEncodable s (valueOf cylinder head defects) ≡ true)
+  whole-defects : (not (eqb (length defects % 12) 0) || not (isEncodable s (valueListed cylinder head defects))) ≡ false
+      → (length defects % 12 ≡ 0) × (isEncodable s (valueListed cylinder head defects) ≡ true)
   whole-defects e = (eqb-true _ _ (not-false _ (or-l _ _ e)), not-false _ (or-r (not (eqb (length defects % 12) 0)) _ e))
 
   count : length (defectsListed defects) ≡ length defects / 12
@@ -62,19 +52,20 @@ module _ (s : Setup) (cylinder head : ℕ) (defects : List ℕ) where
   module _ (all : AllOctets defects) where
     -- what tells the value's map gives the octets back
     told-again : (o : Offence) (octets lent lent′ : List ℕ) (r : MapRead) → length defects % 12 ≡ 0
-        → (pick (o .found) (MapRead.Refused (o .number) (o .offset)) (mapOf s octets) ≡ tellsOf (valueOf cylinder head defects)) × (defectsOf s octets ≡ defectsListed defects)
+        → (pick (o .found) (MapRead.Refused (o .number) (o .offset)) (mapOf s octets) ≡ tellsOf (valueListed cylinder head defects)) × (defectsOf s octets ≡ defectsListed defects)
         → r ≡ pick (o .found) (MapRead.Refused (o .number) (o .offset)) (mapOf s octets)
         → lent′ ≡ pick (o .found) lent (writtenOver lent (listOctets (defectsOf s octets)))
         → (r ≡ MapRead.Map (length defects / 12) cylinder head) × (lent′ ≡ writtenOver lent defects)
     unfolding pick
     told-again o octets lent lent′ r whole (told, listed) answer slice =
-        (answer ∙ told ∙ rw count, slice ∙ rw (no-offence o (mapOf s octets) _ cylinder head told, listed, same-octets defects all whole))
+        let (free, is) = accepted-map o (mapOf s octets) (tellsOf (valueListed cylinder head defects)) (λ n offset e. cc) (sym told) in
+        (answer ∙ told ∙ rw count, slice ∙ rw (free, listed, same-octets defects all whole))
 
     decoded-again : (before after lent lent′ : List ℕ) (size : ℕ) (r : MapRead) → EncodedMap s cylinder head defects before after (MapEncoded.Written size)
         → size / 3 ≤ length lent → DecodedMap s (take size after) lent lent′ r
         → (r ≡ MapRead.Map (length defects / 12) cylinder head) × (lent′ ≡ writtenOver lent defects)
     decoded-again before after lent lent′ size r e room d =
-        let v = valueOf cylinder head defects in
+        let v = valueListed cylinder head defects in
         let octets = mapOctets s v in
         let rows = encodeRows s cylinder head defects (length before) in
         let made = MapEncoded.Written (mapLength s (length defects / 12)) in
@@ -95,7 +86,7 @@ module _ (s : Setup) (cylinder head : ℕ) (defects : List ℕ) where
         → dataFields s * fieldOctets s / 3 ≤ length lent → ReadMap s after lent lent′ r
         → (r ≡ MapRead.Map (length defects / 12) cylinder head) × (lent′ ≡ writtenOver lent defects)
     read-again before after lent lent′ r e room d =
-        let v = valueOf cylinder head defects in
+        let v = valueListed cylinder head defects in
         let rows = writeRows s cylinder head defects before in
         let (is, passed) = accepted rows Encoded.Refused Encoded.Written Encoded.Written refl (λ n e. cc) (e .answer) in
         let (limits, (long, (fit, end))) = passed in

@@ -2,11 +2,11 @@
 -- Assumes nothing.
 use Prim.Native.Nat.{ℕ, zero, suc, _+_, _-_, _<_, _≤_}
 use mathlib.Core.Path.{_≡_, refl, sym, ap, _∙_}
-use mathlib.Core.Bool.{Bool, true, false, _&&_, false≢true}
+use mathlib.Core.Bool.{Bool, true, false, false≢true}
 use mathlib.Core.List.{List}
 use native.Mathlib.Nat.{le-refl}
 use native.Mathlib.Omega.{arith}
-use borrow.Author.Tests.{eqb-true, ne-eqb}
+use borrow.Author.Tests.{eqb-true}
 use lib.Dec.{eqb}
 use Rattle.laws.specs.Pick.{pick}
 use Rattle.laws.proofs.Tests.{and-l, and-r}
@@ -14,35 +14,13 @@ use Rattle.parts.specs.declared.setup.Setup.{Setup}
 use Rattle.defects.specs.Offence.{firstOf}
 use Rattle.defects.specs.Field.{frontOf, isIgnored}
 use Rattle.defects.specs.Place.{dataFields}
-use Rattle.defects.specs.Walk.{isEnded, afterOriginal, afterCopy, after, fieldAt, walkAt, isOriginal, mapTests}
+use Rattle.defects.specs.Walk.{isEnded, afterOriginal, afterCopy, fieldAt, walkAt, isOriginal, mapTests}
 use Rattle.defects.specs.Copies.{CopyOf, ThreeTimes, ToldAlike, Copies}
 use Rattle.defects.specs.declared.walk.Walk.{Walk}
-use Rattle.defects.proofs.Standing.{Standing, Remembered, at-outset, in-set, behind-set, standing, begins-set, next-step}
+use Rattle.defects.proofs.WalkSteps.{begins-set, next-step, going-on, past-ignored, past-original, past-copy}
+use Rattle.defects.proofs.Standing.{Standing, Remembered, at-outset, in-set, behind-set, standing}
 use Rattle.defects.proofs.Decoded.{Begun}
 use Rattle.defects.proofs.Accepted.{length-field, whole, ended, original-at, copy-at}
-
--- between the copies of a set the map has not ended
-pub going-on : (w : Walk) → (w .copy ≡ 0 → ⊥) → isEnded w ≡ false
-going-on w other = rw (ne-eqb (w .copy) 0 other) (never (w .last))
-  where
-    never : (last : Bool) → (last && false) ≡ false
-    never true = refl
-    never false = refl
-
-module _ (s : Setup) (octets : List ℕ) where
-  -- the walk past a data field that is ignored, that begins a set, and that is another copy
-  past-ignored : (k : ℕ) → isEnded (walkAt s octets k) ≡ false → isIgnored (fieldAt s octets k) ≡ true → walkAt s octets (suc k) ≡ walkAt s octets k
-  unfolding walkAt after pick
-  past-ignored k going ignored = rw (going, ignored)
-
-  pub past-original : (k : ℕ) → isOriginal (walkAt s octets k) (fieldAt s octets k) ≡ true
-      → walkAt s octets (suc k) ≡ afterOriginal (walkAt s octets k) k (frontOf (fieldAt s octets k))
-  unfolding walkAt after pick
-  past-original k begins = let (going, heard, first) = begins-set (walkAt s octets k) (fieldAt s octets k) begins in rw (going, heard, first)
-
-  pub past-copy : (k : ℕ) → isIgnored (fieldAt s octets k) ≡ false → (walkAt s octets k .copy ≡ 0 → ⊥) → walkAt s octets (suc k) ≡ afterCopy (walkAt s octets k)
-  unfolding walkAt after pick
-  past-copy k heard other = rw (going-on (walkAt s octets k) other, heard, ne-eqb (walkAt s octets k .copy) 0 other)
 
 -- the next data field that is not ignored: the same is due there
 record NextHeard (s : Setup) (octets : List ℕ) (j : ℕ) (w : Walk) : Type 0 where

@@ -3,26 +3,25 @@
 use Prim.Native.Nat.{ℕ, zero, suc, _+_, _-_, _*_, _/_, _≤_, _<_}
 use mathlib.Core.Path.{_≡_, refl, sym, ap, _∙_}
 use mathlib.Core.Bool.{Bool, true, false}
-use mathlib.Core.List.{List, [], _∷_, _++_, append-nil}
-use native.Mathlib.Nat.{suc-mul, add-zero, add-suc, mul-le-mul-right}
+use mathlib.Core.List.{List, [], _∷_, _++_}
+use native.Mathlib.Nat.{suc-mul, mul-le-mul-right}
 use native.Mathlib.Omega.{arith}
 use borrow.Author.Tests.{le-ltb, ltb-true, ltb-false, eqb-false}
-use lib.Dec.{eqb, ltb}
+use lib.Dec.{ltb}
 use lib.ListN.{length, take, drop}
 use lib.Seq.{length-take-le, take-add, take-take, drop-at}
 use Rattle.laws.specs.Pick.{pick}
-use Rattle.laws.proofs.Pick.{either}
 use Rattle.parts.specs.declared.setup.Setup.{Setup}
 use Rattle.defects.specs.Offence.{Test, noOffence, offenceAt, firstOf}
-use Rattle.defects.specs.Field.{isIgnored}
 use Rattle.defects.specs.Place.{fieldOctets, dataFields}
-use Rattle.defects.specs.Walk.{isEnded, after, fieldAt, walkAt, defectsBefore, testsFrom, mapTests}
+use Rattle.defects.specs.Walk.{isEnded, fieldAt, walkAt, defectsBefore, testsFrom, mapTests}
 use Rattle.defects.specs.Decoding.{decodeOffence, defectsOf, mapOf}
 use Rattle.defects.specs.declared.offence.Offence.{Offence}
-use Rattle.defects.specs.declared.walk.Walk.{Walk}
-use Rattle.defects.proofs.Offences.{found}
-use Rattle.defects.proofs.Passing.{Passed, none-found, both-passed}
-use Rattle.defects.proofs.ReadIsDecode.{Others, dueTests, due-others, tests-going, tests-ended, none-behind}
+use Rattle.defects.proofs.WalkSteps.{ended-stays, defects-stay}
+use Rattle.defects.proofs.TestsAt.{dueTests, tests-going, tests-ended, none-behind}
+use Rattle.defects.proofs.Thirds.{counted}
+use Rattle.defects.proofs.Offences.{All, Passed, none-found, both, found}
+use Rattle.defects.proofs.ReadIsDecode.{Others, due-others}
 
 -- ---- where the map ends
 
@@ -30,14 +29,14 @@ use Rattle.defects.proofs.ReadIsDecode.{Others, dueTests, due-others, t
 behind-passed : {tests : List Test} (rest : List Test) (offset : ℕ) → Others tests → firstOf (tests ++ rest) ≡ offenceAt 28 offset
     → Passed tests × (firstOf rest ≡ offenceAt 28 offset)
 unfolding firstOf pick
-behind-passed rest offset Others.end e = (Passed.end, e)
-behind-passed rest offset (Others.next {test = test} {tests = tests} h p) e = by-test (test .holds) refl e (behind-passed rest offset p)
+behind-passed rest offset All.end e = (All.end, e)
+behind-passed rest offset (All.next {test = test} {tests = tests} h p) e = by-test (test .holds) refl e (behind-passed rest offset p)
   where
     by-test : (holds : Bool) → test .holds ≡ holds → pick holds (offenceAt (test .number) (test .offset)) (firstOf (tests ++ rest)) ≡ offenceAt 28 offset
         → (firstOf (tests ++ rest) ≡ offenceAt 28 offset → Passed tests × (firstOf rest ≡ offenceAt 28 offset))
         → Passed (test ∷ tests) × (firstOf rest ≡ offenceAt 28 offset)
     by-test true t e below = absurd (eqb-false (test .number) 28 h (ap (λ (o : Offence). o .number) e))
-    by-test false t e below = let (passed, behind) = below e in (Passed.next t passed, behind)
+    by-test false t e below = let (passed, behind) = below e in (All.next t passed, behind)
 
 -- so many data fields on, the map ends at this offset
 data Ends (s : Setup) (octets : List ℕ) (offset : ℕ) : ℕ → ℕ → Type 0 where
@@ -73,27 +72,6 @@ window-kept list n at size h l =
     let sum : n ≡ at + m = omega arith in
     rw (sum, take-add at m list, drop-at (take at list) (take m (drop at list)) at (length-take-le at list (omega arith))) (take-take size m (drop at list) (omega arith))
 
--- copy 0 of a set is one of the data fields up to here
-original-before : (s : Setup) (octets : List ℕ) (k : ℕ) → walkAt s octets k .original ≤ k
-unfolding walkAt after
-original-before s octets zero = omega arith
-original-before s octets (suc k) =
-    let earlier : walkAt s octets k .original ≤ suc k = omega (arith, original-before s octets k) in
-    let before : Walk → Type 0 = λ w. w .original ≤ suc k in
-    either before (isEnded (walkAt s octets k)) earlier
-    (either before (isIgnored (fieldAt s octets k)) earlier (either before (eqb (walkAt s octets k .copy) 0) (omega arith) earlier))
-
--- behind the map's end nothing changes
-ended-stays : (s : Setup) (octets : List ℕ) (k n : ℕ) → isEnded (walkAt s octets k) ≡ true → walkAt s octets (k + n) ≡ walkAt s octets k
-unfolding walkAt pick
-ended-stays s octets k zero e = rw add-zero
-ended-stays s octets k (suc n) e = rw (add-suc, ended-stays s octets k n e, e)
-
-defects-stay : (s : Setup) (octets : List ℕ) (k n : ℕ) → isEnded (walkAt s octets k) ≡ true → defectsBefore s octets (k + n) ≡ defectsBefore s octets k
-unfolding defectsBefore pick
-defects-stay s octets k zero e = rw add-zero
-defects-stay s octets k (suc n) e = rw (add-suc, ended-stays s octets k n e, e, defects-stay s octets k n e) (append-nil (defectsBefore s octets k))
-
 record Same (s : Setup) (a b : List ℕ) (k : ℕ) : Type 0 where
   walk : walkAt s a k ≡ walkAt s b k
   listed : defectsBefore s a k ≡ defectsBefore s b k
@@ -124,7 +102,7 @@ module _ (s : Setup) (octets : List ℕ) (offset : ℕ) (within : offset ≤ len
   due-kept : (k : ℕ) → suc k * fieldOctets s ≤ offset → Same s cut octets k → dueTests s cut k ≡ dueTests s octets k
   due-kept k h same =
       let original = walkAt s octets k .original in
-      let earlier : suc original * fieldOctets s ≤ suc k * fieldOctets s = mul-le-mul-right (fieldOctets s) (omega (arith, original-before s octets k)) in
+      let earlier : suc original * fieldOctets s ≤ suc k * fieldOctets s = mul-le-mul-right (fieldOctets s) (omega (arith, counted s octets k .original)) in
       let end : k * fieldOctets s + fieldOctets s ≤ offset = omega (arith, suc-mul k (fieldOctets s)) in
       rw (
         same .walk,
@@ -145,19 +123,19 @@ module _ (s : Setup) (octets : List ℕ) (offset : ℕ) (within : offset ≤ len
   cut-passed total k (suc count) sum (later going passed on) same =
       let far = reaches on .0 in
       let (rest, at-end) = cut-passed total (suc k) count (omega arith) on (same-on k far same) in
-      (rw (tests-going true s cut k (rw (same .walk) going), due-kept k far same) (both-passed passed rest), at-end)
+      (rw (tests-going true s cut k (rw (same .walk) going), due-kept k far same) (both passed rest), at-end)
 
 -- ---- 9 and 10 are passed as before
 
 with-rows : {nine ten ten′ : Test} {tests : List Test} → Passed (nine ∷ ten ∷ []) → (ten .holds ≡ false → ten′ .holds ≡ false) → Passed tests
     → Passed (nine ∷ ten′ ∷ tests)
-with-rows (Passed.next h (Passed.next g Passed.end)) room p = Passed.next h (Passed.next (room g) p)
+with-rows (All.next h (All.next g All.end)) room p = All.next h (All.next (room g) p)
 
 pub cut-map : (s : Setup) (octets lent : List ℕ) (offset : ℕ) → decodeOffence s octets lent ≡ offenceAt 28 offset
     → let cut = take offset octets in (decodeOffence s cut lent ≡ noOffence) × (mapOf s cut ≡ mapOf s octets) × (defectsOf s cut ≡ defectsOf s octets)
 unfolding walkAt defectsBefore
 cut-map s octets lent offset e =
-    let (rows, map) = behind-passed (mapTests true s octets) offset (Others.next refl (Others.next refl Others.end)) e in
+    let (rows, map) = behind-passed (mapTests true s octets) offset (All.next refl (All.next refl All.end)) e in
     let end = ends s octets offset 0 (suc (dataFields s)) map in
     let within : offset ≤ length octets = omega (arith, reaches end .1) in
     let short = length-cut s octets offset within in

@@ -20,8 +20,9 @@ use Rattle.defects.specs.Encoding.{areListable, isListable}
 use Rattle.defects.specs.Decoded.{Decoded}
 use Rattle.defects.specs.declared.defect.Defect.{Defect}
 use Rattle.defects.specs.declared.walk.Walk.{Walk}
+use Rattle.defects.proofs.WalkSteps.{next-step}
 use Rattle.defects.proofs.PassedFields.{FrontPassed}
-use Rattle.defects.proofs.Standing.{Standing, at-outset, in-set, behind-set, standing, next-step}
+use Rattle.defects.proofs.Standing.{Standing, at-outset, in-set, behind-set, standing}
 use Rattle.defects.proofs.Accepted.{ended, original-at}
 
 listable-append : (s : Setup) (a b : List Defect) → areListable s a ≡ true → areListable s b ≡ true → areListable s (a ++ b) ≡ true

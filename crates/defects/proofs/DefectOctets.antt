@@ -1,33 +1,26 @@
--- A defect's octets and the defect undo each other, from any index on; the numbers that octets hold fit their width.
+-- A defect's octets and the defect undo each other, from any index on; the numbers that octets hold fit their width; how many octets defects have.
 -- Assumes nothing.
-use Prim.Native.Nat.{ℕ, suc, _+_, _*_, _^_, _<_, _≤_}
-use mathlib.Core.Path.{_≡_, refl, ap₂}
-use mathlib.Core.List.{List, [], _∷_, _++_}
-use native.Mathlib.Nat.{add-zero, lt-of-lt-of-le, pow-suc, pow-le-pow-right}
+use Prim.Native.Nat.{ℕ, _+_, _*_, _^_, _<_, _≤_}
+use mathlib.Core.Path.{_≡_, refl, sym, ap, ap₂, _∙_}
+use mathlib.Core.List.{List, [], _∷_, _++_, append-assoc}
+use native.Mathlib.Nat.{add-zero, lt-of-lt-of-le, pow-le-pow-right}
 use native.Mathlib.Omega.{arith}
-use lib.ListN.{length, take, drop, length-take, length-drop}
+use lib.ListN.{length, take, drop, length-append, length-take, length-drop}
 use lib.Seq.{length-take-le, take-add, drop-drop}
-use Rattle.laws.specs.Octets.{numberAfter, octetsOf, AllOctets}
-use Rattle.laws.proofs.Octets.{number-of-octets, octets-of-number, octets-taken, octets-dropped}
-use Rattle.defects.specs.Defect.{numberAt, defectAt, defectOctets}
+use Rattle.laws.specs.Octets.{octetsOf, AllOctets}
+use Rattle.laws.proofs.Octets.{number-fits, number-of-octets, octets-of-number, octets-taken, octets-dropped}
+use Rattle.defects.specs.Defect.{numberAt, defectAt, defectOctets, listOctets}
 use Rattle.defects.specs.DefectRoundTrip.{Fitting}
 use Rattle.defects.specs.declared.defect.Defect.{Defect}
 
 -- ---- numbers of octets fit
 
-number-after-fits : (before width : ℕ) (octets : List ℕ) → before < 256 ^ width → AllOctets octets → numberAfter before octets < 256 ^ (width + length octets)
-number-after-fits before width [] h all = rw add-zero h
-number-after-fits before width (x ∷ octets) h all =
-    let e : width + suc (length octets) ≡ suc width + length octets = omega arith in
-    rw e (number-after-fits (before * 256 + x) (suc width) octets (rw pow-suc (omega (arith, all 0))) (λ i. all (suc i)))
-
-pub number-at-fits : (width at : ℕ) (octets : List ℕ) → AllOctets octets → numberAt width at octets < 256 ^ width
+number-at-fits : (width at : ℕ) (octets : List ℕ) → AllOctets octets → numberAt width at octets < 256 ^ width
 unfolding numberAt
 number-at-fits width at octets all =
     let list = take width (drop at octets) in
     let short : length list ≤ width = simp length-take (omega arith) in
-    lt-of-lt-of-le (number-after-fits 0 0 list (omega arith) (octets-taken width (drop at octets) (octets-dropped at octets all)))
-    (pow-le-pow-right (omega arith) (omega arith))
+    lt-of-lt-of-le (number-fits list (octets-taken width (drop at octets) (octets-dropped at octets all))) (pow-le-pow-right (omega arith) short)
 
 pub defect-fits : (at : ℕ) (octets : List ℕ) → AllOctets octets → Fitting (defectAt at octets)
 defect-fits at octets all =
@@ -43,6 +36,14 @@ defect-fits at octets all =
 pub length-defect-octets : (d : Defect) → length (defectOctets d) ≡ 12
 unfolding defectOctets
 length-defect-octets d = refl
+
+pub length-list : (defects : List Defect) → length (listOctets defects) ≡ 12 * length defects
+length-list [] = refl
+length-list (d ∷ defects) = omega (arith, length-append (defectOctets d) (listOctets defects), length-defect-octets d, length-list defects)
+
+pub list-append : (a b : List Defect) → listOctets (a ++ b) ≡ listOctets a ++ listOctets b
+list-append [] b = refl
+list-append (d ∷ a) b = ap (λ (rest : List ℕ). defectOctets d ++ rest) (list-append a b) ∙ sym (append-assoc (defectOctets d) (listOctets a) (listOctets b))
 
 pub defect-at-drop : (at : ℕ) (octets : List ℕ) → defectAt at octets ≡ defectAt 0 (drop at octets)
 unfolding numberAt

@@ -1,16 +1,12 @@
 -- What makes a value encodable, taken apart: the numbers fit, the sets hold all defects, and the last cylinder has data fields for them.
 -- Assumes nothing.
-use Prim.Native.Nat.{ℕ, zero, suc, _+_, _-_, _*_, _/_, _≤_, _<_, max}
+use Prim.Native.Nat.{ℕ, zero, suc, _*_, _≤_, _<_}
 use mathlib.Core.Path.{_≡_}
-use mathlib.Core.Bool.{true, false, _||_}
+use mathlib.Core.Bool.{true, false}
 use mathlib.Core.List.{List, [], _∷_}
-use native.Mathlib.Nat.{le-trans, lt-div-mul-add, mul-le-mul, mul-le-mul-right, le-max-left, le-max-right}
 use native.Mathlib.Omega.{arith}
-use borrow.Author.Tests.{le-ltb, ltb-true, ltb-false, leb-true, eqb-true, eqb-false, not-true}
-use lib.Dec.{eqb, ltb}
+use borrow.Author.Tests.{ltb-true, leb-true, not-true}
 use lib.ListN.{length, take, drop}
-use Rattle.laws.specs.Pick.{pick}
-use Rattle.laws.proofs.Pick.{either, cases}
 use Rattle.laws.proofs.Tests.{and-l, and-r}
 use Rattle.parts.specs.Setup.{withinLimits}
 use Rattle.parts.specs.declared.setup.Setup.{Setup}
@@ -22,6 +18,8 @@ use Rattle.defects.specs.Place.{fieldOctets, dataFields}
 use Rattle.defects.specs.Encoding.{Value, setsFor, isListable, areListable, fits, isEncodable}
 use Rattle.defects.specs.RoundTrip.{AllFitting}
 use Rattle.defects.specs.declared.defect.Defect.{Defect}
+use Rattle.defects.proofs.Fields.{some-field, few-fields}
+use Rattle.defects.proofs.SetsFor.{some-set, sets-hold}
 
 -- ---- the entries
 
@@ -65,39 +63,6 @@ entries-dropped s (suc n) (d ∷ defects) e = entries-dropped s n defects (e .1)
 abbrev pub sets : Setup → Value → ℕ
 sets s v = setsFor s (length (v .defects))
 
-some-set : (s : Setup) (count : ℕ) → 1 ≤ setsFor s count
-unfolding setsFor
-some-set s count =
-    let each = slots (fieldOctets s) in
-    either (λ (n : ℕ). 1 ≤ n) (eqb each 0) (omega arith) (le-max-left 1 ((count + each - 1) / each))
-
--- rounded up, so that none is left over
-held : (count each : ℕ) → (ltb 0 each || eqb count 0) ≡ true → count ≤ pick (eqb each 0) 1 (max 1 ((count + each - 1) / each)) * each
-held count each e =
-    cases (λ (n : ℕ). count ≤ n * each) (eqb each 0)
-    (λ none. let z = eqb-true each 0 none in
-    let no-defect : eqb count 0 ≡ true = rw (le-ltb 0 each (omega arith)) at e in
-    omega (arith, eqb-true count 0 no-defect))
-    (λ some. let positive : 0 < each = omega (arith, eqb-false each 0 some) in
-    let quotient = (count + each - 1) / each in
-    let enough : count ≤ quotient * each = omega (arith, lt-div-mul-add {a = count + each - 1} positive) in
-    le-trans enough (mul-le-mul-right each (le-max-right 1 quotient)))
-
-sets-hold : (s : Setup) (count : ℕ) → fits s count ≡ true → count ≤ setsFor s count * slots (fieldOctets s)
-unfolding setsFor fits
-sets-hold s count e = held count (slots (fieldOctets s)) (search (and-l, and-r))
-
--- ---- the data fields
-
-few-fields : (s : Setup) → Limits s → dataFields s ≤ 8192
-unfolding dataFields
-few-fields s l = either (λ (n : ℕ). n ≤ 8192) (ltb (s .field1) 8) (omega arith) (mul-le-mul (l .heads) (l .sectors))
-
-some-field : (s : Setup) → 1 ≤ dataFields s → 8 ≤ s .field1
-unfolding dataFields
-some-field s =
-    cases (λ (n : ℕ). 1 ≤ n → 8 ≤ s .field1) (ltb (s .field1) 8) (λ short h. absurd (omega arith)) (λ long h. ltb-false (s .field1) 8 long)
-
 -- ---- the value
 
 pub record Encodable (s : Setup) (v : Value) : Type 0 where
@@ -119,7 +84,7 @@ encodable s v w e f =
     let one = some-set s (length (v .defects)) in
     record {
       limits = l;
-      field1 = some-field s (omega arith);
+      field1 = some-field s 0 (omega arith);
       cylinder = ltb-true (v .cylinder) (s .cylinders) (search (and-l, and-r));
       head = ltb-true (v .head) (s .heads) (search (and-l, and-r));
       entries = entries s (v .defects) f (search (and-l, and-r));

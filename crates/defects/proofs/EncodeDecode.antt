@@ -1,43 +1,44 @@
 -- `specs/Plain` proved: what an encoding gives is in the plain spelling, and so is every decoded map that encodes to itself.
 -- Assumes nothing.
-use Prim.Native.Nat.{ℕ, zero, suc, _+_, _-_, _*_, _/_, _%_, _<_, _≤_, max}
+use Prim.Native.Nat.{ℕ, zero, suc, _+_, _-_, _*_, _/_, _%_, _<_, _≤_}
 use mathlib.Core.Path.{_≡_, refl, sym, ap, _∙_}
 use mathlib.Core.Bool.{Bool, true, false, true≢false}
-use mathlib.Core.List.{List, [], _∷_, _++_, append-nil}
+use mathlib.Core.List.{List, [], _∷_, _++_}
 use mathlib.Core.Logic.{_↔_}
-use native.Mathlib.Nat.{add-zero, le-div-iff-mul-le}
+use native.Mathlib.Nat.{add-zero}
 use native.Mathlib.Omega.{arith}
 use borrow.Author.Tests.{eqb-true, eqb-false, ltb-true, ltb-false}
 use lib.Dec.{eqb, ltb}
 use lib.ListN.{length, take, drop, length-take, length-drop}
 use lib.Seq.{length-take-le}
-use Rattle.laws.specs.Pick.{pick}
 use Rattle.laws.specs.Octets.{AllOctets}
 use Rattle.laws.proofs.Pick.{cases}
 use Rattle.parts.specs.Setup.{withinLimits}
 use Rattle.parts.specs.declared.setup.Setup.{Setup}
 use Rattle.defects.specs.Offence.{firstOf}
-use Rattle.defects.specs.Defect.{defectAt, isBlank, behindAll}
+use Rattle.defects.specs.Defect.{behindAll}
 use Rattle.defects.specs.Field.{frontOf, isLast, isIgnored, slots, defectsFrom, defectsIn}
 use Rattle.defects.specs.Place.{fieldOctets, dataFields}
 use Rattle.defects.specs.Walk.{isEnded, fieldAt, walkAt, isOriginal, defectsBefore, mapTests}
 use Rattle.defects.specs.Decoding.{DecodedMap}
-use Rattle.defects.specs.Encoding.{Value, setsFor, defectsOfSet, defectsBeforeSet, isUnordered, dataField, mapOctets, mapLength, EncodedMap}
+use Rattle.defects.specs.Encoding.{Value, defectsOfSet, defectsBeforeSet, isUnordered, dataField, mapOctets, mapLength, EncodedMap}
 use Rattle.defects.specs.RoundTrip.{AllFitting}
 use Rattle.defects.specs.Plain.{valueOf, PlainSet, Plain, EncodeDecode}
 use Rattle.defects.specs.declared.defect.Defect.{Defect}
 use Rattle.defects.specs.declared.walk.Walk.{Walk}
 use Rattle.defects.specs.declared.decoding.MapRead.{MapRead}
 use Rattle.defects.specs.declared.encoding.MapEncoded.{MapEncoded}
-use Rattle.defects.proofs.DefectOctets.{defect-fits}
-use Rattle.defects.proofs.Standing.{begins-set}
+use Rattle.defects.proofs.EntriesLeft.{entries-listed}
+use Rattle.defects.proofs.Listed.{all-fitting}
+use Rattle.defects.proofs.WalkSteps.{begins-set}
 use Rattle.defects.proofs.DecodedValue.{value-encodable}
+use Rattle.defects.proofs.SetsFor.{begun-before}
 use Rattle.defects.proofs.EncodableValue.{sets, Encodable, encodable}
 use Rattle.defects.proofs.EncodedField.{front-written, defects-written}
-use Rattle.defects.proofs.EncodedMap.{Begins, map-begins}
+use Rattle.defects.proofs.EncodedMap.{Begins, map-alone}
 use Rattle.defects.proofs.EncodedWalk.{set-due, original-due, is-ended, last-told, not-ignored, original-at, at-original, at-second, at-third, behind-end}
 use Rattle.defects.proofs.EncodedTests.{flagged-told}
-use Rattle.defects.proofs.PlainField.{field-octets}
+use Rattle.defects.proofs.Fields.{field-octets}
 use Rattle.defects.proofs.PlainCalls.{told, encoded-value}
 use Rattle.defects.proofs.PlainSpelling.{plain-spelling}
 
@@ -48,9 +49,7 @@ fitting-append [] b p q = q
 fitting-append (d ∷ a) b p q = (p .0, fitting-append a b (p .1) q)
 
 fitting-from : (field : List ℕ) → AllOctets field → (i left : ℕ) → AllFitting (defectsFrom field i left)
-unfolding defectsFrom
-fitting-from field all i zero = tt
-fitting-from field all i (suc left) = cases AllFitting (isBlank (defectAt i field)) (λ blank. tt) (λ solid. (defect-fits i field all, fitting-from field all (i + 12) left))
+fitting-from field all i left = rw (entries-listed field i left) (all-fitting field all i (length (defectsFrom field i left)))
 
 fitting-before : (s : Setup) (octets : List ℕ) → AllOctets octets → (k : ℕ) → AllFitting (defectsBefore s octets k)
 unfolding defectsBefore
@@ -62,30 +61,17 @@ fitting-before s octets all (suc k) =
 
 -- ---- the sets of a value
 
--- rounded up: one set more is begun only where this one is full
-below-sets : (each count set : ℕ) → suc set < pick (eqb each 0) 1 (max 1 ((count + each - 1) / each)) → (0 < each) × (suc set * each < count)
-below-sets each count set =
-    cases (λ (n : ℕ). suc set < n → (0 < each) × (suc set * each < count)) (eqb each 0) (λ none h. absurd (omega arith)) (λ other h.
-    let positive : 0 < each = omega (arith, eqb-false each 0 other) in
-    let quotient : suc (suc set) ≤ (count + each - 1) / each = omega arith in
-    let product = le-div-iff-mul-le positive .0 quotient in
-    (positive, omega arith))
-
 module _ (s : Setup) (v : Value) where
-  begun-before : (set : ℕ) → suc set < sets s v → (0 < slots (fieldOctets s)) × (suc set * slots (fieldOctets s) < length (v .defects))
-  unfolding setsFor
-  begun-before set = below-sets (slots (fieldOctets s)) (length (v .defects)) set
-
   full-set : (set : ℕ) → suc set < sets s v → length (defectsOfSet s v set) ≡ slots (fieldOctets s)
   full-set set h =
-      let (some, more) = begun-before set h in
+      let (some, more) = begun-before s (length (v .defects)) set h in
       let behind = drop (set * slots (fieldOctets s)) (v .defects) in
       length-take-le (slots (fieldOctets s)) behind (simp length-drop (omega arith))
 
   some-in-set : (set : ℕ) → set < sets s v → 0 < set → 0 < length (defectsOfSet s v set)
   some-in-set zero h positive = absurd (omega arith)
   some-in-set (suc set) h positive =
-      let (some, more) = begun-before set h in
+      let (some, more) = begun-before s (length (v .defects)) set h in
       simp (length-take, length-drop) (omega arith)
 
 -- ---- a map that is its value's encoding
@@ -152,7 +138,7 @@ module _ (s : Setup) (octets : List ℕ) (w : withinLimits s ≡ true) (all : Al
   value-can = encodable s (valueOf s octets) w (value-encodable true s octets accepted) (fitting-before s octets all (dataFields s))
 
   encodes-to-itself : mapOctets s (valueOf s octets) ≡ octets → Plain s octets
-  encodes-to-itself same = is-plain s (valueOf s octets) value-can octets (rw (append-nil, same) at (map-begins s (valueOf s octets) (value-can .field1) []))
+  encodes-to-itself same = is-plain s (valueOf s octets) value-can octets (rw same at (map-alone s (valueOf s octets) (value-can .field1)))
 
   both-ways : mapOctets s (valueOf s octets) ≡ octets ↔ Plain s octets
   both-ways = (encodes-to-itself, λ plain. plain-spelling s octets accepted plain all)

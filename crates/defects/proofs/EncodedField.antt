@@ -5,8 +5,7 @@ use mathlib.Core.Path.{_≡_, refl, sym, ap, _∙_}
 use mathlib.Core.Bool.{true, false}
 use mathlib.Core.List.{List, [], _∷_, _++_, append-assoc}
 use native.Mathlib.Omega.{arith}
-use lib.ListN.{length, getD, take, drop, replicate, length-append, length-take, length-replicate, getD-replicate, replicate-append-replicate, List·getD-append}
-use lib.ListN.{set as stored}
+use lib.ListN.{length, getD, take, replicate, length-append, getD-replicate, replicate-append-replicate, List·getD-append}
 use lib.Seq.{take-at, drop-at, getD-append-add, getD-set-other}
 use Rattle.laws.specs.Pick.{pick}
 use Rattle.laws.specs.Octets.{numberOf, octetsOf}
@@ -21,7 +20,8 @@ use Rattle.defects.specs.Encoding.{Value, defectsOfSet, setFlags, frontO
 use Rattle.defects.specs.declared.defect.Defect.{Defect}
 use Rattle.defects.specs.declared.front.Front.{Front}
 use Rattle.defects.proofs.CrcLaws.{fits}
-use Rattle.defects.proofs.DefectOctets.{length-defect-octets, defect-at-drop, defect-of-octets}
+use Rattle.defects.proofs.DefectOctets.{length-defect-octets, length-list, defect-at-drop, defect-of-octets}
+use Rattle.defects.proofs.Bodies.{few-entries, length-front, length-body, length-field, renumbered}
 use Rattle.defects.proofs.EncodableValue.{AllEntries, sets, Encodable, entries-taken, entries-dropped}
 
 abbrev zeros : ℕ → List ℕ
@@ -52,11 +52,6 @@ no-entry : (x : Defect) (rest : List Defect) → isBlank x ≡ true → pick (is
 unfolding pick
 no-entry x rest b = rw b
 
-pub length-list-octets : (defects : List Defect) → length (listOctets defects) ≡ 12 * length defects
-length-list-octets [] = refl
-length-list-octets (d ∷ defects) =
-    omega (arith, length-append (defectOctets d) (listOctets defects), length-defect-octets d, length-list-octets defects)
-
 entries-read : (s : Setup) (defects : List Defect) (left at count : ℕ) (front rest : List ℕ)
     → length front ≡ at → AllEntries s defects → length defects ≤ left → 12 * left ≤ 12 * length defects + count
     → defectsFrom (front ++ (listOctets defects ++ (zeros count ++ rest))) at left ≡ defects
@@ -84,24 +79,6 @@ crc-read body =
     ∙ number-of-octets 2 (crcOf body) (fits body)
     ∙ ap crcOf (sym (take-at body crc (length field - 2) end))
 
--- ---- how long its parts are
-
-length-front : (s : Setup) (v : Value) (set copy : ℕ) → length (frontOctets s v set copy) ≡ 14
-unfolding frontOctets
-length-front s v set copy = refl
-
-pub few-entries : (s : Setup) (v : Value) (set : ℕ) → length (defectsOfSet s v set) ≤ slots (fieldOctets s)
-few-entries s v set = omega (arith, length-take (slots (fieldOctets s)) (drop (set * slots (fieldOctets s)) (v .defects)))
-
-module _ (s : Setup) (v : Value) (set copy : ℕ) where
-  pub length-body : 8 ≤ s .field1 → length (bodyOctets s v set copy) ≡ fieldOctets s - 2
-  unfolding bodyOctets
-  length-body h = simp (length-append, length-replicate, length-list-octets, length-front) (omega (arith, few-entries s v set))
-
-  pub length-field : 8 ≤ s .field1 → length (dataField s v set copy) ≡ fieldOctets s
-  unfolding dataField
-  length-field h = simp (length-append, length-body) (omega arith)
-
 -- ---- what is read off it
 
 -- what is written in front
@@ -124,10 +101,6 @@ set-entries s v e set = entries-taken s (slots (fieldOctets s)) _ (entries-dropp
 pub copy-told : (s : Setup) (v : Value) (set copy : ℕ) → getD (dataField s v set copy) 3 0 ≡ copy
 unfolding dataField bodyOctets frontOctets
 copy-told s v set copy = refl
-
-pub body-of-copy : (s : Setup) (v : Value) (set copy : ℕ) → bodyOctets s v set copy ≡ stored (bodyOctets s v set 0) 3 copy
-unfolding bodyOctets frontOctets
-body-of-copy s v set copy = refl
 
 pub crc-written : (s : Setup) (v : Value) (set copy : ℕ) → let field = dataField s v set copy in crcIn field ≡ crcOf (take (length field - 2) field)
 unfolding dataField
@@ -157,7 +130,7 @@ module _ (s : Setup) (v : Value) (e : Encodable s v) (set copy : ℕ) where
       let crc = octetsOf 2 (crcOf (bodyOctets s v set copy)) in
       rw (length-field s v set copy (e .field1), append-assoc (front ++ listOctets defects) padding crc, append-assoc front (listOctets defects) (padding ++ crc))
       (entries-read s defects (slots (fieldOctets s)) 14 (fieldOctets s - 16 - length (listOctets defects)) front crc
-      (length-front s v set copy) (set-entries s v e set) (few-entries s v set) (omega (arith, few-entries s v set, length-list-octets defects)))
+      (length-front s v set copy) (set-entries s v e set) (few-entries s v set) (omega (arith, few-entries s v set, length-list defects)))
 
   in-body : (i : ℕ) → i < fieldOctets s - 2 → getD (dataField s v set copy) i 0 ≡ getD (bodyOctets s v set copy) i 0
   unfolding dataField
@@ -169,17 +142,17 @@ module _ (s : Setup) (v : Value) (e : Encodable s v) (set copy : ℕ) where
       let defects = defectsOfSet s v set in
       let written = frontOctets s v set copy ++ listOctets defects in
       let count = fieldOctets s - 16 - length (listOctets defects) in
-      let long : length written ≡ 14 + 12 * length defects = simp (length-append, length-front, length-list-octets) in
+      let long : length written ≡ 14 + 12 * length defects = simp (length-append, length-front, length-list) in
       let at : length written + (i - length written) ≡ i = omega arith in
       in-body i l
       ∙ ap (λ (j : ℕ). getD (written ++ zeros count) j 0) (sym at)
       ∙ getD-append-add written (zeros count) (i - length written) 0
-      ∙ getD-replicate count (i - length written) 0 0 (omega (arith, length-list-octets defects))
+      ∙ getD-replicate count (i - length written) 0 0 (omega (arith, length-list defects))
 
 pub copies-alike : (s : Setup) (v : Value) (e : Encodable s v) (set copy i : ℕ) → i < fieldOctets s - 2 → (i ≡ 3 → ⊥)
     → getD (dataField s v set copy) i 0 ≡ getD (dataField s v set 0) i 0
 copies-alike s v e set copy i h other =
     in-body s v e set copy i h
-    ∙ ap (λ (body : List ℕ). getD body i 0) (body-of-copy s v set copy)
+    ∙ ap (λ (body : List ℕ). getD body i 0) (sym (renumbered s v set 0 copy))
     ∙ getD-set-other (bodyOctets s v set 0) 3 i copy 0 other
     ∙ sym (in-body s v e set 0 i h)

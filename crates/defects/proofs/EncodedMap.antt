@@ -2,7 +2,7 @@
 -- Assumes nothing.
 use Prim.Native.Nat.{ℕ, zero, suc, _+_, _-_, _*_, _≤_, _<_}
 use mathlib.Core.Path.{_≡_}
-use mathlib.Core.List.{List, _++_, append-assoc}
+use mathlib.Core.List.{List, [], _++_, append-assoc, append-nil}
 use native.Mathlib.Nat.{zero-mul, one-mul, two-mul}
 use native.Mathlib.Omega.{arith}
 use lib.ListN.{length, take, drop, length-append}
@@ -12,7 +12,7 @@ use Rattle.defects.specs.Place.{fieldOctets}
 use Rattle.defects.specs.Walk.{fieldAt}
 use Rattle.defects.specs.Encoding.{Value, dataField, setsFrom, mapOctets}
 use Rattle.defects.proofs.EncodableValue.{sets}
-use Rattle.defects.proofs.EncodedField.{length-field}
+use Rattle.defects.proofs.Bodies.{length-field}
 
 -- A string of octets that begins with the map of a value, data field by data field.
 pub record Begins (s : Setup) (v : Value) (octets : List ℕ) : Type 0 where
@@ -73,3 +73,6 @@ module _ (s : Setup) (v : Value) (field1 : 8 ≤ s .field1) where
 
   pub map-begins : (rest : List ℕ) → Begins s v (mapOctets s v ++ rest)
   map-begins rest = record { fields = field-of-map rest; long = omega (arith, length-append (mapOctets s v) rest, length-map) }
+
+  pub map-alone : Begins s v (mapOctets s v)
+  map-alone = rw append-nil at (map-begins [])

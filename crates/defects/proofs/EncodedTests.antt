@@ -6,11 +6,11 @@ use mathlib.Core.Bool.{Bool, true, false, not, _&&_}
 use mathlib.Core.List.{List, [], _∷_}
 use native.Mathlib.Numerals.{add-one}
 use native.Mathlib.Omega.{arith}
-use borrow.Author.Tests.{lt-leb, eq-eqb, ne-eqb, eqb-true, eqb-false}
+use borrow.Author.Tests.{lt-leb, ne-eqb}
 use lib.Dec.{eqb}
 use lib.ListN.{length}
 use Rattle.laws.specs.Pick.{pick}
-use Rattle.laws.proofs.Tests.{or-l, or-r}
+use Rattle.laws.proofs.Tests.{same-equation, or-l, or-r}
 use Rattle.parts.specs.declared.setup.Setup.{Setup}
 use Rattle.defects.specs.Offence.{testsOver}
 use Rattle.defects.specs.Defect.{behind, behindAll, isOutOfSequence}
@@ -19,9 +19,10 @@ use Rattle.defects.specs.Place.{fieldOctets}
 use Rattle.defects.specs.Judging.{hasWrongFlags, openingTests, laterTests, frontTests, entryTests, listTests, zeroTest, sameTest, crcTests, paddingTests, originalTests, copyTests}
 use Rattle.defects.specs.Encoding.{Value, defectsOfSet, defectsBeforeSet, isUnordered, flagsFor, setFlags, dataField}
 use Rattle.defects.specs.declared.defect.Defect.{Defect}
-use Rattle.defects.proofs.Passing.{Passed, end, next, both-passed, over-passed, as-it-was, as-itself}
+use Rattle.defects.proofs.Offences.{Passed, end, next, both, over, as-it-was, as-itself}
+use Rattle.defects.proofs.Bodies.{length-field}
 use Rattle.defects.proofs.EncodableValue.{AllEntries, sets, Encodable}
-use Rattle.defects.proofs.EncodedField.{length-field, frontFor, front-written, set-entries, defects-written, copy-told, padding-written, crc-written, copies-alike}
+use Rattle.defects.proofs.EncodedField.{frontFor, front-written, set-entries, defects-written, copy-told, padding-written, crc-written, copies-alike}
 use Rattle.defects.proofs.EncodedWalk.{withinSet, beforeSet}
 
 -- ---- the flags
@@ -42,14 +43,6 @@ flagged-told true true = refl
 flagged-told true false = refl
 flagged-told false true = refl
 flagged-told false false = refl
-
--- two tests of one equation
-pub same-equation : (a b c d : ℕ) → (a ≡ b → c ≡ d) → (c ≡ d → a ≡ b) → eqb a b ≡ eqb c d
-same-equation a b c d there back = by-test (eqb a b) refl
-  where
-    by-test : (test : Bool) → eqb a b ≡ test → test ≡ eqb c d
-    by-test true e = sym (eq-eqb c d (there (eqb-true a b e)))
-    by-test false e = sym (ne-eqb c d (λ f. eqb-false a b e (back f)))
 
 -- ---- the entries
 
@@ -101,7 +94,7 @@ module _ (s : Setup) (v : Value) (e : Encodable s v) (set : ℕ) (start : ℕ) w
   padding-passed : Passed (paddingTests start (dataField s v set 0) (length (defectsOfSet s v set)))
   padding-passed =
       let whole = length-field s v set 0 (e .field1) in
-      over-passed (zeroTest start (dataField s v set 0)) _ _ (λ i l m. as-it-was (padding-written s v e set 0 i l (omega arith)))
+      over (zeroTest start (dataField s v set 0)) _ _ (λ i l m. as-it-was (padding-written s v e set 0 i l (omega arith)))
 
   list-passed : Passed (listTests s (isFlagged (setFlags s v set)) (behindAll 0 (defectsBeforeSet s v set)) (start + 14) (defectsOfSet s v set))
   list-passed =
@@ -113,12 +106,12 @@ module _ (s : Setup) (v : Value) (e : Encodable s v) (set : ℕ) (start : ℕ) w
   pub original-passed : set < sets s v → Passed (originalTests s (beforeSet s v set) (behindAll 0 (defectsBeforeSet s v set)) start (dataField s v set 0))
   original-passed h =
       let front = front-passed s v e start (length (dataField s v set 0)) set (length-field s v set 0 (e .field1)) in
-      rw (front-written s v e set 0 h, defects-written s v e set 0) (both-passed (both-passed (both-passed front list-passed) padding-passed) (crc-passed 0))
+      rw (front-written s v e set 0 h, defects-written s v e set 0) (both (both (both front list-passed) padding-passed) (crc-passed 0))
 
   same-passed : (copy i left : ℕ) → i + left ≤ fieldOctets s - 2 → ((j : ℕ) → i ≤ j → j < i + left → j ≡ 3 → ⊥)
       → Passed (testsOver (sameTest start (dataField s v set copy) (dataField s v set 0)) i left)
   same-passed copy i left h other =
-      over-passed (sameTest start (dataField s v set copy) (dataField s v set 0)) i left
+      over (sameTest start (dataField s v set copy) (dataField s v set 0)) i left
       (λ j l m. as-it-was (copies-alike s v e set copy j (omega arith) (other j l m)))
 
   pub copy-passed : (copy : ℕ) → Passed (copyTests (withinSet s v set copy) start (dataField s v set 0) (dataField s v set copy))
@@ -126,4 +119,4 @@ module _ (s : Setup) (v : Value) (e : Encodable s v) (set : ℕ) (start : ℕ) w
       let whole = length-field s v set copy (e .field1) in
       let front = same-passed copy 0 3 (omega arith) (λ j l m p. omega arith) in
       let rest = same-passed copy 4 (length (dataField s v set copy) - 6) (omega arith) (λ j l m p. omega arith) in
-      both-passed (both-passed front (next (as-it-was (copy-told s v set copy)) rest)) (crc-passed copy)
+      both (both front (next (as-it-was (copy-told s v set copy)) rest)) (crc-passed copy)

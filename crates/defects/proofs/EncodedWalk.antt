@@ -1,10 +1,10 @@
 -- The walk over an encoded map: what is due at each of its data fields, the defects before each set, and that it stays where the map ends.
 -- Assumes nothing.
 use Prim.Native.Nat.{ℕ, zero, suc, _+_, _*_, _≤_, _<_}
-use mathlib.Core.Path.{_≡_, refl, sym}
-use mathlib.Core.Bool.{Bool, true, false, _&&_}
+use mathlib.Core.Path.{_≡_, refl, sym, _∙_}
+use mathlib.Core.Bool.{Bool, true, false, and-false}
 use mathlib.Core.List.{List, [], _++_, append-nil}
-use native.Mathlib.Nat.{zero-mul, suc-mul, add-suc, add-zero, le-refl}
+use native.Mathlib.Nat.{zero-mul, suc-mul, add-zero, le-refl}
 use native.Mathlib.Numerals.{add-one}
 use native.Mathlib.Omega.{arith}
 use borrow.Author.Tests.{eq-eqb, ne-eqb}
@@ -18,6 +18,7 @@ use Rattle.defects.specs.Walk.{outset, isEnded, isOriginal, after, field
 use Rattle.defects.specs.Encoding.{Value, defectsBeforeSet, flagsFor, dataField}
 use Rattle.defects.specs.declared.defect.Defect.{Defect}
 use Rattle.defects.specs.declared.walk.Walk.{Walk}
+use Rattle.defects.proofs.WalkSteps.{ended-stays, defects-stay}
 use Rattle.defects.proofs.EncodableValue.{sets, Encodable}
 use Rattle.defects.proofs.EncodedField.{front-written, defects-written, copy-told}
 use Rattle.defects.proofs.EncodedMap.{Begins}
@@ -98,42 +99,38 @@ module _ (s : Setup) (v : Value) (e : Encodable s v) (set : ℕ) where
 
 -- ---- the walk and the defects behind so many data fields
 
-pub record Reached (s : Setup) (octets : List ℕ) (k : ℕ) (w : Walk) (defects : List Defect) : Type 0 where
+pub record StandsAt (s : Setup) (octets : List ℕ) (k : ℕ) (w : Walk) (defects : List Defect) : Type 0 where
   pub walk : walkAt s octets k ≡ w
   pub listed : defectsBefore s octets k ≡ defects
 
 one-on : {s : Setup} {octets : List ℕ} {k : ℕ} {w : Walk} {defects : List Defect} (next : ℕ) (w′ : Walk) (field : List ℕ) (defects′ : List Defect)
-    → next ≡ suc k → Reached s octets k w defects → isEnded w ≡ false → fieldAt s octets k ≡ field → after w k field ≡ w′
-    → defects ++ pick (isOriginal w field) (defectsIn field) [] ≡ defects′ → Reached s octets next w′ defects′
+    → next ≡ suc k → StandsAt s octets k w defects → isEnded w ≡ false → fieldAt s octets k ≡ field → after w k field ≡ w′
+    → defects ++ pick (isOriginal w field) (defectsIn field) [] ≡ defects′ → StandsAt s octets next w′ defects′
 unfolding walkAt defectsBefore pick
 one-on next w′ field defects′ e r on f a d =
     record { walk = rw (e, r .walk, on, f) a; listed = rw (e, r .listed, r .walk, f) d }
 
 -- behind its end
-pub ended-on : {s : Setup} {octets : List ℕ} {k : ℕ} {w : Walk} {defects : List Defect} (next : ℕ)
-    → next ≡ suc k → Reached s octets k w defects → isEnded w ≡ true → Reached s octets next w defects
-unfolding walkAt defectsBefore pick
-ended-on {defects = defects} next e r end =
-    record { walk = rw (e, r .walk, end); listed = rw (e, r .listed, r .walk, end) (append-nil defects) }
-
-pub never-both : (test : Bool) → (test && false) ≡ false
-never-both true = refl
-never-both false = refl
+stays : {s : Setup} {octets : List ℕ} {k : ℕ} {w : Walk} {defects : List Defect} (more : ℕ) → StandsAt s octets k w defects → isEnded w ≡ true
+    → StandsAt s octets (k + more) w defects
+stays {s} {octets} {k} more r end =
+    let over : isEnded (walkAt s octets k) ≡ true = rw (r .walk) end in
+    record { walk = ended-stays s octets k more over ∙ r .walk; listed = defects-stay s octets k more over ∙ r .listed }
 
 -- a copy lists nothing anew
 copy-on : {s : Setup} {octets : List ℕ} {k : ℕ} {w : Walk} {defects : List Defect} (next : ℕ) (w′ : Walk) (field : List ℕ)
-    → next ≡ suc k → Reached s octets k w defects → eqb (w .copy) 0 ≡ false → fieldAt s octets k ≡ field → after w k field ≡ w′ → Reached s octets next w′ defects
+    → next ≡ suc k → StandsAt s octets k w defects → eqb (w .copy) 0 ≡ false → fieldAt s octets k ≡ field → after w k field ≡ w′ → StandsAt s octets next w′ defects
 unfolding pick
 copy-on {w = w} {defects = defects} next w′ field e r c f a =
-    one-on next w′ field defects e r (rw (c, never-both (w .last))) f a
-    (simp (c, never-both) (append-nil defects))
+    one-on next w′ field defects e r (rw (c, and-false (w .last))) f a
+    (simp (c, and-false) (append-nil defects))
 
 module _ (s : Setup) (v : Value) (e : Encodable s v) (octets : List ℕ) (b : Begins s v octets) where
   pub original-at : (set : ℕ) → set < sets s v → fieldAt s octets (3 * set) ≡ dataField s v set 0
   original-at set h = rw add-zero at (b .fields set 0 h (omega arith))
 
-  behind-original : (set : ℕ) → set < sets s v → Reached s octets (3 * set) (beforeSet s v set) (defectsBeforeSet s v set)
-      → Reached s octets (3 * set + 1) (withinSet s v set 1) (defectsBeforeSet s v (suc set))
+  behind-original : (set : ℕ) → set < sets s v → StandsAt s octets (3 * set) (beforeSet s v set) (defectsBeforeSet s v set)
+      → StandsAt s octets (3 * set + 1) (withinSet s v set 1) (defectsBeforeSet s v (suc set))
   unfolding pick
   behind-original set h r =
       one-on (3 * set + 1) (withinSet s v set 1) (dataField s v set 0) (defectsBeforeSet s v (suc set)) (omega arith) r (not-ended s v set h) (original-at set h)
@@ -141,29 +138,28 @@ module _ (s : Setup) (v : Value) (e : Encodable s v) (octets : List ℕ) (b : Be
       (rw (not-ended s v set h, not-ignored s v e set 0 (omega arith), original-due s v set, defects-written s v e set 0, suc-mul set (slots (fieldOctets s)))
       (sym (take-add (set * slots (fieldOctets s)) (slots (fieldOctets s)) (v .defects))))
 
-  behind-second : (set : ℕ) → set < sets s v → Reached s octets (3 * set + 1) (withinSet s v set 1) (defectsBeforeSet s v (suc set))
-      → Reached s octets (3 * set + 2) (withinSet s v set 2) (defectsBeforeSet s v (suc set))
+  behind-second : (set : ℕ) → set < sets s v → StandsAt s octets (3 * set + 1) (withinSet s v set 1) (defectsBeforeSet s v (suc set))
+      → StandsAt s octets (3 * set + 2) (withinSet s v set 2) (defectsBeforeSet s v (suc set))
   behind-second set h r =
       copy-on (3 * set + 2) (withinSet s v set 2) (dataField s v set 1) (omega arith) r refl (b .fields set 1 h (omega arith)) (after-second s v e set _)
 
-  behind-third : (set : ℕ) → set < sets s v → Reached s octets (3 * set + 2) (withinSet s v set 2) (defectsBeforeSet s v (suc set))
-      → Reached s octets (3 * suc set) (beforeSet s v (suc set)) (defectsBeforeSet s v (suc set))
+  behind-third : (set : ℕ) → set < sets s v → StandsAt s octets (3 * set + 2) (withinSet s v set 2) (defectsBeforeSet s v (suc set))
+      → StandsAt s octets (3 * suc set) (beforeSet s v (suc set)) (defectsBeforeSet s v (suc set))
   behind-third set h r =
       copy-on (3 * suc set) (beforeSet s v (suc set)) (dataField s v set 2) (omega arith) r refl (b .fields set 2 h (omega arith)) (after-third s v e set _)
 
-  pub at-original : (set : ℕ) → set ≤ sets s v → Reached s octets (3 * set) (beforeSet s v set) (defectsBeforeSet s v set)
+  pub at-original : (set : ℕ) → set ≤ sets s v → StandsAt s octets (3 * set) (beforeSet s v set) (defectsBeforeSet s v set)
   unfolding walkAt defectsBefore
   at-original zero h = record { walk = refl; listed = rw zero-mul }
   at-original (suc set) h = behind-third set h (behind-second set h (behind-original set h (at-original set (omega arith))))
 
-  pub at-second : (set : ℕ) → set < sets s v → Reached s octets (3 * set + 1) (withinSet s v set 1) (defectsBeforeSet s v (suc set))
+  pub at-second : (set : ℕ) → set < sets s v → StandsAt s octets (3 * set + 1) (withinSet s v set 1) (defectsBeforeSet s v (suc set))
   at-second set h = behind-original set h (at-original set (omega arith))
 
-  pub at-third : (set : ℕ) → set < sets s v → Reached s octets (3 * set + 2) (withinSet s v set 2) (defectsBeforeSet s v (suc set))
+  pub at-third : (set : ℕ) → set < sets s v → StandsAt s octets (3 * set + 2) (withinSet s v set 2) (defectsBeforeSet s v (suc set))
   at-third set h = behind-second set h (at-second set h)
 
-  pub behind-end : (more : ℕ) → Reached s octets (3 * sets s v + more) (beforeSet s v (sets s v)) (v .defects)
-  behind-end zero =
+  pub behind-end : (more : ℕ) → StandsAt s octets (3 * sets s v + more) (beforeSet s v (sets s v)) (v .defects)
+  behind-end more =
       let all = take-all (sets s v * slots (fieldOctets s)) (v .defects) (e .holds) in
-      rw add-zero (rw all at (at-original (sets s v) (le-refl (sets s v))))
-  behind-end (suc more) = ended-on _ (add-suc (3 * sets s v) more) (behind-end more) (is-ended s v (sets s v) (e .some-set) refl)
+      stays more (rw all at (at-original (sets s v) (le-refl (sets s v)))) (is-ended s v (sets s v) (e .some-set) refl)

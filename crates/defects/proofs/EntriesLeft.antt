@@ -1,24 +1,40 @@
--- The entries of a data field, judged one after another: what is left has the first offence of all, and leads to the same count and address.
+-- The entries of a data field, how many there are, and judged one after another: what is left has the first offence of all, and leads to the same count and address.
 -- Assumes nothing.
-use Prim.Native.Nat.{ℕ, suc, _+_, _-_, _*_, _<_, _≤_}
+use Prim.Native.Nat.{ℕ, zero, suc, _+_, _-_, _*_, _<_, _≤_}
 use mathlib.Core.Path.{_≡_, refl, sym, ap, _∙_}
 use mathlib.Core.Bool.{Bool, true, false}
-use mathlib.Core.List.{List, [], _∷_, _++_}
+use mathlib.Core.List.{List, [], _∷_}
 use native.Mathlib.Nat.{zero-add, add-zero}
 use native.Mathlib.Omega.{arith}
 use lib.ListN.{length}
 use Rattle.laws.specs.Pick.{pick}
 use Rattle.parts.specs.declared.setup.Setup.{Setup}
-use Rattle.defects.specs.Offence.{noOffence, firstOf}
+use Rattle.laws.proofs.Pick.{either}
+use Rattle.defects.specs.Encoding.{listFrom}
+use Rattle.defects.specs.Offence.{firstOf}
 use Rattle.defects.specs.Defect.{defectAt, isBlank, behind, behindAll}
 use Rattle.defects.specs.Field.{slots, defectsFrom, defectsIn}
 use Rattle.defects.specs.Judging.{entryTests, listTests}
 use Rattle.defects.specs.Steps.{noneAfter, EntriesJudged}
 use Rattle.defects.specs.declared.defect.Defect.{Defect}
 use Rattle.defects.specs.declared.entries.Entries.{Entries}
-use Rattle.defects.specs.declared.judging.Judged.{Judged}
 use Rattle.defects.specs.declared.offence.Offence.{Offence}
 use Rattle.defects.proofs.Offences.{first-behind, stops, caught}
+
+-- no more entries than slots, and a run of the list that the octets make
+pub entries-few : (field : List ℕ) (i left : ℕ) → length (defectsFrom field i left) ≤ left
+unfolding defectsFrom
+entries-few field i zero = omega arith
+entries-few field i (suc left) =
+    let below = entries-few field (i + 12) left in
+    either (λ (defects : List Defect). length defects ≤ suc left) (isBlank (defectAt i field)) (omega arith) (omega arith)
+
+pub entries-listed : (field : List ℕ) (i left : ℕ) → defectsFrom field i left ≡ listFrom field i (length (defectsFrom field i left))
+unfolding defectsFrom listFrom
+entries-listed field i zero = refl
+entries-listed field i (suc left) =
+    either (λ (defects : List Defect). defects ≡ listFrom field i (length defects)) (isBlank (defectAt i field)) refl
+    (ap (λ (rest : List Defect). defectAt i field ∷ rest) (entries-listed field (i + 12) left))
 
 -- the entries from here on: none, or this one and those behind it
 pub none-left : (field : List ℕ) (i index : ℕ) → slots (length field) ≤ i → defectsFrom field index (slots (length field) - i) ≡ []

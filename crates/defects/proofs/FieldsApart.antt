@@ -2,7 +2,7 @@
 -- Assumes nothing.
 use Prim.Native.Nat.{ℕ, suc, _+_, _-_, _*_, _%_, _<_, _≤_}
 use mathlib.Core.Path.{_≡_, refl, sym, ap, _∙_}
-use mathlib.Core.Bool.{Bool, true, false}
+use mathlib.Core.Bool.{Bool, true, false, and-false}
 use native.Mathlib.Nat.{mul-le-mul-right, suc-mul, mul-add-mod-self-right, mod-eq-of-lt, eq-of-mul-eq-mul-right}
 use native.Mathlib.Omega.{arith}
 use borrow.Author.Tests.{le-ltb, lt-leb, ltb-true, ltb-false}
@@ -14,7 +14,6 @@ use Rattle.defects.specs.Sectors.{fieldStart}
 use Rattle.defects.specs.OnTheCylinder.{isOfField}
 use Rattle.defects.proofs.Fields.{field}
 use Rattle.defects.proofs.Places.{places}
-use Rattle.defects.proofs.EncodedWalk.{never-both}
 
 -- a number tells its quotient and its remainder
 same-parts : (n a b x y : ℕ) → x < n → y < n → a * n + x ≡ b * n + y → (a ≡ b) × (x ≡ y)
@@ -44,7 +43,7 @@ fields-apart s j k i w hj hk other h = by-test (ltb (numberOf s j) (numberOf s k
     by-test : (below : Bool) → ltb (numberOf s j) (numberOf s k) ≡ below → isOfField s j (fieldStart s k + i) ≡ false
     by-test true e =
         let far = sector-behind (sectorWords s) (numberOf s j) (numberOf s k) (ltb-true _ _ e) in
-        rw (le-ltb (fieldStart s k + i) (fieldStart s j + s .field1) (omega arith)) (never-both (leb (fieldStart s j) (fieldStart s k + i)))
+        rw (le-ltb (fieldStart s k + i) (fieldStart s j + s .field1) (omega arith)) (and-false (leb (fieldStart s j) (fieldStart s k + i)))
     by-test false e =
         let differ : numberOf s j ≡ numberOf s k → ⊥ = λ same. other (same-sector s j k w hj hk same) in
         let far = sector-behind (sectorWords s) (numberOf s k) (numberOf s j) (omega (arith, ltb-false (numberOf s j) (numberOf s k) e)) in

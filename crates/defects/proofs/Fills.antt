@@ -24,8 +24,8 @@ use Rattle.defects.proofs.Plans.{plan, RunKnown}
 use Rattle.defects.proofs.Bodies.{over-zeros, length-front, entries-fit}
 
 -- the front that the code writes
-abbrev pub frontFor : Setup → Job → ℕ → ℕ → Front
-frontFor s job set flags =
+abbrev pub frontMade : Setup → Job → ℕ → ℕ → Front
+frontMade s job set flags =
     record { count = fieldOctets s - 2; flags = flags; copy = 0; sets = job .sets; set = set; cylinder = job .cylinder; head = job .head }
 
 module _ {s : Setup} {job : Job} {octets : List ℕ} {set least : ℕ} (due : Due s job octets set least) where
@@ -37,13 +37,13 @@ module _ {s : Setup} {job : Job} {octets : List ℕ} {set least : ℕ} (due : Du
       let more : (set + 1) * each ≡ set * each + each = omega arith in
       rw (due .above, more, take-add (set * each) each defects) (sym (behind-parts 0 (take (set * each) defects) (take each (drop (set * each) defects))))
 
-  front-is : (flags : ℕ) → flags ≡ setFlags s (valueIn job octets) set → octetsInFront (frontFor s job set flags) ≡ frontOctets s (valueIn job octets) set 0
+  front-is : (flags : ℕ) → flags ≡ setFlags s (valueIn job octets) set → octetsInFront (frontMade s job set flags) ≡ frontOctets s (valueIn job octets) set 0
   unfolding octetsInFront frontOctets
   front-is flags e = rw (e, plan (due .planned) .sets)
 
   pub filled : (run : Run) (order : Order) (flags : ℕ) (field : List ℕ) → RunKnown s job octets set run → AllOctets octets
       → Ordered least (listFrom octets (run .at) (run .count)) order → flags ≡ flagsFor (eqb (set + 1) (job .sets)) (order .unordered)
-      → field ≡ writtenAt (writtenOver (replicate (fieldOctets s) 0) (octetsInFront (frontFor s job set flags))) 14 (take (12 * run .count) (drop (run .at) octets))
+      → field ≡ writtenAt (writtenOver (replicate (fieldOctets s) 0) (octetsInFront (frontMade s job set flags))) 14 (take (12 * run .count) (drop (run .at) octets))
       → Filled s job octets set field (order .least)
   unfolding bodyOctets
   filled run order flags field known all ordered f e =
@@ -53,6 +53,6 @@ module _ {s : Setup} {job : Job} {octets : List ℕ} {set least : ℕ} (due : Du
       let there : take (12 * run .count) (drop (run .at) octets) ≡ entries =
       sym (listed-octets octets all (run .at) (run .count) (known .within)) ∙ ap listOctets (sym (known .listed)) in
       record {
-        body = e ∙ rw (front-is flags told, there) (over-zeros (fieldOctets s) (frontOctets s v set 0) entries (length-front s v set 0) (entries-fit s v set (plan (due .planned) .large)));
+        body = e ∙ rw (front-is flags told, there) (over-zeros (fieldOctets s) (frontOctets s v set 0) entries (length-front s v set 0) (entries-fit s v set (plan (due .planned) .field1)));
         next = ordered .next ∙ ap (behindAll least) (sym (known .listed)) ∙ next-least;
       }

@@ -1,41 +1,26 @@
 -- The defects of a map gathered data field by data field: what is listed so far, that it has room, and that each entry standing three times leaves a
 -- third of the octets enough.
 -- Assumes nothing.
-use Prim.Native.Nat.{ℕ, zero, suc, _+_, _-_, _*_, _/_, _<_, _≤_}
+use Prim.Native.Nat.{ℕ, _+_, _-_, _*_, _<_, _≤_}
 use mathlib.Core.Path.{_≡_, refl, sym, ap, _∙_}
-use mathlib.Core.Bool.{Bool, true, false, not, _&&_}
-use mathlib.Core.List.{List, [], _∷_, _++_, append-assoc}
-use native.Mathlib.Nat.{add-zero, add-suc, zero-add}
+use mathlib.Core.Bool.{Bool, true, false}
+use mathlib.Core.List.{List, _++_}
 use native.Mathlib.Numerals.{add-one}
 use native.Mathlib.Omega.{arith}
 use lib.Dec.{eqb}
-use lib.ListN.{length, take, drop, length-append}
+use lib.ListN.{length, length-append}
 use Rattle.laws.specs.Pick.{pick}
-use Rattle.laws.specs.Lists.{writtenOver, writtenAt}
+use Rattle.laws.specs.Lists.{writtenOver}
 use Rattle.parts.specs.declared.setup.Setup.{Setup}
-use Rattle.defects.specs.Defect.{defectOctets, listOctets}
+use Rattle.defects.specs.Defect.{listOctets}
 use Rattle.defects.specs.Field.{isIgnored, frontOf}
-use Rattle.defects.specs.Place.{fieldOctets, dataFields}
-use Rattle.defects.specs.Walk.{isEnded, afterOriginal, afterCopy, after, fieldAt, walkAt, isOriginal, defectsBefore}
+use Rattle.defects.specs.Walk.{isEnded, afterOriginal, afterCopy, after, fieldAt, walkAt, defectsBefore}
 use Rattle.defects.specs.Steps.{ownDefects, FieldListed}
-use Rattle.defects.specs.declared.defect.Defect.{Defect}
 use Rattle.defects.specs.declared.gathering.Gathered.{Gathered}
 use Rattle.defects.specs.declared.walk.Walk.{Walk}
-use Rattle.defects.proofs.DefectOctets.{length-defect-octets}
-use Rattle.defects.proofs.Listing.{written-none, written-on, length-written}
-use Rattle.defects.proofs.Reaching.{walk-next, defects-next}
-
-pub length-list : (defects : List Defect) → length (listOctets defects) ≡ 12 * length defects
-length-list [] = refl
-length-list (d ∷ defects) = length-append (defectOctets d) (listOctets defects) ∙ omega (arith, length-defect-octets d, length-list defects)
-
-list-append : (a b : List Defect) → listOctets (a ++ b) ≡ listOctets a ++ listOctets b
-list-append [] b = refl
-list-append (d ∷ a) b = ap (λ (rest : List ℕ). defectOctets d ++ rest) (list-append a b) ∙ sym (append-assoc (defectOctets d) (listOctets a) (listOctets b))
-
--- the front replaced is a part replaced from 0 on
-over-is-at : (list front : List ℕ) → writtenOver list front ≡ writtenAt list 0 front
-over-is-at list front = rw zero-add
+use Rattle.laws.proofs.Windows.{length-written, written-next}
+use Rattle.defects.proofs.WalkSteps.{walk-next, defects-next, listed-on}
+use Rattle.defects.proofs.DefectOctets.{length-list, list-append}
 
 -- which copy is due behind a data field
 next-due : (w : Walk) (k : ℕ) (field : List ℕ) → after w k field .copy ≡ pick (isIgnored field) (w .copy) (pick (eqb (w .copy) 0) 1 (pick (eqb (w .copy) 2) 0 2))
@@ -62,16 +47,12 @@ module _ (s : Setup) (octets defects₀ : List ℕ) where
 
   -- fewer are listed before than in the end
   grows : (k n : ℕ) → length (defectsBefore s octets k) ≤ length (defectsBefore s octets (k + n))
-  unfolding defectsBefore
-  grows k zero = rw add-zero (omega arith)
-  grows k (suc n) =
-      let more = length-append (defectsBefore s octets (k + n)) (pick (isOriginal (walkAt s octets (k + n)) (fieldAt s octets (k + n))) (Rattle.defects.specs.Field.defectsIn (fieldAt s octets (k + n))) []) in
-      rw add-suc (omega (arith, grows k n, more))
+  grows k n = let (rest, e) = listed-on s octets k n in omega (arith, ap length e, length-append (defectsBefore s octets k) rest)
 
   module _ (defects : List ℕ) (count copy k fields : ℕ) (here : Gathering defects count copy k) (going : isEnded (walkAt s octets k) ≡ false) (h : k < fields)
       (room : 12 * length (defectsBefore s octets fields) ≤ length defects₀) where
     before-next : defectsBefore s octets (k + 1) ≡ defectsBefore s octets k ++ ownDefects copy (fieldAt s octets k)
-    before-next = defects-next true s octets k going ∙ rw (here .due)
+    before-next = ap (defectsBefore s octets) (add-one k) ∙ defects-next s octets k going ∙ rw (here .due)
 
     many-next : length (defectsBefore s octets (k + 1)) ≡ count + length (ownDefects copy (fieldAt s octets k))
     many-next = ap length before-next ∙ length-append (defectsBefore s octets k) (ownDefects copy (fieldAt s octets k)) ∙ rw (← (here .counted))
@@ -89,12 +70,10 @@ module _ (s : Setup) (octets defects₀ : List ℕ) where
         let size : 12 * count ≡ length before = rw (here .counted) (sym (length-list (defectsBefore s octets k))) in
         let long = length-list (ownDefects copy (fieldAt s octets k)) in
         let fits : 12 * count + length own ≤ length defects = omega (arith, own-room) in
-        let behind : 0 + length before ≤ length defects₀ = omega (arith, here .kept) in
-        let at : 0 + length before ≡ 12 * count = omega arith in
         record {
-          due = done .copy′ ∙ rw (here .due) (sym (next-due (walkAt s octets k) k (fieldAt s octets k))) ∙ sym (ap (λ (w : Walk). w .copy) (walk-next true s octets k going));
+          due = done .copy′ ∙ rw (here .due) (sym (next-due (walkAt s octets k) k (fieldAt s octets k))) ∙ sym (ap (λ (w : Walk). w .copy) (ap (walkAt s octets) (add-one k) ∙ walk-next s octets k going));
           counted = done .count′ ∙ sym many-next;
-          listed = done .slice ∙ rw (here .listed, over-is-at defects₀ before, before-next, list-append (defectsBefore s octets k) (ownDefects copy (fieldAt s octets k)), over-is-at defects₀ (before ++ own))
-              (sym (written-on defects₀ 0 before own behind ∙ rw at));
+          listed = done .slice
+              ∙ rw (here .listed, before-next, list-append (defectsBefore s octets k) (ownDefects copy (fieldAt s octets k)), size) (written-next defects₀ before own);
           kept = ap length (done .slice) ∙ length-written defects (12 * count) own fits ∙ here .kept;
         }

@@ -1,7 +1,7 @@
 -- What the decoder says of a map where its walk stops: at the end, at a data field that is not whole, at an offence, behind the last data field.
 -- Assumes nothing.
 use Prim.Native.Nat.{ℕ, _+_, _*_, _<_, _≤_}
-use mathlib.Core.Path.{_≡_, refl, sym, ap, _∙_}
+use mathlib.Core.Path.{_≡_, refl, _∙_}
 use mathlib.Core.Bool.{Bool, true, false, not, _&&_}
 use mathlib.Core.List.{List, [], _∷_}
 use lib.Dec.{ltb}
@@ -15,7 +15,6 @@ use Rattle.defects.specs.Steps.{lastTests, StepTaken, MapJudged}
 use Rattle.defects.specs.declared.offence.Offence.{Offence}
 use Rattle.defects.specs.declared.walk.Walk.{Walk}
 use Rattle.defects.specs.declared.walk.Stepped.{Stepped}
-use Rattle.defects.specs.declared.walking.Judgement.{Judgement}
 use Rattle.defects.proofs.Offences.{caught}
 use Rattle.defects.proofs.Reaching.{Reached, reached-short, reached-full, reached-stop, reached-end, ends-at}
 

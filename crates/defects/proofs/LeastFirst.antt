@@ -19,8 +19,9 @@ use Rattle.defects.specs.Field.{isIgnored}
 use Rattle.defects.specs.Place.{fieldOctets, dataFields}
 use Rattle.defects.specs.Walk.{isEnded, fieldAt, walkAt, defectsBefore, testsAt, testsFrom, mapTests}
 use Rattle.defects.specs.Exactly.{GivenAt, Least}
+use Rattle.defects.proofs.TestsAt.{testsOf}
 use Rattle.defects.proofs.TestOrder.{each-append, From, from-lower, Leads, Span, wider, least-of, ahead, lead, join, field-from, field-span}
-use Rattle.defects.proofs.Accepted.{testsOf, room, field-length}
+use Rattle.defects.proofs.Fields.{some-field, field-length}
 
 -- those of data field k itself, none where it is ignored
 abbrev own : Setup → List ℕ → ℕ → List Test
@@ -38,7 +39,7 @@ own-span : (s : Setup) (octets : List ℕ) (k : ℕ) → k < dataFields s → k 
 own-span s octets k inside whole =
     let w = walkAt s octets k in
     let size = field-length s octets k whole in
-    let long : 16 ≤ length (fieldAt s octets k) = omega (arith, room s k inside) in
+    let long : 16 ≤ length (fieldAt s octets k) = omega (arith, some-field s k inside) in
     wider (omega arith) (omega arith)
     (field-span s w (behindAll 0 (defectsBefore s octets k)) (k * fieldOctets s) (fieldAt s octets (w .original)) (fieldAt s octets k) long)
 

@@ -1,22 +1,23 @@
--- The defects that octets list, one after another: how many, a run of them, their octets, and the order of a list in two parts.
+-- The defects that octets list, one after another: how many, a run of them, their octets, what holds of each, and the order of a list in two parts.
 -- Assumes nothing.
-use Prim.Native.Nat.{ℕ, zero, suc, _+_, _-_, _*_, _<_, _≤_, min}
-use mathlib.Core.Path.{_≡_, refl, ap, ap₂}
+use Prim.Native.Nat.{ℕ, zero, suc, _+_, _-_, _*_, _/_, _%_, _<_, _≤_, min}
+use mathlib.Core.Path.{_≡_, refl, ap, ap₂, _∙_}
 use mathlib.Core.Bool.{true, _&&_}
 use mathlib.Core.List.{List, [], _∷_, _++_}
 use native.Mathlib.Omega.{arith}
 use borrow.Author.Tests.{ltb-true}
 use lib.ListN.{length, take, drop}
-use lib.Seq.{take-add, drop-drop}
+use lib.Seq.{take-add, take-all, drop-drop}
 use Rattle.laws.specs.Octets.{AllOctets}
 use Rattle.laws.proofs.Tests.{and-l, and-r}
 use Rattle.parts.specs.declared.setup.Setup.{Setup}
 use Rattle.parts.proofs.Bounds.{Limits}
 use Rattle.defects.specs.Defect.{defectAt, listOctets, behindAll, behind}
-use Rattle.defects.specs.Encoding.{listFrom, isListable, areListable}
+use Rattle.defects.specs.Encoding.{listFrom, defectsListed, isListable, areListable}
 use Rattle.defects.specs.EncodeSteps.{AllNear}
+use Rattle.defects.specs.RoundTrip.{AllFitting}
 use Rattle.defects.specs.declared.defect.Defect.{Defect}
-use Rattle.defects.proofs.DefectOctets.{octets-of-defect}
+use Rattle.defects.proofs.DefectOctets.{defect-fits, octets-of-defect}
 
 -- ---- a run of the list
 
@@ -51,14 +52,22 @@ listed-take octets at (suc count) (suc n) =
     rw one (ap (λ (rest : List Defect). defectAt at octets ∷ rest) (listed-take octets (at + 12) count n))
 
 -- their octets are those that list them
-pub listed-octets : (octets : List ℕ) → AllOctets octets → (at count : ℕ) → at + 12 * count ≤ length octets
-    → listOctets (listFrom octets at count) ≡ take (12 * count) (drop at octets)
-unfolding listFrom
-listed-octets octets all at zero h = refl
-listed-octets octets all at (suc count) h =
-    let more : 12 * suc count ≡ 12 + 12 * count = omega arith in
-    rw (more, take-add 12 (12 * count) (drop at octets), drop-drop 12 at octets)
-    (ap₂ _++_ (octets-of-defect at octets (omega arith) all) (listed-octets octets all (at + 12) count (omega arith)))
+module _ (octets : List ℕ) (all : AllOctets octets) where
+  pub listed-octets : (at count : ℕ) → at + 12 * count ≤ length octets → listOctets (listFrom octets at count) ≡ take (12 * count) (drop at octets)
+  unfolding listFrom
+  listed-octets at zero h = refl
+  listed-octets at (suc count) h =
+      let more : 12 * suc count ≡ 12 + 12 * count = omega arith in
+      rw (more, take-add 12 (12 * count) (drop at octets), drop-drop 12 at octets)
+      (ap₂ _++_ (octets-of-defect at octets (omega arith) all) (listed-octets (at + 12) count (omega arith)))
+
+  pub same-octets : length octets % 12 ≡ 0 → listOctets (defectsListed octets) ≡ octets
+  same-octets whole = listed-octets 0 (length octets / 12) (omega arith) ∙ take-all (12 * (length octets / 12)) octets (omega arith)
+
+  pub all-fitting : (at count : ℕ) → AllFitting (listFrom octets at count)
+  unfolding listFrom
+  all-fitting at zero = tt
+  all-fitting at (suc count) = (defect-fits at octets all, all-fitting (at + 12) count)
 
 -- ---- what holds of each
 

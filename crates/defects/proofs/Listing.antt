@@ -1,55 +1,18 @@
 -- The entries of a data field, listed one after another: what is left to list makes the whole list.
 -- Assumes nothing.
-use Prim.Native.Nat.{ℕ, suc, _+_, _-_, _*_, _<_, _≤_}
+use Prim.Native.Nat.{ℕ, _+_, _-_, _*_, _<_, _≤_}
 use mathlib.Core.Path.{_≡_, refl, sym, ap, _∙_}
-use mathlib.Core.Bool.{true, false}
-use mathlib.Core.List.{List, [], _∷_, _++_, append-assoc, append-nil}
+use mathlib.Core.Bool.{false}
+use mathlib.Core.List.{List, []}
 use native.Mathlib.Nat.{add-zero}
 use native.Mathlib.Omega.{arith}
-use lib.ListN.{length, take, drop, length-append, length-drop, take-append-drop, drop-of-length-le}
-use lib.Seq.{length-take-le, take-at, drop-at, drop-drop}
-use Rattle.laws.specs.Lists.{writtenOver, writtenAt}
-use Rattle.laws.proofs.Runs.{rest-whole}
+use lib.ListN.{length}
+use Rattle.laws.proofs.Windows.{length-written, written-none, written-on}
+use Rattle.laws.specs.Lists.{writtenAt}
 use Rattle.defects.specs.Defect.{defectAt, defectOctets, listOctets, isBlank}
 use Rattle.defects.specs.Field.{slots, defectsFrom, defectsIn}
 use Rattle.defects.proofs.DefectOctets.{length-defect-octets}
-use Rattle.defects.proofs.EntriesLeft.{none-left, blank-left, one-left}
-
--- ---- a part replaced
-
-pub written-none : (list : List ℕ) (at : ℕ) → writtenAt list at [] ≡ list
-written-none list at = rw (append-nil, add-zero) (take-append-drop at list)
-
-pub length-written : (list : List ℕ) (at : ℕ) (part : List ℕ) → at + length part ≤ length list → length (writtenAt list at part) ≡ length list
-length-written list at part h =
-    let front = length-take-le at list (omega arith) in
-    simp (length-append, length-drop) (omega arith)
-
--- a part of two, one behind the other
-pub written-on : (list : List ℕ) (at : ℕ) (a b : List ℕ) → at + length a ≤ length list
-    → writtenAt list at (a ++ b) ≡ writtenAt (writtenAt list at a) (at + length a) b
-written-on list at a b h =
-    let front = length-take-le at list (omega arith) in
-    let head : length (take at list ++ a) ≡ at + length a = length-append (take at list) a ∙ omega arith in
-    let rest = drop (at + length a) list in
-    let low = take-at (take at list ++ a) rest (at + length a) head in
-    let far : at + length (a ++ b) ≡ at + length a + length b = omega (arith, length-append a b) in
-    let high : drop (at + length a + length b) (take at list ++ a ++ rest) ≡ drop (at + length a + length b) list =
-    sym (drop-drop (length b) (at + length a) (take at list ++ a ++ rest)) ∙ rw (drop-at (take at list ++ a) rest (at + length a) head) (drop-drop (length b) (at + length a) list) in
-    rw (low, high, far, append-assoc (take at list) a b)
-
--- the front of a part from an index on
-written-part : (list : List ℕ) (at : ℕ) (part : List ℕ) → take at list ++ writtenOver (drop at list) part ≡ writtenAt list at part
-written-part list at part = rw (drop-drop (length part) at list) (sym (append-assoc (take at list) part (drop (at + length part) list)))
-
--- the same of a part that was lent up to the end and is back
-pub part-back : (list : List ℕ) (at : ℕ) (mid part : List ℕ) → mid ≡ writtenOver (take (length list - at) (drop at list)) part
-    → take at list ++ (mid ++ drop (length list - at) (drop at list)) ≡ writtenAt list at part
-part-back list at mid part e =
-    let none : drop (length list - at) (drop at list) ≡ [] = drop-of-length-le (drop at list) {i = length list - at} (simp length-drop (omega arith)) in
-    rw (none, append-nil mid, e, rest-whole list at) (written-part list at part)
-
--- ---- the entries
+use Rattle.defects.proofs.EntriesLeft.{one-left}
 
 -- i entries are listed
 pub record Listing (field : List ℕ) (count : ℕ) (defects₀ : List ℕ) (all : ℕ) (defects : List ℕ) (i : ℕ) : Type 0 where

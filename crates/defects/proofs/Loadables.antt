@@ -1,15 +1,12 @@
 -- A data field that is there, whole: so are those before it, and it has the size of one; offsets within the last cylinder are small.
 -- Assumes nothing.
-use Prim.Native.Nat.{ℕ, _+_, _*_, _^_, _<_, _≤_}
-use mathlib.Core.Path.{_≡_, refl, sym, ap, _∙_}
-use mathlib.Core.Bool.{Bool, true, false}
+use Prim.Native.Nat.{ℕ, _*_, _^_, _<_, _≤_}
+use mathlib.Core.Path.{_≡_, sym, ap, _∙_}
+use mathlib.Core.Bool.{Bool, true}
 use mathlib.Core.List.{List}
 use native.Mathlib.Nat.{mul-le-mul, mul-le-mul-right}
 use native.Mathlib.Omega.{arith}
-use lib.Dec.{ltb}
-use lib.ListN.{length, drop, length-drop}
-use lib.Seq.{length-take-le}
-use Rattle.laws.specs.Pick.{pick}
+use lib.ListN.{length}
 use Rattle.parts.specs.Setup.{withinLimits}
 use Rattle.parts.specs.declared.setup.Setup.{Setup}
 use Rattle.parts.proofs.Bounds.{limits}
@@ -17,21 +14,13 @@ use Rattle.defects.specs.Place.{fieldOctets, dataFields}
 use Rattle.defects.specs.Walk.{fieldAt}
 use Rattle.defects.specs.Steps.{stringIn, Loadable, Judgeable}
 use Rattle.defects.specs.declared.walk.Walk.{Walk}
-use Rattle.defects.proofs.Accepted.{room}
-
-pub fields-few : (s : Setup) → withinLimits s ≡ true → dataFields s ≤ 8192
-unfolding dataFields pick
-fields-few s small = by-test (ltb (s .field1) 8)
-  where
-    by-test : (narrow : Bool) → pick narrow 0 (s .heads * s .sectors) ≤ 8192
-    by-test true = omega arith
-    by-test false = let few = limits s small in mul-le-mul (few .heads) (few .sectors)
+use Rattle.defects.proofs.Fields.{some-field, few-fields, field-length}
 
 -- an offset up to the end of the last cylinder
 pub start-few : (s : Setup) (k : ℕ) → withinLimits s ≡ true → k ≤ dataFields s → k * fieldOctets s ≤ 2 ^ 24
 start-few s k small h =
     let few = limits s small in
-    mul-le-mul {n₁ = k} {n₂ = 8192} {m₂ = 2048} (omega (arith, fields-few s small)) (omega arith)
+    mul-le-mul {n₁ = k} {n₂ = 8192} {m₂ = 2048} (omega (arith, few-fields s few)) (omega arith)
 
 pub loadable-before : {s : Setup} {inSectors : Bool} {octets sectors : List ℕ} {k : ℕ} (j : ℕ) → Loadable s inSectors octets sectors k → j ≤ k
     → Loadable s inSectors octets sectors j
@@ -41,9 +30,7 @@ loadable-before {s} {k = k} j l h =
 
 pub length-loaded : {s : Setup} {inSectors : Bool} {octets sectors : List ℕ} {k : ℕ} → Loadable s inSectors octets sectors k
     → length (fieldAt s (stringIn s inSectors octets sectors) k) ≡ fieldOctets s
-unfolding fieldAt
-length-loaded {s} {inSectors} {octets} {sectors} {k} l =
-    length-take-le (fieldOctets s) (drop (k * fieldOctets s) (stringIn s inSectors octets sectors)) (simp length-drop (omega (arith, l .whole)))
+length-loaded {s} {inSectors} {octets} {sectors} {k} l = field-length s (stringIn s inSectors octets sectors) k (l .whole)
 
 pub judgeable : {s : Setup} {inSectors : Bool} {octets sectors : List ℕ} {k : ℕ} (w : Walk) (start : ℕ) (original field : List ℕ)
     → Loadable s inSectors octets sectors k → w .set < 2 ^ 32 → w .original ≤ k → start ≡ k * fieldOctets s
@@ -51,7 +38,7 @@ pub judgeable : {s : Setup} {inSectors : Bool} {octets sectors : List ℕ} {k : 
     → Judgeable s w start original field
 judgeable {s} {k = k} w start original field l few before e p q =
     let small = limits s (l .limits) in
-    let some = room s k (l .inside) in
+    let some = some-field s k (l .inside) in
     let size = ap length q ∙ length-loaded l in
     let size′ = ap length p ∙ length-loaded (loadable-before (w .original) l before) in
     record {

@@ -1,12 +1,12 @@
 -- A data field loaded octet by octet, or word by word: what stands in front is what was to be loaded so far.
 -- Assumes nothing.
 use Prim.Native.Nat.{ℕ, suc, _+_, _*_, _/_, _%_, _<_}
-use mathlib.Core.Path.{_≡_, refl, sym, ap, _∙_}
+use mathlib.Core.Path.{_≡_, refl, ap}
 use mathlib.Core.List.{List, [], _∷_, _++_, append-assoc}
 use native.Mathlib.Numerals.{add-one}
 use native.Mathlib.Omega.{arith}
 use lib.ListN.{length, getD, take, drop, set, length-set, length-drop}
-use lib.Seq.{take-suc, take-suc-set, take-set-le, getD-drop}
+use lib.Seq.{take-suc, take-suc-set, getD-drop}
 use Rattle.defects.specs.Sectors.{wordOctets}
 
 -- one more of a run

@@ -1,9 +1,9 @@
--- The first offence: how code that tests one thing after the other meets `firstOf`, and the first offence of tests that follow others.
+-- The first offence: how code that tests one thing after the other meets `firstOf`, the first offence of tests that follow others, and tests of which none holds.
 -- Assumes nothing.
 use Prim.Native.Nat.{ℕ, zero, suc, _+_, _-_, _<_, _≤_}
 use native.Mathlib.Omega.{arith}
 use mathlib.Core.Path.{_≡_, refl, sym, ap, _∙_}
-use mathlib.Core.Bool.{Bool, true, false, true≢false, false≢true}
+use mathlib.Core.Bool.{Bool, true, false, not, true≢false, false≢true}
 use mathlib.Core.List.{List, [], _∷_, _++_}
 use borrow.Author.Tests.{lt-ltb, le-ltb, le-leb, lt-leb, eq-eqb, ne-eqb, eqb-true, eqb-false}
 use lib.Dec.{eqb}
@@ -39,7 +39,7 @@ first-behind (test ∷ tests) rest h = by-test (test .holds) h (first-behind tes
     by-test true h below = absurd (true≢false h)
     by-test false h below = below h
 
-pub first-before : (tests rest : List Test) → firstOf tests .found ≡ true → firstOf (tests ++ rest) ≡ firstOf tests
+first-before : (tests rest : List Test) → firstOf tests .found ≡ true → firstOf (tests ++ rest) ≡ firstOf tests
 unfolding firstOf pick
 first-before [] rest h = absurd (false≢true h)
 first-before (test ∷ tests) rest h = by-test (test .holds) h (first-before tests rest)
@@ -60,7 +60,7 @@ stops tests rest a e h = e ∙ sym (first-before tests rest (ap (λ (o : Offence
 -- ---- the same test at index after index: what is left has the first offence of all
 
 -- so many are left at i, and one is this one
-pub over-split : (test : ℕ → Test) (i end : ℕ) → i < end → testsOver test i (end - i) ≡ test i ∷ testsOver test (i + 1) (end - (i + 1))
+over-split : (test : ℕ → Test) (i end : ℕ) → i < end → testsOver test i (end - i) ≡ test i ∷ testsOver test (i + 1) (end - (i + 1))
 unfolding testsOver
 over-split test i end h = let e : end - i ≡ suc (end - (i + 1)) = omega arith in rw e
 
@@ -114,10 +114,37 @@ none-over test i (suc count) h j low high =
     by-index true e this below = rw (eqb-true j i e) this
     by-index false e this below = let other = eqb-false j i e in below (omega arith) (omega arith)
 
+-- ---- what holds of each of the tests
+
+pub data All (P : Test → Type 0) : List Test → Type 0 where
+  end : All P []
+  next : {test : Test} {tests : List Test} → P test → All P tests → All P (test ∷ tests)
+
+pub both : {P : Test → Type 0} {tests rest : List Test} → All P tests → All P rest → All P (tests ++ rest)
+both end q = q
+both (next h p) q = next h (both p q)
+
+pub over : {P : Test → Type 0} (test : ℕ → Test) (i left : ℕ) → ((j : ℕ) → i ≤ j → j < i + left → P (test j)) → All P (testsOver test i left)
+unfolding testsOver
+over test i zero p = end
+over test i (suc left) p = next (p i (omega arith) (omega arith)) (over test (i + 1) left (λ j h l. p j (omega arith) (omega arith)))
+
+-- none of them holds
 abbrev pub Passed : List Test → Type 0
-Passed [] = Unit
-Passed (test ∷ tests) = (test .holds ≡ false) × Passed tests
+Passed tests = All (λ test. test .holds ≡ false) tests
+
+pub none-found : {tests : List Test} → Passed tests → firstOf tests ≡ noOffence
+unfolding firstOf pick
+none-found end = refl
+none-found (next h p) = rw h (none-found p)
 
 pub all-passed : (tests : List Test) → firstOf tests .found ≡ false → Passed tests
-all-passed [] h = tt
-all-passed (test ∷ tests) h = let (this, rest) = none-head test tests h in (this, all-passed tests rest)
+all-passed [] h = end
+all-passed (test ∷ tests) h = let (this, rest) = none-head test tests h in next this (all-passed tests rest)
+
+-- a test that two numbers differ
+pub as-it-was : {a b : ℕ} → a ≡ b → not (eqb a b) ≡ false
+as-it-was {a} {b} e = not-f (eqb a b) (eq-eqb a b e)
+
+pub as-itself : (a : ℕ) → not (eqb a a) ≡ false
+as-itself a = as-it-was {a = a} refl

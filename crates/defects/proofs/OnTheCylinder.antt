@@ -1,16 +1,16 @@
 -- `specs/OnTheCylinder` proved: a map put on the last cylinder stands there data field by data field and is read off as it was put; to read is to decode.
 -- Assumes nothing.
-use Prim.Native.Nat.{ℕ, zero, suc, _+_, _*_, _/_, _<_, _≤_}
+use Prim.Native.Nat.{ℕ, suc, _+_, _*_, _/_, _<_, _≤_}
 use mathlib.Core.Path.{_≡_, refl, sym, ap, ap₂, _∙_}
 use mathlib.Core.Bool.{true, false, _||_}
-use mathlib.Core.List.{List, [], _++_, append-nil}
+use mathlib.Core.List.{List}
 use mathlib.Core.Logic.{_↔_}
-use native.Mathlib.Nat.{zero-mul, suc-mul, mul-le-mul-right}
+use native.Mathlib.Nat.{mul-le-mul-right}
 use native.Mathlib.Omega.{arith}
 use borrow.Author.Tests.{le-ltb}
 use lib.Dec.{eqb, ltb}
-use lib.ListN.{length, getD, take, drop, length-drop}
-use lib.Seq.{length-take-le, take-add, take-all}
+use lib.ListN.{length, getD, take}
+use lib.Seq.{take-all}
 use Rattle.laws.specs.Pick.{pick}
 use Rattle.laws.specs.Lists.{writtenOver}
 use Rattle.laws.proofs.Pick.{not-f}
@@ -28,10 +28,11 @@ use Rattle.defects.specs.OnTheCylinder.{CanBePut, fieldsFor, withMap, is
 use Rattle.defects.specs.declared.decoding.MapRead.{MapRead}
 use Rattle.defects.specs.declared.defect.Defect.{Defect}
 use Rattle.defects.specs.declared.offence.Offence.{Offence}
+use Rattle.defects.proofs.Fields.{field-length, same-beginning}
 use Rattle.defects.proofs.Promised.{map-decoded, map-read}
 use Rattle.defects.proofs.Offences.{first-miss}
 use Rattle.defects.proofs.EncodableValue.{Encodable, encodable}
-use Rattle.defects.proofs.EncodedMap.{Begins, length-map, map-begins}
+use Rattle.defects.proofs.EncodedMap.{Begins, length-map, map-alone}
 use Rattle.defects.proofs.EncodedOctets.{map-is-octets}
 use Rattle.defects.proofs.RoundTrip.{told-behind}
 use Rattle.defects.proofs.SectorFields.{field-of-cylinder, length-cylinder}
@@ -39,23 +40,12 @@ use Rattle.defects.proofs.ReadIsDecode.{but-for-28, read-is-decode}
 use Rattle.defects.proofs.CutMap.{cut-map}
 use Rattle.defects.proofs.StoredFields.{length-stored, stored-outside, stored-field}
 
--- strings with the same data fields begin alike
-same-beginning : (s : Setup) (a b : List ℕ) (n : ℕ) → ((k : ℕ) → k < n → fieldAt s a k ≡ fieldAt s b k) → take (n * fieldOctets s) a ≡ take (n * fieldOctets s) b
-unfolding fieldAt
-same-beginning s a b zero same = rw zero-mul
-same-beginning s a b (suc n) same =
-    rw (suc-mul n (fieldOctets s), take-add (n * fieldOctets s) (fieldOctets s) a, take-add (n * fieldOctets s) (fieldOctets s) b)
-    (ap₂ _++_ (same-beginning s a b n (λ k h. same k (omega arith))) (same n (omega arith)))
-
 module _ (s : Setup) (v : Value) (sectors : List ℕ) (c : CanBePut s v sectors) where
   e : Encodable s v
   e = encodable s v (c .limits) (c .value) (c .fitting)
 
   whole : (k : ℕ) → k < fieldsFor s v → length (fieldAt s (mapOctets s v) k) ≡ fieldOctets s
-  unfolding fieldAt
-  whole k h =
-      length-take-le (fieldOctets s) (drop (k * fieldOctets s) (mapOctets s v))
-      (simp length-drop (omega (arith, mul-le-mul-right {m = suc k} (fieldOctets s) h, length-map s v (e .field1))))
+  whole k h = field-length s (mapOctets s v) k (omega (arith, mul-le-mul-right {m = suc k} (fieldOctets s) h, length-map s v (e .field1)))
 
   as-many : length (withMap s v sectors) ≡ length sectors
   as-many = length-stored s (mapOctets s v) (fieldsFor s v) (c .limits) (e .room) whole sectors 0 (fieldsFor s v) (c .room) (omega arith)
@@ -78,7 +68,7 @@ module _ (s : Setup) (v : Value) (sectors : List ℕ) (c : CanBePut s v sectors)
 
   begins : Begins s v (lastCylinder s (withMap s v sectors))
   begins =
-      let map : Begins s v (mapOctets s v) = rw append-nil at (map-begins s v (e .field1) []) in
+      let map = map-alone s v (e .field1) in
       record {
         fields = λ set copy h l. in-cylinder (3 * set + copy) (omega arith) ∙ map .fields set copy h l;
         long = omega (arith, length-cylinder s (withMap s v sectors) (c .limits) (omega (arith, as-many, c .room)), mul-le-mul-right (fieldOctets s) (e .room));

@@ -1,4 +1,4 @@
--- No second answer: two outcomes that satisfy what a call promises are equal, for each public call.
+-- No second answer: two outcomes that satisfy what a call promises are equal, for each public call that does not decode a map.
 -- Assumes nothing.
 use Prim.Native.Nat.{ℕ}
 use mathlib.Core.Path.{_≡_}
@@ -11,6 +11,9 @@ use Rattle.defects.specs.declared.defect.Defect.{Defect}
 use Rattle.defects.specs.declared.defect.DefectRead.{DefectRead}
 use Rattle.defects.specs.declared.defect.Encoded.{Encoded}
 use Rattle.defects.specs.declared.place.MapPlace.{MapPlace}
+use Rattle.defects.specs.Encoding.{EncodedMap}
+use Rattle.defects.specs.Sectors.{WroteMap}
+use Rattle.defects.specs.declared.encoding.MapEncoded.{MapEncoded}
 
 pub decode-defect-only : (octets : List ℕ) (r s : DefectRead) → DecodedDefect octets r → DecodedDefect octets s → r ≡ s
 decode-defect-only octets r s p q = answer-only (p .answer) (q .answer)
@@ -21,3 +24,11 @@ encode-defect-only d before after after′ r s p q = (answer-only (p .answer) (q
 
 pub map-place-only : (setup : Setup) (k : ℕ) (r s : MapPlace) → Placed setup k r → Placed setup k s → r ≡ s
 map-place-only setup k r s p q = answer-only (p .answer) (q .answer)
+
+pub encode-map-only : (setup : Setup) (cylinder head : ℕ) (defects before after after′ : List ℕ) (r s : MapEncoded)
+    → EncodedMap setup cylinder head defects before after r → EncodedMap setup cylinder head defects before after′ s → (r ≡ s) × (after ≡ after′)
+encode-map-only setup cylinder head defects before after after′ r s p q = (answer-only (p .answer) (q .answer), answer-only (p .slice) (q .slice))
+
+pub write-map-only : (setup : Setup) (cylinder head : ℕ) (defects before after after′ : List ℕ) (r s : Encoded)
+    → WroteMap setup cylinder head defects before after r → WroteMap setup cylinder head defects before after′ s → (r ≡ s) × (after ≡ after′)
+write-map-only setup cylinder head defects before after after′ r s p q = (answer-only (p .answer) (q .answer), answer-only (p .sectors) (q .sectors))

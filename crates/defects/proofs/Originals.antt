@@ -1,32 +1,18 @@
 -- Copy 0 judged part by part: the first part with an offence has that of the whole data field.
 -- Assumes nothing.
-use Prim.Native.Nat.{ℕ, zero, suc, _+_, _*_, _≤_}
-use mathlib.Core.Path.{_≡_, sym, ap, _∙_}
-use mathlib.Core.Bool.{Bool, true, false}
-use mathlib.Core.List.{List, [], _∷_, _++_}
-use native.Mathlib.Omega.{arith}
+use Prim.Native.Nat.{ℕ, _+_}
+use mathlib.Core.Path.{_≡_, _∙_}
+use mathlib.Core.Bool.{true, false}
+use mathlib.Core.List.{List, _++_}
 use lib.ListN.{length}
-use Rattle.laws.specs.Pick.{pick}
 use Rattle.parts.specs.declared.setup.Setup.{Setup}
 use Rattle.defects.specs.Offence.{Test, firstOf}
-use Rattle.defects.specs.Defect.{defectAt, isBlank}
-use Rattle.defects.specs.Field.{frontOf, isFlagged, slots, defectsFrom, defectsIn}
+use Rattle.defects.specs.Field.{frontOf, isFlagged, defectsIn}
 use Rattle.defects.specs.Judging.{frontTests, listTests, paddingTests, crcTests, originalTests}
 use Rattle.defects.specs.declared.front.Front.{Front}
 use Rattle.defects.specs.declared.offence.Offence.{Offence}
 use Rattle.defects.specs.declared.walk.Walk.{Walk}
 use Rattle.defects.proofs.Offences.{stops, goes-on}
-
--- no more entries than slots
-pub entries-within : (field : List ℕ) (index left : ℕ) → length (defectsFrom field index left) ≤ left
-unfolding defectsFrom pick
-entries-within field index zero = omega arith
-entries-within field index (suc left) = by-test (isBlank (defectAt index field)) (entries-within field (index + 12) left)
-  where
-    by-test : (test : Bool) → length (defectsFrom field (index + 12) left) ≤ left
-        → length (pick test [] (defectAt index field ∷ defectsFrom field (index + 12) left)) ≤ suc left
-    by-test true h = omega arith
-    by-test false h = omega arith
 
 module _ (s : Setup) (w : Walk) (least start : ℕ) (front : Front) (field : List ℕ) (same : front ≡ frontOf field) where
   abbrev fore : List Test

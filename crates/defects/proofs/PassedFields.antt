@@ -9,7 +9,7 @@ use borrow.Author.Tests.{eqb-true, eqb-false, leb-false, lt-ltb, ltb-true, ltb-f
 use lib.Dec.{eqb, ltb}
 use lib.ListN.{length, getD, take}
 use Rattle.laws.specs.Pick.{pick}
-use Rattle.laws.proofs.Pick.{either, cases}
+use Rattle.laws.proofs.Pick.{cases}
 use Rattle.laws.proofs.Tests.{or-l}
 use Rattle.parts.specs.declared.setup.Setup.{Setup}
 use Rattle.defects.specs.Offence.{_at_when_, firstOf, testsOver}
@@ -21,7 +21,7 @@ use Rattle.defects.specs.Encoding.{isUnordered, isListable, areListable}
 use Rattle.defects.specs.declared.defect.Defect.{Defect}
 use Rattle.defects.specs.declared.front.Front.{Front}
 use Rattle.defects.specs.declared.walk.Walk.{Walk}
-use Rattle.defects.proofs.Offences.{none-head, none-parts, none-over, Passed, all-passed}
+use Rattle.defects.proofs.Offences.{none-head, none-parts, none-over, end, next, Passed, all-passed}
 
 -- ---- the octets in front
 
@@ -58,7 +58,7 @@ front-passed s w start size front h = by-set (eqb (w .set) 0) refl (all-passed _
   where
     by-set : (opens : Bool) → eqb (w .set) 0 ≡ opens
         → Passed (18 at start when not (eqb (front .count) (size - 2)) ∷ pick opens (openingTests s start front) (laterTests w start front)) → FrontPassed s w size front
-    by-set true e (count, (flags, (copy, (sets, (set, (cylinder, (head, end))))))) =
+    by-set true e (next count (next flags (next copy (next sets (next set (next cylinder (next head end))))))) =
         let none : w .set ≡ 0 = eqb-true _ _ e in
         record {
           count = same _ _ count;
@@ -69,7 +69,7 @@ front-passed s w start size front h = by-set (eqb (w .set) 0) refl (all-passed _
           opens = λ e. (omega (arith, eqb-false (front .sets) 0 sets), leb-false _ _ cylinder, leb-false _ _ head);
           follows = λ other. absurd (other none);
         }
-    by-set false e (count, (flags, (copy, (sets, (set, (cylinder, (head, end))))))) =
+    by-set false e (next count (next flags (next copy (next sets (next set (next cylinder (next head end))))))) =
         record {
           count = same _ _ count;
           plain = flags-plain _ _ flags;
@@ -91,19 +91,13 @@ unfolding defectsFrom
 none-blank field i zero = tt
 none-blank field i (suc left) = cases NoneBlank (isBlank (defectAt i field)) (λ blank. tt) (λ solid. (solid, none-blank field (i + 12) left))
 
-pub entries-few : (field : List ℕ) (i left : ℕ) → length (defectsFrom field i left) ≤ left
-unfolding defectsFrom
-entries-few field i zero = omega arith
-entries-few field i (suc left) =
-    let below = entries-few field (i + 12) left in
-    either (λ (defects : List Defect). length defects ≤ suc left) (isBlank (defectAt i field)) (omega arith) (omega arith)
-
 entry-passed : (s : Setup) (flagged : Bool) (least offset : ℕ) (d : Defect) → firstOf (entryTests s flagged least offset d) .found ≡ false
     → (d .cylinder < s .cylinders) × (d .head < s .heads) × (flagged ≡ false → isOutOfSequence least d ≡ false)
 unfolding entryTests
 entry-passed s flagged least offset d h =
-    let (cylinder, (order, (head, end))) = all-passed _ h in
-    (leb-false _ _ cylinder, leb-false _ _ head, λ e. rw e at order)
+    let (cylinder, rest) = none-head _ _ h in
+    let (order, last) = none-head _ _ rest in
+    (leb-false _ _ cylinder, leb-false _ _ (none-head _ _ last .0), λ e. rw e at order)
 
 list-passed : (s : Setup) (flagged : Bool) (least offset : ℕ) (defects : List Defect) → NoneBlank defects
     → firstOf (listTests s flagged least offset defects) .found ≡ false
@@ -126,7 +120,7 @@ pub record OriginalPassed (s : Setup) (w : Walk) (least : ℕ) (field : List ℕ
   pub crc : crcIn field ≡ crcOf (take (length field - 2) field)
 
 crc-passed : (start : ℕ) (field : List ℕ) → firstOf (crcTests start field) .found ≡ false → crcIn field ≡ crcOf (take (length field - 2) field)
-crc-passed start field h = same _ _ (all-passed _ h .0)
+crc-passed start field h = same _ _ (none-head _ _ h .0)
 
 pub original-passed : (s : Setup) (w : Walk) (least start : ℕ) (field : List ℕ) → firstOf (originalTests s w least start field) .found ≡ false
     → OriginalPassed s w least field

@@ -2,7 +2,7 @@
 -- Assumes nothing.
 use Prim.Native.Nat.{ℕ, _+_, _*_, _/_, _%_, _≤_}
 use mathlib.Core.Path.{_≡_, refl, sym, ap, ap₂, _∙_}
-use mathlib.Core.Bool.{Bool, true, false, not, _||_}
+use mathlib.Core.Bool.{true, false, not, _||_}
 use mathlib.Core.List.{List, [], _∷_, _++_, append-assoc}
 use native.Mathlib.Omega.{arith}
 use borrow.Author.Tests.{le-ltb, eq-eqb, not-false}
@@ -11,7 +11,6 @@ use lib.ListN.{length, take, drop, length-append}
 use lib.Seq.{take-at}
 use Rattle.laws.specs.Pick.{pick}
 use Rattle.laws.specs.Lists.{writtenOver}
-use Rattle.laws.proofs.Differ.{never}
 use Rattle.laws.proofs.Pick.{not-f}
 use Rattle.laws.proofs.Rows.{none-given}
 use Rattle.parts.specs.Setup.{withinLimits}
@@ -25,22 +24,11 @@ use Rattle.defects.specs.Plain.{valueOf}
 use Rattle.defects.specs.declared.defect.Defect.{Defect}
 use Rattle.defects.specs.declared.decoding.MapRead.{MapRead}
 use Rattle.defects.specs.declared.encoding.MapEncoded.{MapEncoded}
-use Rattle.defects.specs.declared.offence.Offence.{Offence}
+use Rattle.defects.proofs.Answers.{accepted-map}
 use Rattle.defects.proofs.Offences.{none-head}
-use Rattle.defects.proofs.DefectOctets.{length-defect-octets}
-use Rattle.defects.proofs.EncodedField.{defect-behind, length-list-octets}
+use Rattle.defects.proofs.DefectOctets.{length-defect-octets, length-list}
+use Rattle.defects.proofs.EncodedField.{defect-behind}
 use Rattle.defects.proofs.EncodedMap.{length-map}
-
--- ---- an answer that is a map
-
-accepted-map : (o : Offence) (map r : MapRead) → ((n offset : ℕ) → r ≡ MapRead.Refused n offset → _≡_ {A = ℕ} 0 1)
-    → r ≡ pick (o .found) (MapRead.Refused (o .number) (o .offset)) map → (o .found ≡ false) × (r ≡ map)
-unfolding pick
-accepted-map o map r other e = by-found (o .found) refl e
-  where
-    by-found : (found : Bool) → o .found ≡ found → r ≡ pick found (MapRead.Refused (o .number) (o .offset)) map → (o .found ≡ false) × (r ≡ map)
-    by-found true h e = absurd (never (other _ _ e))
-    by-found false h e = (h, e)
 
 -- ---- octets that list defects
 
@@ -55,7 +43,7 @@ listed-behind (d ∷ defects) front start e f =
 
 listed-again : (defects : List Defect) → AllFitting defects → defectsListed (listOctets defects) ≡ defects
 listed-again defects f =
-    let count : length (listOctets defects) / 12 ≡ length defects = omega (arith, length-list-octets defects) in
+    let count : length (listOctets defects) / 12 ≡ length defects = omega (arith, length-list defects) in
     rw count (listed-behind defects [] 0 refl f)
 
 -- ---- the calls
@@ -78,7 +66,7 @@ told s octets lent lent′ count cylinder head d =
     let (within, others) = none-head _ _ free in
     let many : count ≡ length defects = cc in
     let written : lent′ ≡ writtenOver lent (listOctets defects) = d .slice ∙ rw free in
-    let size : length (listOctets defects) ≡ 12 * count = omega (arith, length-list-octets defects) in
+    let size : length (listOctets defects) ≡ 12 * count = omega (arith, length-list defects) in
     record {
       limits = not-false _ within;
       accepted = none-head _ _ others .1;
@@ -98,8 +86,8 @@ module _ (s : Setup) (octets lent′ : List ℕ) (count cylinder head : ℕ) (t 
       let list = listOctets (v .defects) in
       let e′ : EncodedMap s (v .cylinder) (v .head) list before after answer = rw (t .listed, t .cylinder-is, t .head-is) at e in
       let again = listed-again (v .defects) fitting in
-      let many : length list / 12 ≡ count = omega (arith, length-list-octets (v .defects), t .count-is) in
-      let dozens : length list % 12 ≡ 0 = omega (arith, length-list-octets (v .defects)) in
+      let many : length list / 12 ≡ count = omega (arith, length-list (v .defects), t .count-is) in
+      let dozens : length list % 12 ≡ 0 = omega (arith, length-list (v .defects)) in
       let value : (not (eqb (length list % 12) 0) || not (isEncodable s (record { cylinder = v .cylinder; head = v .head; defects = defectsListed list }))) ≡ false =
       rw (eq-eqb _ _ dozens, again, encodable) in
       let free = none-given (encodeRows s (v .cylinder) (v .head) list (length before)) (not-f _ (t .limits), (le-ltb (length before) (mapLength s (length list / 12)) (rw many room), (value, tt))) in

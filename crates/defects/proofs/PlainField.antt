@@ -1,6 +1,6 @@
 -- A data field that passed its tests and is in the plain spelling has the octets that an encoding writes.
 -- Assumes nothing.
-use Prim.Native.Nat.{ℕ, zero, suc, _+_, _-_, _*_, _/_, _%_, _<_, _≤_}
+use Prim.Native.Nat.{ℕ, _+_, _-_, _*_, _/_, _%_, _<_, _≤_}
 use mathlib.Core.Path.{_≡_, refl, sym, ap, ap₂, _∙_}
 use mathlib.Core.Bool.{Bool, true, false, not}
 use mathlib.Core.List.{List, [], _∷_, _++_}
@@ -10,26 +10,21 @@ use borrow.Author.Tests.{eqb-true, eqb-false, not-false}
 use lib.Dec.{eqb}
 use lib.ListN.{length, getD, take, drop, replicate, length-drop, length-set, length-replicate, getD-replicate, take-append-drop}
 use lib.ListN.{set as stored}
-use lib.Seq.{take-add, take-suc, take-all, length-take-le, take-at, drop-drop, getD-take, getD-drop, getD-set-same, getD-set-other, ext-getD}
+use lib.Seq.{take-add, take-suc, take-all, length-take-le, take-at, getD-take, getD-drop, getD-set-same, getD-set-other, ext-getD}
 use Rattle.laws.specs.Pick.{pick}
 use Rattle.laws.specs.Octets.{octetsOf, AllOctets}
-use Rattle.laws.proofs.Octets.{octets-taken, octets-dropped}
-use Rattle.laws.proofs.Pick.{cases}
 use Rattle.laws.proofs.Tests.{or-l, or-r}
 use Rattle.parts.specs.declared.setup.Setup.{Setup}
 use Rattle.defects.specs.Crc.{crcOf}
-use Rattle.defects.specs.Defect.{numberAt, defectAt, listOctets, isBlank}
+use Rattle.defects.specs.Defect.{numberAt, listOctets}
 use Rattle.defects.specs.Field.{frontOf, isLast, hasStrayFlags, isFlagged, crcIn, slots, defectsFrom, defectsIn}
 use Rattle.defects.specs.Place.{fieldOctets}
-use Rattle.defects.specs.Walk.{fieldAt}
 use Rattle.defects.specs.Encoding.{Value, defectsOfSet, flagsFor, frontOctets, bodyOctets, dataField}
-use Rattle.defects.specs.declared.defect.Defect.{Defect}
-use Rattle.defects.proofs.EncodedField.{length-list-octets, few-entries, length-body, length-field, frontFor, body-of-copy}
-use Rattle.defects.proofs.DefectOctets.{octets-of-defect, octets-there, with-next}
-
-pub field-octets : (s : Setup) (octets : List ℕ) (k : ℕ) → AllOctets octets → AllOctets (fieldAt s octets k)
-unfolding fieldAt
-field-octets s octets k all = octets-taken (fieldOctets s) _ (octets-dropped (k * fieldOctets s) octets all)
+use Rattle.defects.proofs.EntriesLeft.{entries-few, entries-listed}
+use Rattle.defects.proofs.Listed.{listed-octets}
+use Rattle.defects.proofs.Bodies.{few-entries, length-body, length-field, renumbered}
+use Rattle.defects.proofs.EncodedField.{frontFor}
+use Rattle.defects.proofs.DefectOctets.{octets-there, with-next, length-list}
 
 -- ---- the flags
 
@@ -64,7 +59,7 @@ flags-are flags last unordered small plain l u =
 -- ---- the octets in front, and the entries
 
 module _ (field : List ℕ) (all : AllOctets field) where
-  pub front-there : 14 ≤ length field
+  front-there : 14 ≤ length field
       → let front = frontOf field in
       octetsOf 2 (front .count) ++ (front .flags ∷ front .copy ∷ []) ++ octetsOf 2 (front .sets) ++ octetsOf 2 (front .set) ++ octetsOf 4 (front .cylinder) ++ octetsOf 2 (front .head)
       ≡ take 14 field
@@ -80,15 +75,8 @@ module _ (field : List ℕ) (all : AllOctets field) where
 
   entries-there : (i left : ℕ) → i + 12 * left ≤ length field
       → listOctets (defectsFrom field i left) ≡ take (12 * length (defectsFrom field i left)) (drop i field)
-  unfolding defectsFrom
-  entries-there i zero h = refl
-  entries-there i (suc left) h =
-      let d = defectAt i field in
-      let rest = defectsFrom field (i + 12) left in
-      cases (λ (defects : List Defect). listOctets defects ≡ take (12 * length defects) (drop i field)) (isBlank d) (λ blank. refl) (λ solid.
-      let below = entries-there (i + 12) left (omega arith) in
-      let size : 12 * suc (length rest) ≡ 12 + 12 * length rest = omega arith in
-      rw (size, take-add 12 (12 * length rest) (drop i field), drop-drop 12 i field) (ap₂ _++_ (octets-of-defect i field (omega arith) all) below))
+  entries-there i left h =
+      ap listOctets (entries-listed field i left) ∙ listed-octets field all i (length (defectsFrom field i left)) (omega (arith, entries-few field i left))
 
 -- ---- the padding and the CRC
 
@@ -100,7 +88,7 @@ zeros-there field n m h zero-at =
     getD-take m (drop n field) i 0 less ∙ getD-drop n field i 0 ∙ zero-at (n + i) (omega arith) (omega arith) ∙ sym (getD-replicate m i 0 0 less))
 
 -- all but the CRC, and the CRC
-pub with-crc : (field body : List ℕ) → AllOctets field → 2 ≤ length field → take (length field - 2) field ≡ body → crcIn field ≡ crcOf (take (length field - 2) field)
+with-crc : (field body : List ℕ) → AllOctets field → 2 ≤ length field → take (length field - 2) field ≡ body → crcIn field ≡ crcOf (take (length field - 2) field)
     → field ≡ body ++ octetsOf 2 (crcOf body)
 with-crc field body all h is crc =
     let n = length field - 2 in
@@ -126,7 +114,7 @@ module _ (s : Setup) (v : Value) (set : ℕ) (field : List ℕ) (all : AllOctets
       let n = 14 + 12 * length defects in
       let few = few-entries s v set in
       let m = fieldOctets s - 16 - length (listOctets defects) in
-      let long = length-list-octets defects in
+      let long = length-list defects in
       let split : length field - 2 ≡ n + m = omega arith in
       rw (split, take-add n m field, take-add 14 (12 * length defects) field)
       (ap₂ _++_ (ap₂ _++_ front-is entries-are) (zeros-there field n m (omega arith) (λ i low high. padding i low (omega arith))))
@@ -164,4 +152,4 @@ copy-is s v set copy field original all size wide is number alike crc =
     let long = ap length is ∙ length-field s v set 0 wide in
     let body : take n original ≡ bodyOctets s v set 0 = rw is (take-at (bodyOctets s v set 0) _ n (length-body s v set 0 wide ∙ omega arith)) in
     let same = changed field original n copy (omega arith) (omega arith) (omega arith) number (λ i other few. alike i other (omega arith)) in
-    with-crc field (bodyOctets s v set copy) all (omega arith) (same ∙ ap (λ (front : List ℕ). stored front 3 copy) body ∙ sym (body-of-copy s v set copy)) crc
+    with-crc field (bodyOctets s v set copy) all (omega arith) (same ∙ ap (λ (front : List ℕ). stored front 3 copy) body ∙ renumbered s v set 0 copy) crc

@@ -1,73 +1,24 @@
 -- The sets of a decoded map none of whose data fields is ignored: set i begins at data field 3 i, and lists the defects behind those before it.
 -- Assumes nothing.
-use Prim.Native.Nat.{ℕ, zero, suc, _+_, _-_, _*_, _/_, _<_, _≤_, max}
-use mathlib.Core.Path.{_≡_, refl, sym, ap, _∙_}
+use Prim.Native.Nat.{ℕ, zero, suc, _+_, _-_, _*_, _<_, _≤_}
+use mathlib.Core.Path.{_≡_, refl, ap, _∙_}
 use mathlib.Core.Bool.{Bool, true, false}
-use mathlib.Core.List.{List, [], _++_, append-assoc, append-nil}
-use native.Mathlib.Nat.{add-zero, add-suc, max-eq-left, max-eq-right, div-lt-iff-lt-mul, div-eq-of-lt-le}
+use mathlib.Core.List.{List, _++_}
 use native.Mathlib.Omega.{arith}
-use borrow.Author.Tests.{eq-eqb, eqb-true, eqb-false}
+use borrow.Author.Tests.{eq-eqb}
 use lib.Dec.{eqb}
 use Rattle.laws.specs.Pick.{pick}
-use Rattle.laws.proofs.Pick.{cases}
+use Rattle.laws.proofs.Tests.{same-equation}
 use Rattle.parts.specs.declared.setup.Setup.{Setup}
 use Rattle.defects.specs.Offence.{firstOf}
-use Rattle.defects.specs.Field.{frontOf, isLast, isIgnored, slots, defectsIn}
-use Rattle.defects.specs.Place.{fieldOctets, dataFields}
+use Rattle.defects.specs.Field.{frontOf, isLast, isIgnored, defectsIn}
+use Rattle.defects.specs.Place.{dataFields}
 use Rattle.defects.specs.Walk.{isEnded, afterOriginal, afterCopy, fieldAt, walkAt, isOriginal, defectsBefore, mapTests}
-use Rattle.defects.specs.Encoding.{setsFor}
-use Rattle.defects.specs.declared.defect.Defect.{Defect}
 use Rattle.defects.specs.declared.walk.Walk.{Walk}
-use Rattle.defects.proofs.Standing.{begins-set}
+use Rattle.defects.proofs.WalkSteps.{going-on, past-original, past-copy, set-listed, copy-lists-none, ended-stays}
+use Rattle.defects.proofs.Thirds.{counted}
 use Rattle.defects.proofs.Accepted.{whole, original-at}
-use Rattle.defects.proofs.Copies.{going-on, past-original, past-copy, copies}
-use Rattle.defects.proofs.DecodedValue.{set-listed, none-listed, counted}
-use Rattle.defects.proofs.EncodedWalk.{Reached, ended-on}
-use Rattle.defects.proofs.EncodedTests.{same-equation}
-
--- ---- how many sets so many defects take
-
-rounded : (each count before last : ℕ) → count ≡ before * each + last → last ≤ each → (0 < before → 0 < last)
-    → pick (eqb each 0) 1 (max 1 ((count + each - 1) / each)) ≡ suc before
-rounded each count zero last e few some =
-    cases (λ (n : ℕ). n ≡ 1) (eqb each 0) (λ none. refl) (λ other.
-    let positive : 0 < each = omega (arith, eqb-false each 0 other) in
-    let one : (count + each - 1) / each < 2 = div-lt-iff-lt-mul positive .1 (omega arith) in
-    max-eq-left (omega arith))
-rounded each count (suc before) last e few some =
-    let held : 0 < last = some (omega arith) in
-    let quotient : (count + each - 1) / each ≡ suc (suc before) = div-eq-of-lt-le each (omega arith) (omega arith) in
-    cases (λ (n : ℕ). n ≡ suc (suc before)) (eqb each 0) (λ none. absurd (omega (arith, eqb-true each 0 none))) (λ other. rw quotient (max-eq-right (omega arith)))
-
-pub sets-exact : (s : Setup) (count before last : ℕ) → count ≡ before * slots (fieldOctets s) + last → last ≤ slots (fieldOctets s) → (0 < before → 0 < last)
-    → setsFor s count ≡ suc before
-unfolding setsFor
-sets-exact s count before last = rounded (slots (fieldOctets s)) count before last
-
--- ---- from a data field to the end
-
-module _ (s : Setup) (octets : List ℕ) where
-  -- behind its end the map stays as it is
-  pub stays : (k more : ℕ) → isEnded (walkAt s octets k) ≡ true → Reached s octets (k + more) (walkAt s octets k) (defectsBefore s octets k)
-  stays k zero end = rw add-zero (record { walk = refl; listed = refl })
-  stays k (suc more) end = ended-on (k + suc more) (add-suc k more) (stays k more end) end
-
-  -- what was listed stays listed
-  pub listed-on : (k more : ℕ) → (rest : List Defect) × (defectsBefore s octets (k + more) ≡ defectsBefore s octets k ++ rest)
-  unfolding defectsBefore
-  listed-on k zero = ([], rw add-zero (sym (append-nil (defectsBefore s octets k))))
-  listed-on k (suc more) =
-      let (rest, e) = listed-on k more in
-      let next = pick (isOriginal (walkAt s octets (k + more)) (fieldAt s octets (k + more))) (defectsIn (fieldAt s octets (k + more))) [] in
-      (rest ++ next, rw add-suc (ap (λ (defects : List Defect). defects ++ next) e ∙ append-assoc (defectsBefore s octets k) rest next))
-
--- another copy lists nothing anew
-copy-lists-none : (s : Setup) (octets : List ℕ) (k : ℕ) → (walkAt s octets k .copy ≡ 0 → ⊥) → defectsBefore s octets (suc k) ≡ defectsBefore s octets k
-copy-lists-none s octets k other = by-test (isOriginal (walkAt s octets k) (fieldAt s octets k)) refl
-  where
-    by-test : (begins : Bool) → isOriginal (walkAt s octets k) (fieldAt s octets k) ≡ begins → defectsBefore s octets (suc k) ≡ defectsBefore s octets k
-    by-test true e = absurd (other (eqb-true _ _ (begins-set (walkAt s octets k) (fieldAt s octets k) e .2)))
-    by-test false e = none-listed s octets k e
+use Rattle.defects.proofs.Copies.{copies}
 
 -- ---- where the sets are
 
@@ -103,7 +54,7 @@ module _ (alone : Bool) (s : Setup) (octets : List ℕ) (accepted : firstOf (map
       by-test : (end : Bool) → isEnded (walkAt s octets (3 * i)) ≡ end → isEnded (walkAt s octets (3 * i)) ≡ false
       by-test true e =
           let sum : 3 * i + (dataFields s - 3 * i) ≡ dataFields s = omega (arith, room) in
-          let same = rw sum at (stays s octets (3 * i) (dataFields s - 3 * i) e .walk) in
+          let same = rw sum at (ended-stays s octets (3 * i) (dataFields s - 3 * i) e) in
           absurd (omega (arith, ap (λ (w : Walk). w .set) same))
       by-test false e = e
 

@@ -4,12 +4,12 @@ use Prim.Native.Nat.{ℕ, zero, suc, _+_, _-_, _*_, _/_, _%_, _<_, _≤_}
 use mathlib.Core.Path.{_≡_, refl, sym, ap, ap₂, _∙_}
 use mathlib.Core.Bool.{Bool, true, false}
 use mathlib.Core.List.{List, [], _++_, append-assoc, append-nil}
-use native.Mathlib.Nat.{zero-mul, add-zero, le-refl}
+use native.Mathlib.Nat.{add-zero, le-refl}
 use native.Mathlib.Omega.{arith}
 use borrow.Author.Tests.{eq-eqb, ne-eqb, eqb-true, eqb-false, ltb-false}
 use lib.Dec.{eqb}
-use lib.ListN.{length, take, drop, length-append, take-append-drop, drop-of-length-le}
-use lib.Seq.{take-all, take-at, drop-at, drop-drop}
+use lib.ListN.{length, take, length-append}
+use lib.Seq.{take-all, take-at, drop-at}
 use Rattle.laws.specs.Pick.{pick}
 use Rattle.laws.specs.Octets.{AllOctets}
 use Rattle.parts.specs.declared.setup.Setup.{Setup}
@@ -22,33 +22,17 @@ use Rattle.defects.specs.Decoding.{defectsOf}
 use Rattle.defects.specs.Encoding.{setsFor, defectsOfSet, defectsBeforeSet, isUnordered, dataField, mapOctets}
 use Rattle.defects.specs.Plain.{valueOf, PlainSet, Plain}
 use Rattle.defects.specs.declared.defect.Defect.{Defect}
-use Rattle.defects.proofs.Accepted.{Whole, room, length-field, whole, nothing-behind, original-at, copy-at}
-use Rattle.defects.proofs.Standing.{begins-set}
-use Rattle.defects.proofs.Copies.{going-on, copies}
+use Rattle.defects.proofs.WalkSteps.{begins-set, going-on, listed-on, defects-stay}
+use Rattle.defects.proofs.Thirds.{few-in-field, counted}
+use Rattle.defects.proofs.Fields.{some-field, field-octets, same-beginning}
+use Rattle.defects.proofs.SetsFor.{sets-exact}
+use Rattle.defects.proofs.Accepted.{Whole, length-field, whole, nothing-behind, original-at, copy-at}
+use Rattle.defects.proofs.Copies.{copies}
 use Rattle.defects.proofs.Decoded.{stored-at-end}
-use Rattle.defects.proofs.DecodedValue.{few-in-field, counted}
 use Rattle.defects.proofs.EncodedField.{frontFor}
-use Rattle.defects.proofs.EncodedMap.{Begins, length-map, map-begins}
-use Rattle.defects.proofs.PlainField.{field-octets, flags-are, original-is, copy-is}
-use Rattle.defects.proofs.PlainSets.{sets-exact, stays, listed-on, There, set-there, last-at, at-end, listed-next}
-
--- ---- two strings with the same data fields
-
-field-and-rest : (s : Setup) (octets : List ℕ) (k : ℕ) → drop (k * fieldOctets s) octets ≡ fieldAt s octets k ++ drop (suc k * fieldOctets s) octets
-unfolding fieldAt
-field-and-rest s octets k =
-    let size = fieldOctets s in
-    let sum : suc k * size ≡ k * size + size = omega arith in
-    rw (sum, ← (drop-drop size (k * size) octets)) (sym (take-append-drop size (drop (k * size) octets)))
-
-module _ (s : Setup) (a b : List ℕ) (n : ℕ) (short-a : length a ≤ n * fieldOctets s) (short-b : length b ≤ n * fieldOctets s)
-    (same : (k : ℕ) → k < n → fieldAt s a k ≡ fieldAt s b k) where
-  same-from : (count k : ℕ) → k + count ≡ n → drop (k * fieldOctets s) a ≡ drop (k * fieldOctets s) b
-  same-from zero k e = let end : k ≡ n = omega arith in rw end (drop-of-length-le a short-a ∙ sym (drop-of-length-le b short-b))
-  same-from (suc count) k e = field-and-rest s a k ∙ ap₂ _++_ (same k (omega arith)) (same-from count (suc k) (omega arith)) ∙ sym (field-and-rest s b k)
-
-  same-octets : a ≡ b
-  same-octets = rw zero-mul at (same-from n 0 (omega arith))
+use Rattle.defects.proofs.EncodedMap.{length-map, map-alone}
+use Rattle.defects.proofs.PlainField.{flags-are, original-is, copy-is}
+use Rattle.defects.proofs.PlainSets.{There, set-there, last-at, at-end, listed-next}
 
 -- ---- the defects of each set
 
@@ -80,7 +64,7 @@ module _ (s : Setup) (octets : List ℕ) (accepted : firstOf (mapTests true s oc
   -- those behind the last set are none
   all-listed : (i : ℕ) → suc i ≡ walkAt s octets (dataFields s) .set → defectsOf s octets ≡ defectsBefore s octets (3 * i) ++ defectsIn (fieldAt s octets (3 * i))
   all-listed i e =
-      let same = stays s octets (3 * suc i) (dataFields s - 3 * suc i) (at-end true s octets accepted (plain .none-ignored) i e) .listed in
+      let same = defects-stay s octets (3 * suc i) (dataFields s - 3 * suc i) (at-end true s octets accepted (plain .none-ignored) i e) in
       (rw (to-end (suc i) (omega arith)) at same) ∙ listed-next true s octets accepted (plain .none-ignored) i (omega arith)
 
   -- the defects of set i, and those behind it
@@ -165,7 +149,7 @@ module _ (s : Setup) (octets : List ℕ) (accepted : firstOf (mapTests true s oc
         let p = original-at true s octets accepted (3 * i) (omega (arith, t .inside)) (t .begins) in
         let f = the-field i h in
         let these = defects-of i h in
-        original-is s (valueOf s octets) i (fieldAt s octets (3 * i)) (field-octets s octets (3 * i) all) (length-field f) (room s (3 * i) (f .inside)) (front-plain i h) (sym these)
+        original-is s (valueOf s octets) i (fieldAt s octets (3 * i)) (field-octets s octets (3 * i) all) (length-field f) (some-field s (3 * i) (f .inside)) (front-plain i h) (sym these)
         (λ j low high. p .padding j (rw these at low) high) (p .crc)
 
     copy-plain : (i k copy : ℕ) → i < walkAt s octets (dataFields s) .set → k < dataFields s → isIgnored (fieldAt s octets k) ≡ false → (copy ≡ 0 → ⊥)
@@ -175,7 +159,7 @@ module _ (s : Setup) (octets : List ℕ) (accepted : firstOf (mapTests true s oc
         let on = going-on (walkAt s octets k) other′ in
         let p = copy-at true s octets accepted k (omega arith) on heard other′ in
         let size = length-field (whole true s octets accepted k (omega arith) on) in
-        copy-is s (valueOf s octets) i copy (fieldAt s octets k) (fieldAt s octets (walkAt s octets k .original)) (field-octets s octets k all) size (room s k inside)
+        copy-is s (valueOf s octets) i copy (fieldAt s octets k) (fieldAt s octets (walkAt s octets k .original)) (field-octets s octets k all) size (some-field s k inside)
         (ap (fieldAt s octets) first ∙ original-plain i h) (p .number ∙ due) (λ j not-3 few. p .alike j not-3 (rw size few)) (p .crc)
 
     field-plain : (i copy : ℕ) → i < walkAt s octets (dataFields s) .set → copy < 3 → fieldAt s octets (3 * i + copy) ≡ dataField s (valueOf s octets) i copy
@@ -205,10 +189,12 @@ module _ (s : Setup) (octets : List ℕ) (accepted : firstOf (mapTests true s oc
         let v = valueOf s octets in
         let n = walkAt s octets (dataFields s) .set in
         let f = the-field 0 some-set in
-        let wide = room s 0 (f .inside) in
-        let b : Begins s v (mapOctets s v) = rw append-nil at (map-begins s v wide []) in
+        let wide = some-field s 0 (f .inside) in
+        let b = map-alone s v wide in
         let long : length (mapOctets s v) ≤ 3 * n * fieldOctets s = rw (length-map s v wide, sets-told) (le-refl (3 * n * fieldOctets s)) in
-        same-octets s (mapOctets s v) octets (3 * n) long length-plain (λ k few.
+        sym (take-all (3 * n * fieldOctets s) (mapOctets s v) long)
+        ∙ same-beginning s (mapOctets s v) octets (3 * n) (λ k few.
         let split : 3 * (k / 3) + k % 3 ≡ k = omega arith in
         let third : k / 3 < n = omega arith in
         rw split at (b .fields (k / 3) (k % 3) (rw sets-told third) (omega arith) ∙ sym (field-plain (k / 3) (k % 3) third (omega arith))))
+        ∙ take-all (3 * n * fieldOctets s) octets length-plain

@@ -1,62 +1,35 @@
--- The sets of a map that can be encoded: they fit the last cylinder, and the defects of each are a run of the list.
+-- The sets of a map that can be encoded: they fit the last cylinder, the defects of each are a run of the list, and each data field has its place.
 -- Assumes nothing.
-use Prim.Native.Nat.{ℕ, zero, suc, _+_, _-_, _*_, _/_, _<_, _≤_, max}
+use Prim.Native.Nat.{ℕ, suc, _+_, _-_, _*_, _/_, _<_, _≤_}
 use mathlib.Core.Path.{_≡_, refl, sym, ap, _∙_}
 use mathlib.Core.Bool.{true}
 use mathlib.Core.List.{List}
-use native.Mathlib.Nat.{mul-le-mul, mul-le-mul-right, div-mul-le-self, zero-add}
+use native.Mathlib.Nat.{mul-le-mul-right, zero-add}
 use native.Mathlib.Omega.{arith}
-use borrow.Author.Tests.{ltb-false, leb-true, eqb-true, eqb-false}
-use lib.Dec.{eqb, ltb, leb}
+use borrow.Author.Tests.{leb-true}
+use lib.Dec.{leb}
 use lib.ListN.{length, drop}
-use Rattle.laws.proofs.Pick.{either, cases}
 use Rattle.laws.proofs.Tests.{and-l, and-r}
+use Rattle.parts.specs.Setup.{withinLimits}
 use Rattle.parts.specs.declared.setup.Setup.{Setup}
 use Rattle.parts.proofs.Bounds.{Limits, limits}
 use Rattle.defects.specs.Field.{slots}
 use Rattle.defects.specs.Place.{fieldOctets, dataFields}
-use Rattle.defects.specs.Encoding.{listFrom, defectsListed, setsFor, defectsOfSet, fits, isEncodable}
-use Rattle.defects.specs.EncodeSteps.{valueIn, Planned, RunOf, AllNear}
+use Rattle.defects.specs.Walk.{fieldAt}
+use Rattle.defects.specs.Encoding.{listFrom, defectsListed, setsFor, defectsOfSet, dataField, mapOctets, fits, isEncodable}
+use Rattle.defects.specs.EncodeSteps.{valueIn, Planned, RunOf, AllNear, HasRoom, HasPlace}
 use Rattle.defects.specs.declared.body.Job.{Job}
 use Rattle.defects.specs.declared.body.Run.{Run}
+use Rattle.defects.proofs.Fields.{some-field, few-fields}
+use Rattle.defects.proofs.SetsFor.{some-set, first-of-set}
+use Rattle.defects.proofs.EncodedMap.{length-map, map-alone}
 use Rattle.defects.proofs.Listed.{length-listed, listed-drop, listed-take, near, near-dropped, near-taken}
 
--- ---- the last cylinder
-
-large-field : (s : Setup) → 0 < dataFields s → 16 ≤ fieldOctets s
-unfolding dataFields
-large-field s = cases (λ (n : ℕ). 0 < n → 16 ≤ fieldOctets s) (ltb (s .field1) 8) (λ small h. absurd (omega arith)) (λ large h. omega (arith, ltb-false (s .field1) 8 large))
-
-few-fields : (s : Setup) → Limits s → dataFields s ≤ 8192
-unfolding dataFields
-few-fields s l = either (λ (n : ℕ). n ≤ 8192) (ltb (s .field1) 8) (omega arith) (mul-le-mul (l .heads) (l .sectors))
-
-some-set : (s : Setup) (count : ℕ) → 1 ≤ setsFor s count
-unfolding setsFor
-some-set s count = either (λ (n : ℕ). 1 ≤ n) (eqb (slots (fieldOctets s)) 0) (omega arith) (omega arith)
-
--- ---- the first defect of a set
-
-first-of-full : (count each set : ℕ) → set < max 1 ((count + each - 1) / each) → 0 < each → set * each ≤ count
-first-of-full count each zero h p = omega arith
-first-of-full count each (suc set) h p =
-    let whole = div-mul-le-self (count + each - 1) each in
-    let passed : suc (suc set) * each ≤ (count + each - 1) / each * each = mul-le-mul-right each (omega arith) in
-    omega arith
-
-first-of-set : (s : Setup) (count set : ℕ) → set < setsFor s count → set * slots (fieldOctets s) ≤ count
-unfolding setsFor
-first-of-set s count set =
-    let each = slots (fieldOctets s) in
-    cases (λ (n : ℕ). set < n → set * each ≤ count) (eqb each 0)
-    (λ none _. rw (eqb-true each 0 none) (omega arith))
-    (λ some h. first-of-full count each set h (omega (arith, eqb-false each 0 some)))
-
--- ---- what a plan tells
+-- ---- its sets
 
 pub record Plan (s : Setup) (job : Job) (octets : List ℕ) : Type 0 where
   pub limits : Limits s
-  pub large : 16 ≤ fieldOctets s
+  pub field1 : 8 ≤ s .field1
   pub sets : job .sets ≡ setsFor s (length (valueIn job octets .defects))
   pub fields : 3 * job .sets ≤ dataFields s
   pub few : dataFields s ≤ 8192
@@ -76,7 +49,7 @@ plan {s} {job} {octets} p =
     let some = some-set s count in
     record {
       limits = l;
-      large = large-field s (omega (arith, p .sets));
+      field1 = some-field s 0 (omega (arith, p .sets));
       sets = p .sets ∙ ap (setsFor s) (sym listed);
       fields = fields;
       few = few-fields s l;
@@ -103,3 +76,28 @@ run-known {s} {job} {octets} {set} {r} p h run =
       listed = listed;
       near = rw listed at (near-taken each (drop (set * each) (defectsListed octets)) (near-dropped (set * each) (defectsListed octets) (p .near)));
     }
+
+-- ---- its data fields
+
+module _ {s : Setup} {job : Job} {octets : List ℕ} (p : Plan s job octets) where
+  pub all-octets : length (mapOctets s (valueIn job octets)) ≡ 3 * job .sets * fieldOctets s
+  all-octets = length-map s (valueIn job octets) (p .field1) ∙ ap (λ (n : ℕ). 3 * n * fieldOctets s) (sym (p .sets))
+
+  pub copy-there : {k : ℕ} (set copy : ℕ) → k ≡ 3 * set + copy → set < job .sets → copy < 3 → fieldAt s (mapOctets s (valueIn job octets)) k ≡ dataField s (valueIn job octets) set copy
+  copy-there set copy e h i = rw e (map-alone s (valueIn job octets) (p .field1) .fields set copy (rw (p .sets) at h) i)
+
+  -- the data fields before one of them have their octets
+  pub before-field : (k : ℕ) → k ≤ 3 * job .sets → k * fieldOctets s ≤ length (mapOctets s (valueIn job octets))
+  before-field k h = rw all-octets (mul-le-mul-right (fieldOctets s) h)
+
+  -- there is a place for each data field
+  pub has-place : {k : ℕ} {field out₀ out sectors₀ sectors : List ℕ} → withinLimits s ≡ true → HasRoom s job out₀ sectors₀ → k < 3 * job .sets → length field ≡ fieldOctets s
+      → length out ≡ length out₀ → length sectors ≡ length sectors₀ → HasPlace s (job .stored) k field out sectors
+  has-place {k} w room h size same-out same-sectors =
+      let whole : suc k * fieldOctets s ≤ 3 * job .sets * fieldOctets s = mul-le-mul-right (fieldOctets s) h in
+      record {
+        limits = w;
+        size = size;
+        in-octets = λ e. omega (arith, room .octets e);
+        in-words = λ e. (omega (arith, p .fields), omega (arith, room .words e));
+      }

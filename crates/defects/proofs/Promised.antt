@@ -16,12 +16,14 @@ use Rattle.defects.specs.Place as place
 use Rattle.defects.specs.Place.{placeRows, placeIn, Placed}
 use Rattle.defects.specs.Decoding as decoding
 use Rattle.defects.specs.Decoding.{defectsOf, decodeOffence, decodedIn, DecodedMap}
-use Rattle.defects.specs.Encoding.{defectsListed, setsFor, mapOctets}
+use Rattle.defects.specs.Encoding as encoding
+use Rattle.defects.specs.Encoding.{defectsListed, setsFor, mapOctets, mapLength, encodeRows, encodeRefusal, EncodedMap}
 use Rattle.defects.specs.Sectors.{lastCylinder, readOffence, readIn, ReadMap, storedFields, writeRefusal, WroteMap}
 use Rattle.defects.specs.declared.decoding.MapRead.{MapRead}
 use Rattle.defects.specs.declared.defect.Defect.{Defect}
 use Rattle.defects.specs.declared.defect.DefectRead.{DefectRead}
 use Rattle.defects.specs.declared.defect.Encoded.{Encoded}
+use Rattle.defects.specs.declared.encoding.MapEncoded.{MapEncoded}
 use Rattle.defects.specs.declared.place.MapPlace.{MapPlace}
 
 pub defect-decoded : {octets : List ℕ} {r : DefectRead}
@@ -51,6 +53,18 @@ pub map-read : {s : Setup} {sectors before after : List ℕ} {r : MapRead} → r
     → after ≡ pick (readOffence s sectors before .found) before (writtenOver before (listOctets (defectsOf s (lastCylinder s sectors)))) → ReadMap s sectors before after r
 map-read {s} {sectors} {before} e written =
     record { answer = e; on-paper = ap decoding.paper e ∙ sym (pick-map decoding.paper (readOffence s sectors before .found) refl refl); slice = written }
+
+pub map-encoded : {s : Setup} {cylinder head : ℕ} {defects before after : List ℕ} {r : MapEncoded}
+    → let refusal = encodeRefusal s cylinder head defects (length before) in
+    r ≡ unlessRefused refusal (MapEncoded.Refused refusal) (MapEncoded.Written (mapLength s (length defects / 12)))
+    → after ≡ unlessRefused refusal before (writtenOver before (mapOctets s (record { cylinder = cylinder; head = head; defects = defectsListed defects })))
+    → EncodedMap s cylinder head defects before after r
+map-encoded {s} {cylinder} {head} {defects} {before} {r = r} e written =
+    record {
+      answer = e;
+      on-paper = seen-on-paper encoding.paper MapEncoded.Refused _ r _ (encodeRows s cylinder head defects (length before)) refl (λ n. refl) (λ passed. refl) e;
+      slice = written;
+    }
 
 pub map-wrote : {s : Setup} {cylinder head : ℕ} {defects before after : List ℕ} {r : Encoded}
     → let refusal = writeRefusal s cylinder head defects before in

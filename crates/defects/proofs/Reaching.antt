@@ -1,51 +1,33 @@
 -- The walk of the decoder: where it stands, what is left to test has the first offence of all, and behind the map's end nothing changes.
 -- Assumes nothing.
-use Prim.Native.Nat.{ℕ, zero, suc, _+_, _-_, _*_, _<_, _≤_, max}
+use Prim.Native.Nat.{ℕ, suc, _+_, _-_, _*_, _<_, _≤_}
 use mathlib.Core.Path.{_≡_, refl, sym, ap, _∙_}
-use mathlib.Core.Bool.{Bool, true, false, not, _&&_}
-use mathlib.Core.List.{List, [], _∷_, _++_, append-nil}
-use native.Mathlib.Nat.{zero-mul, add-mul, one-mul, suc-mul, add-zero, add-suc}
+use mathlib.Core.Bool.{Bool, true, false}
+use mathlib.Core.List.{List, [], _∷_, _++_}
+use native.Mathlib.Nat.{zero-mul, add-mul, one-mul}
 use native.Mathlib.Numerals.{add-one}
 use native.Mathlib.Omega.{arith}
 use borrow.Author.Count.{below-more}
-use borrow.Author.Tests.{lt-ltb, le-ltb, ltb-false, le-leb, lt-leb}
-use lib.Dec.{eqb, ltb}
+use borrow.Author.Tests.{lt-ltb, le-ltb, le-leb, lt-leb}
+use lib.Dec.{ltb}
 use lib.ListN.{length}
 use Rattle.laws.specs.Pick.{pick}
 use Rattle.parts.specs.declared.setup.Setup.{Setup}
-use Rattle.defects.specs.Offence.{Test, _at_when_, noOffence, offenceAt, firstOf}
-use Rattle.defects.specs.Defect.{address, behindAll}
-use Rattle.defects.specs.Field.{isIgnored, defectsIn}
+use Rattle.defects.specs.Offence.{_at_when_, offenceAt, firstOf}
+use Rattle.defects.specs.Defect.{behindAll}
+use Rattle.defects.specs.Field.{isIgnored}
 use Rattle.defects.specs.Place.{fieldOctets, dataFields}
-use Rattle.defects.specs.Walk.{outset, isEnded, after, fieldAt, walkAt, isOriginal, defectsBefore, testsAt, testsFrom, mapTests}
+use Rattle.defects.specs.Walk.{outset, isEnded, after, fieldAt, walkAt, defectsBefore, testsAt, testsFrom, mapTests}
 use Rattle.defects.specs.Steps.{StepTaken, EndsAt}
-use Rattle.defects.specs.declared.defect.Defect.{Defect}
 use Rattle.defects.specs.declared.offence.Offence.{Offence}
 use Rattle.defects.specs.declared.walk.Walk.{Walk}
 use Rattle.defects.specs.declared.walk.Stepped.{Stepped}
-use Rattle.defects.proofs.Offences.{first-hit, first-miss, first-behind, stops}
-use Rattle.defects.proofs.Standing.{next-step}
-use Rattle.defects.proofs.Accepted.{testsOf}
-
--- the least address behind two lists, one behind the other
-behind-append : (least : ℕ) (a b : List Defect) → behindAll least (a ++ b) ≡ behindAll (behindAll least a) b
-behind-append least [] b = refl
-behind-append least (d ∷ a) b = behind-append (max least (address d + 1)) a b
+use Rattle.defects.proofs.Listed.{behind-parts}
+use Rattle.defects.proofs.WalkSteps.{walk-next, defects-next, ended-stays, defects-stay}
+use Rattle.defects.proofs.TestsAt.{testsOf, behindTest, tests-going, none-behind}
+use Rattle.defects.proofs.Offences.{first-hit, first-miss, first-behind, stops, none-found}
 
 module _ (alone : Bool) (s : Setup) (octets : List ℕ) where
-  -- no more sets than data fields, and copy 0 is one of those before
-  pub walk-few : (k : ℕ) → (walkAt s octets k .set ≤ k) × (walkAt s octets k .original ≤ k)
-  unfolding walkAt pick
-  walk-few zero = (omega arith, omega arith)
-  walk-few (suc k) =
-      let (set, original) = walk-few k in
-      next-step (λ (w : Walk). (w .set ≤ suc k) × (w .original ≤ suc k)) s octets k (λ e. (omega arith, omega arith)) (λ e i. (omega arith, omega arith))
-      (λ e. (omega arith, omega arith)) (λ e i o. (by-third (eqb (walkAt s octets k .copy) 2) set, omega arith))
-    where
-      by-third : (third : Bool) → walkAt s octets k .set ≤ k → pick third (walkAt s octets k .set + 1) (walkAt s octets k .set) ≤ suc k
-      by-third true h = omega arith
-      by-third false h = omega arith
-
   -- ---- a turn
 
   -- no test before data field k holds
@@ -72,53 +54,17 @@ module _ (alone : Bool) (s : Setup) (octets : List ℕ) where
   own-tests : (k : ℕ) → k < dataFields s → isEnded (walkAt s octets k) ≡ false
       → testsAt alone s octets k ≡ 17 at k * fieldOctets s when ltb (length octets) (k * fieldOctets s + fieldOctets s) ∷ pick (isIgnored (fieldAt s octets k)) [] (testsOf s octets k)
   unfolding testsAt pick
-  own-tests k h going = rw (going, lt-leb _ _ h)
-
-  pub walk-next : (k : ℕ) → isEnded (walkAt s octets k) ≡ false → walkAt s octets (k + 1) ≡ after (walkAt s octets k) k (fieldAt s octets k)
-  unfolding walkAt pick
-  walk-next k going = rw (add-one k, going)
-
-  pub defects-next : (k : ℕ) → isEnded (walkAt s octets k) ≡ false
-      → defectsBefore s octets (k + 1)
-      ≡ defectsBefore s octets k ++ pick (not (isIgnored (fieldAt s octets k)) && eqb (walkAt s octets k .copy) 0) (defectsIn (fieldAt s octets k)) []
-  unfolding defectsBefore
-  defects-next k going = rw (add-one k, going)
+  own-tests k h going = tests-going alone s octets k going ∙ rw (lt-leb _ _ h)
 
   -- ---- behind the end
 
-  pub ended-stays : (k n : ℕ) → isEnded (walkAt s octets k) ≡ true → walkAt s octets (k + n) ≡ walkAt s octets k
-  unfolding walkAt pick
-  ended-stays k zero e = rw add-zero
-  ended-stays k (suc n) e = rw (add-suc, ended-stays k n e, e)
-
-  defects-stay : (k n : ℕ) → isEnded (walkAt s octets k) ≡ true → defectsBefore s octets (k + n) ≡ defectsBefore s octets k
-  unfolding defectsBefore pick
-  defects-stay k zero e = rw add-zero
-  defects-stay k (suc n) e = rw (add-suc, ended-stays k n e, e, defects-stay k n e) (append-nil (defectsBefore s octets k))
-
-  abbrev behindTest : ℕ → Test
-  behindTest k = 28 at k * fieldOctets s when (alone && ltb (k * fieldOctets s) (length octets))
-
-  -- where nothing follows, nothing follows further on
-  none-further : (test : Bool) (a b : ℕ) → a ≤ b → (test && ltb a (length octets)) ≡ false → (test && ltb b (length octets)) ≡ false
-  none-further false a b h e = refl
-  none-further true a b h e = le-ltb b (length octets) (omega (arith, ltb-false a (length octets) e))
-
-  none-stay : (k n : ℕ) → isEnded (walkAt s octets k) ≡ true → behindTest k .holds ≡ false → firstOf (testsFrom alone s octets k n) ≡ noOffence
-  unfolding testsFrom testsAt firstOf pick walkAt
-  none-stay k zero e t = refl
-  none-stay k (suc n) e t =
-      let next : isEnded (walkAt s octets (suc k)) ≡ true = rw e e in
-      let further = none-further alone (k * fieldOctets s) (suc k * fieldOctets s) (omega (arith, suc-mul k (fieldOctets s))) t in
-      rw (e, t) (none-stay (suc k) n next further)
-
-  tests-stay : (k n : ℕ) → isEnded (walkAt s octets k) ≡ true → firstOf (testsFrom alone s octets k (suc n)) ≡ firstOf (behindTest k ∷ [])
+  tests-stay : (k n : ℕ) → isEnded (walkAt s octets k) ≡ true → firstOf (testsFrom alone s octets k (suc n)) ≡ firstOf (behindTest alone s octets k ∷ [])
   unfolding testsFrom testsAt firstOf pick
-  tests-stay k n e = by-test (behindTest k .holds) refl
+  tests-stay k n e = by-test (behindTest alone s octets k .holds) refl
     where
-      by-test : (test : Bool) → behindTest k .holds ≡ test → firstOf (testsFrom alone s octets k (suc n)) ≡ firstOf (behindTest k ∷ [])
+      by-test : (test : Bool) → behindTest alone s octets k .holds ≡ test → firstOf (testsFrom alone s octets k (suc n)) ≡ firstOf (behindTest alone s octets k ∷ [])
       by-test true t = rw (e, t)
-      by-test false t = none-stay k (suc n) e t ∙ rw t
+      by-test false t = none-found (none-behind alone s octets k (suc n) e t) ∙ rw t
 
   module _ (k : ℕ) (w : Walk) (least : ℕ) (here : Reached k w least) where
     still-going : isEnded w ≡ false → isEnded (walkAt s octets k) ≡ false
@@ -156,15 +102,15 @@ module _ (alone : Bool) (s : Setup) (octets : List ℕ) where
           record {
             within = omega arith;
             whole = omega arith;
-            walk = taken .walk f ∙ ap (λ (w : Walk). after w k (fieldAt s octets k)) (here .walk) ∙ sym (walk-next k going);
-            least′ = taken .least′ f ∙ rw (here .walk, here .least′) (sym (ap (behindAll 0) (defects-next k going) ∙ behind-append 0 before _));
+            walk = taken .walk f ∙ ap (λ (w : Walk). after w k (fieldAt s octets k)) (here .walk) ∙ sym (ap (walkAt s octets) (add-one k) ∙ walk-next s octets k going);
+            least′ = taken .least′ f ∙ rw (here .walk, here .least′) (sym (ap (behindAll 0) (ap (defectsBefore s octets) (add-one k) ∙ defects-next s octets k going) ∙ behind-parts 0 before _));
             going = below-more _ _ (here .going) going;
             rest = here .rest ∙ ap firstOf (at-hand k (here .within)) ∙ first-behind (testsAt alone s octets k) _ (ap (λ (o : Offence). o .found) (sym turn-found) ∙ f);
           }
 
     -- ---- the end
 
-    pub reached-end : (x : Offence) → isEnded w ≡ true → x ≡ firstOf (behindTest k ∷ []) → x ≡ firstOf (mapTests alone s octets)
+    pub reached-end : (x : Offence) → isEnded w ≡ true → x ≡ firstOf (behindTest alone s octets k ∷ []) → x ≡ firstOf (mapTests alone s octets)
     reached-end x e q =
         let left : suc (dataFields s) - k ≡ suc (dataFields s - k) = omega (arith, here .within) in
         let end : isEnded (walkAt s octets k) ≡ true = ap isEnded (sym (here .walk)) ∙ e in
@@ -179,6 +125,6 @@ module _ (alone : Bool) (s : Setup) (octets : List ℕ) where
           whole = here .whole;
           going = here .going;
           ended = end;
-          walk = here .walk ∙ sym (ap (walkAt s octets) (sym last) ∙ ended-stays k (dataFields s - k) end);
-          defects = sym (ap (defectsBefore s octets) (sym last) ∙ defects-stay k (dataFields s - k) end);
+          walk = here .walk ∙ sym (ap (walkAt s octets) (sym last) ∙ ended-stays s octets k (dataFields s - k) end);
+          defects = sym (ap (defectsBefore s octets) (sym last) ∙ defects-stay s octets k (dataFields s - k) end);
         }

@@ -2,18 +2,16 @@
 -- Assumes nothing.
 use Prim.Native.Nat.{ℕ, zero, suc, _+_, _*_, _≤_}
 use mathlib.Core.Path.{_≡_, refl, sym, _∙_}
-use mathlib.Core.Bool.{Bool, true, false, _&&_}
+use mathlib.Core.Bool.{Bool, true, false}
 use mathlib.Core.List.{List, [], _∷_, _++_}
-use native.Mathlib.Nat.{suc-mul}
-use native.Mathlib.Omega.{arith}
-use borrow.Author.Tests.{le-ltb, ltb-false}
+use borrow.Author.Tests.{le-ltb}
 use lib.Dec.{eqb, ltb, leb}
 use lib.ListN.{length}
 use Rattle.laws.specs.Pick.{pick}
 use Rattle.laws.proofs.Pick.{either}
 use Rattle.parts.specs.Setup.{withinLimits, allWords}
 use Rattle.parts.specs.declared.setup.Setup.{Setup}
-use Rattle.defects.specs.Offence.{Test, _at_when_, noOffence, offenceAt, firstOf, testsOver}
+use Rattle.defects.specs.Offence.{Test, noOffence, offenceAt, firstOf, testsOver}
 use Rattle.defects.specs.Defect.{behind, behindAll}
 use Rattle.defects.specs.Field.{isIgnored}
 use Rattle.defects.specs.Place.{fieldOctets, dataFields}
@@ -26,23 +24,15 @@ use Rattle.defects.specs.declared.defect.Defect.{Defect}
 use Rattle.defects.specs.declared.front.Front.{Front}
 use Rattle.defects.specs.declared.offence.Offence.{Offence}
 use Rattle.defects.specs.declared.walk.Walk.{Walk}
-use Rattle.defects.proofs.Passing.{Passed, none-found}
+use Rattle.defects.proofs.Offences.{All, end, next, none-found, both, over}
+use Rattle.defects.proofs.WalkSteps.{still-ended}
+use Rattle.defects.proofs.TestsAt.{dueTests, tests-going, tests-ended, none-behind}
 use Rattle.defects.proofs.SectorFields.{length-cylinder}
 
 -- ---- tests of other numbers
 
-pub data Others : List Test → Type 0 where
-  end : Others []
-  next : {test : Test} {tests : List Test} → eqb (test .number) 28 ≡ false → Others tests → Others (test ∷ tests)
-
-both : {tests rest : List Test} → Others tests → Others rest → Others (tests ++ rest)
-both end q = q
-both (next h p) q = next h (both p q)
-
-over : (test : ℕ → Test) (i left : ℕ) → ((j : ℕ) → eqb (test j .number) 28 ≡ false) → Others (testsOver test i left)
-unfolding testsOver
-over test i zero other = end
-over test i (suc left) other = next (other i) (over test (i + 1) left other)
+abbrev pub Others : List Test → Type 0
+Others tests = All (λ test. eqb (test .number) 28 ≡ false) tests
 
 of-front : (s : Setup) (w : Walk) (start size : ℕ) (front : Front) → Others (frontTests s w start size front)
 unfolding frontTests openingTests laterTests
@@ -59,22 +49,12 @@ of-list s flagged least offset (d ∷ defects) = next refl (next refl (next refl
 of-field : (s : Setup) (w : Walk) (least start : ℕ) (original field : List ℕ) → Others (fieldTests s w least start original field)
 of-field s w least start original field =
     let crc : Others (crcTests start field) = next refl end in
-    let padding = over (zeroTest start field) _ _ (λ i. refl) in
-    let same : (i left : ℕ) → Others (testsOver (sameTest start field original) i left) = λ i left. over (sameTest start field original) i left (λ j. refl) in
+    let padding = over (zeroTest start field) _ _ (λ i l m. refl) in
+    let same : (i left : ℕ) → Others (testsOver (sameTest start field original) i left) = λ i left. over (sameTest start field original) i left (λ j l m. refl) in
     either Others (eqb (w .copy) 0) (both (both (both (of-front s w start (length field) _) (of-list s _ least (start + 14) _)) padding) crc)
     (both (both (same 0 3) (next refl (same 4 _))) crc)
 
--- ---- the tests at a data field, before the map's end and behind it
-
-abbrev pub dueTests : Setup → List ℕ → ℕ → List Test
-dueTests s octets k =
-    let start = k * fieldOctets s in
-    let w = walkAt s octets k in
-    let field = fieldAt s octets k in
-    pick (leb (dataFields s) k)
-    (16 at start when true ∷ [])
-    (17 at start when ltb (length octets) (start + fieldOctets s)
-    ∷ pick (isIgnored field) [] (fieldTests s w (behindAll 0 (defectsBefore s octets k)) start (fieldAt s octets (w .original)) field))
+-- ---- the tests at a data field
 
 pub due-others : (s : Setup) (octets : List ℕ) (k : ℕ) → Others (dueTests s octets k)
 due-others s octets k =
@@ -82,33 +62,6 @@ due-others s octets k =
     let field = fieldAt s octets k in
     let own = of-field s w (behindAll 0 (defectsBefore s octets k)) (k * fieldOctets s) (fieldAt s octets (w .original)) field in
     either Others (leb (dataFields s) k) (next refl end) (next refl (either Others (isIgnored field) end own))
-
-module _ (alone : Bool) (s : Setup) (octets : List ℕ) (k : ℕ) where
-  pub tests-going : isEnded (walkAt s octets k) ≡ false → testsAt alone s octets k ≡ dueTests s octets k
-  unfolding testsAt pick
-  tests-going e = rw e
-
-  pub tests-ended : isEnded (walkAt s octets k) ≡ true
-      → testsAt alone s octets k ≡ 28 at k * fieldOctets s when (alone && ltb (k * fieldOctets s) (length octets)) ∷ []
-  unfolding testsAt pick
-  tests-ended e = rw e
-
-still-ended : (s : Setup) (octets : List ℕ) (k : ℕ) → isEnded (walkAt s octets k) ≡ true → isEnded (walkAt s octets (suc k)) ≡ true
-unfolding walkAt pick
-still-ended s octets k e = rw e e
-
--- nothing behind the map's end, and nothing further on
-further : (alone : Bool) (a b size : ℕ) → a ≤ b → (alone && ltb a size) ≡ false → (alone && ltb b size) ≡ false
-further true a b size h e = le-ltb b size (omega (arith, ltb-false a size e))
-further false a b size h e = refl
-
-pub none-behind : (alone : Bool) (s : Setup) (octets : List ℕ) (k count : ℕ) → isEnded (walkAt s octets k) ≡ true
-    → (alone && ltb (k * fieldOctets s) (length octets)) ≡ false → Passed (testsFrom alone s octets k count)
-unfolding testsFrom
-none-behind alone s octets k zero e h = Passed.end
-none-behind alone s octets k (suc count) e h =
-    let below = further alone (k * fieldOctets s) (suc k * fieldOctets s) (length octets) (omega (arith, suc-mul k (fieldOctets s))) h in
-    rw (tests-ended alone s octets k e) (Passed.next h (none-behind alone s octets (suc k) count (still-ended s octets k e) below))
 
 -- ---- reading and decoding
 

@@ -2,8 +2,8 @@
 -- Assumes nothing.
 use Prim.Native.Nat.{ℕ, zero, suc, _+_, _-_, _*_, _/_, _%_, _≤_, _<_}
 use mathlib.Core.Path.{_≡_, refl}
-use mathlib.Core.Bool.{Bool, true, false, _&&_, false≢true}
-use mathlib.Core.List.{List, [], _++_, append-nil}
+use mathlib.Core.Bool.{Bool, true, false, _&&_, false≢true, and-false}
+use mathlib.Core.List.{List, _++_}
 use native.Mathlib.Nat.{add-zero, le-trans, mul-le-mul-right}
 use native.Mathlib.Omega.{arith}
 use borrow.Author.Tests.{le-ltb, lt-leb, ltb-true, ltb-false}
@@ -24,17 +24,17 @@ use Rattle.defects.specs.Encoding.{Value, dataField, mapOctets}
 use Rattle.defects.specs.RoundTrip.{tellsOf, MapRoundTrip}
 use Rattle.defects.specs.declared.defect.Defect.{Defect}
 use Rattle.defects.specs.declared.walk.Walk.{Walk}
-use Rattle.defects.proofs.Passing.{Passed, end, next, none-found, both-passed}
+use Rattle.defects.proofs.Offences.{Passed, end, next, none-found, both}
 use Rattle.defects.proofs.EncodableValue.{sets, Encodable, encodable}
-use Rattle.defects.proofs.EncodedMap.{Begins, length-map, map-begins}
-use Rattle.defects.proofs.EncodedWalk.{Reached, never-both, withinSet, beforeSet, original-due, not-ended, is-ended, track-told, not-ignored, original-at, at-original, at-second, at-third, behind-end}
+use Rattle.defects.proofs.EncodedMap.{Begins, length-map, map-begins, map-alone}
+use Rattle.defects.proofs.EncodedWalk.{StandsAt, withinSet, beforeSet, original-due, not-ended, is-ended, track-told, not-ignored, original-at, at-original, at-second, at-third, behind-end}
 use Rattle.defects.proofs.EncodedTests.{original-passed, copy-passed}
 
 -- ---- the tests at a data field
 
 -- one that the map has
 due-passed : (alone : Bool) (s : Setup) (octets : List ℕ) (k : ℕ) (w : Walk) (defects : List Defect) (field : List ℕ)
-    → Reached s octets k w defects → fieldAt s octets k ≡ field → isEnded w ≡ false → isIgnored field ≡ false
+    → StandsAt s octets k w defects → fieldAt s octets k ≡ field → isEnded w ≡ false → isIgnored field ≡ false
     → k < dataFields s → k * fieldOctets s + fieldOctets s ≤ length octets
     → Passed (fieldTests s w (behindAll 0 defects) (k * fieldOctets s) (fieldAt s octets (w .original)) field) → Passed (testsAt alone s octets k)
 unfolding testsAt pick
@@ -47,7 +47,7 @@ nothing-follows true start size h = le-ltb start size (h refl)
 nothing-follows false start size h = refl
 
 ended-passed : (alone : Bool) (s : Setup) (octets : List ℕ) (k : ℕ) (w : Walk) (defects : List Defect)
-    → Reached s octets k w defects → isEnded w ≡ true → (alone ≡ true → length octets ≤ k * fieldOctets s) → Passed (testsAt alone s octets k)
+    → StandsAt s octets k w defects → isEnded w ≡ true → (alone ≡ true → length octets ≤ k * fieldOctets s) → Passed (testsAt alone s octets k)
 unfolding testsAt pick
 ended-passed alone s octets k w defects r over none = rw (r .walk, over) (next (nothing-follows alone (k * fieldOctets s) (length octets) none) end)
 
@@ -57,12 +57,12 @@ module _ (s : Setup) (v : Value) (e : Encodable s v) (octets : List ℕ) (b : Be
   whole-there : (k : ℕ) → k < 3 * sets s v → k * fieldOctets s + fieldOctets s ≤ length octets
   whole-there k h = omega (arith, mul-le-mul-right {m = suc k} (fieldOctets s) h, b .long)
 
-  pub at-end : Reached s octets (dataFields s) (beforeSet s v (sets s v)) (v .defects)
+  at-end : StandsAt s octets (dataFields s) (beforeSet s v (sets s v)) (v .defects)
   at-end =
       let sum : 3 * sets s v + (dataFields s - 3 * sets s v) ≡ dataFields s = omega (arith, e .room) in
       rw sum at (behind-end s v e octets b (dataFields s - 3 * sets s v))
 
-  pub tells : mapOf s octets ≡ tellsOf v
+  tells : mapOf s octets ≡ tellsOf v
   tells = let (cylinder, head) = track-told s v (sets s v) (e .some-set) in rw (at-end .walk, at-end .listed, cylinder, head)
 
   module _ (alone : Bool) (only : alone ≡ true → length octets ≤ 3 * sets s v * fieldOctets s) where
@@ -74,11 +74,11 @@ module _ (s : Setup) (v : Value) (e : Encodable s v) (octets : List ℕ) (b : Be
         (rw (original-due s v set) (original-passed s v e set (3 * set * fieldOctets s) h))
 
     copy-tested : (set copy : ℕ) (defects : List Defect) → set < sets s v → copy < 3 → eqb copy 0 ≡ false
-        → Reached s octets (3 * set + copy) (withinSet s v set copy) defects → Passed (testsAt alone s octets (3 * set + copy))
+        → StandsAt s octets (3 * set + copy) (withinSet s v set copy) defects → Passed (testsAt alone s octets (3 * set + copy))
     unfolding pick
     copy-tested set copy defects h c later r =
         due-passed alone s octets (3 * set + copy) (withinSet s v set copy) defects (dataField s v set copy) r
-        (b .fields set copy h c) (rw (later, never-both (eqb (set + 1) (sets s v)))) (not-ignored s v e set copy c) (omega (arith, e .room)) (whole-there (3 * set + copy) (omega arith))
+        (b .fields set copy h c) (rw (later, and-false (eqb (set + 1) (sets s v)))) (not-ignored s v e set copy c) (omega (arith, e .room)) (whole-there (3 * set + copy) (omega arith))
         (rw (later, original-at s v e octets b set h) (copy-passed s v e set ((3 * set + copy) * fieldOctets s) copy))
 
     in-set : (set copy : ℕ) → set < sets s v → copy < 3 → Passed (testsAt alone s octets (3 * set + copy))
@@ -105,7 +105,7 @@ module _ (s : Setup) (v : Value) (e : Encodable s v) (octets : List ℕ) (b : Be
     all-passed : (k count : ℕ) → k + count ≤ suc (dataFields s) → Passed (testsFrom alone s octets k count)
     unfolding testsFrom
     all-passed k zero h = end
-    all-passed k (suc count) h = both-passed (each-passed k (omega arith)) (all-passed (suc k) count (omega arith))
+    all-passed k (suc count) h = both (each-passed k (omega arith)) (all-passed (suc k) count (omega arith))
 
     pub map-passed : Passed (mapTests alone s octets)
     map-passed = all-passed 0 (suc (dataFields s)) (omega arith)
@@ -123,7 +123,7 @@ told-alone : (s : Setup) (v : Value) (lent : List ℕ) → withinLimits s ≡ tr
 unfolding pick
 told-alone s v lent w e room =
     let octets = mapOctets s v in
-    let b : Begins s v octets = rw append-nil at (map-begins s v (e .field1) []) in
+    let b = map-alone s v (e .field1) in
     let only : length octets ≤ 3 * sets s v * fieldOctets s = omega (arith, length-map s v (e .field1)) in
     let map = map-passed s v e octets b true (λ a. only) in
     let free : firstOf (decodeTests s octets lent) ≡ noOffence = none-found (next (not-f (withinLimits s) w) (next (le-ltb (length lent) (length octets / 3) room) map)) in

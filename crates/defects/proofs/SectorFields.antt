@@ -1,51 +1,43 @@
 -- The data fields of the last cylinder in a drive's sector words: each lies within the words, and stands in its turn in the string that they make.
 -- Assumes nothing.
 use Prim.Native.Nat.{ℕ, zero, suc, _+_, _*_, _<_, _≤_}
-use mathlib.Core.Path.{_≡_, refl, sym, ap, _∙_}
-use mathlib.Core.Bool.{Bool, true, false, _||_}
-use mathlib.Core.List.{List, [], _∷_, _++_}
+use mathlib.Core.Path.{_≡_, sym, ap, _∙_}
+use mathlib.Core.Bool.{true, or-false}
+use mathlib.Core.List.{List, _++_}
 use native.Mathlib.Nat.{zero-mul, suc-mul, add-zero, zero-add}
-use native.Mathlib.Numerals.{add-one}
 use native.Mathlib.Omega.{arith}
 use borrow.Author.Tests.{le-ltb}
 use lib.Dec.{ltb}
 use lib.ListN.{length, take, drop, length-append, length-drop}
-use lib.Seq.{length-take-le, take-append-le, take-at, drop-at, drop-drop, take-all}
-use Rattle.parts.specs.Setup.{withinLimits, lacksRoom, sectorWords, allWords, sectorStart}
+use lib.Seq.{length-take-le, take-at, drop-at, drop-drop}
+use Rattle.parts.specs.Setup.{withinLimits, lacksRoom, sectorWords, allWords}
 use Rattle.parts.specs.declared.setup.Setup.{Setup}
-use Rattle.parts.proofs.Bounds.{limits, inside, sector-in-room}
+use Rattle.parts.proofs.Bounds.{inside, sector-in-room}
 use Rattle.defects.specs.Place.{fieldOctets, dataFields, placeOf}
 use Rattle.defects.specs.Walk.{fieldAt}
-use Rattle.defects.specs.Sectors.{wordOctets, fieldStart, sectorField, sectorFields, lastCylinder}
+use Rattle.defects.specs.Sectors.{fieldStart, sectorField, sectorFields, lastCylinder}
+use Rattle.defects.proofs.WordOctets.{length-word-octets}
 use Rattle.defects.proofs.Places.{places}
 
-pub length-word-octets : (words : List ℕ) → length (wordOctets words) ≡ 2 * length words
-length-word-octets [] = refl
-length-word-octets (word ∷ words) = omega (arith, length-word-octets words)
-
 -- of a drive within its limits only the sector words can be too few, where one sector is lent besides
-pub lacks-words : (s : Setup) (count : ℕ) → withinLimits s ≡ true → lacksRoom s count (sectorWords s) ≡ ltb count (allWords s)
+pub lacks-words : (s : Setup) (count words : ℕ) → withinLimits s ≡ true → words ≡ sectorWords s → lacksRoom s count words ≡ ltb count (allWords s)
 unfolding lacksRoom
-lacks-words s count small = rw (small, le-ltb (sectorWords s) (sectorWords s) (omega arith)) (or-false (ltb count (allWords s)))
-  where
-    or-false : (test : Bool) → (test || false) ≡ test
-    or-false true = refl
-    or-false false = refl
+lacks-words s count words small e = rw (small, e, le-ltb (sectorWords s) (sectorWords s) (omega arith)) (or-false (ltb count (allWords s)))
+
+-- field 1 of a data field's sector lies within the words of all sectors
+pub field-in-room : (s : Setup) (k : ℕ) → withinLimits s ≡ true → k < dataFields s → fieldStart s k + s .field1 ≤ allWords s
+unfolding fieldStart
+field-in-room s k small h = omega (arith, sector-in-room s (placeOf s k) (inside s (placeOf s k) (places .inside s k small h)))
 
 module _ (s : Setup) (sectors : List ℕ) (small : withinLimits s ≡ true) (room : allWords s ≤ length sectors) where
-  -- field 1 of its sector
-  pub field-in-room : (k : ℕ) → k < dataFields s → fieldStart s k + s .field1 ≤ length sectors
-  unfolding fieldStart
-  field-in-room k h = omega (arith, room, sector-in-room s (placeOf s k) (inside s (placeOf s k) (places .inside s k small h)))
-
-  pub length-field : (k : ℕ) → k < dataFields s → length (sectorField s sectors k) ≡ fieldOctets s
+  length-field : (k : ℕ) → k < dataFields s → length (sectorField s sectors k) ≡ fieldOctets s
   unfolding sectorField
   length-field k h =
       let words = take (s .field1) (drop (fieldStart s k) sectors) in
-      let many : length words ≡ s .field1 = length-take-le (s .field1) (drop (fieldStart s k) sectors) (simp length-drop (omega (arith, field-in-room k h))) in
+      let many : length words ≡ s .field1 = length-take-le (s .field1) (drop (fieldStart s k) sectors) (simp length-drop (omega (arith, field-in-room s k small h))) in
       length-word-octets words ∙ rw many
 
-  pub length-fields : (k count : ℕ) → k + count ≤ dataFields s → length (sectorFields s sectors k count) ≡ count * fieldOctets s
+  length-fields : (k count : ℕ) → k + count ≤ dataFields s → length (sectorFields s sectors k count) ≡ count * fieldOctets s
   unfolding sectorFields
   length-fields k zero h = sym (zero-mul (fieldOctets s))
   length-fields k (suc count) h =

@@ -2,37 +2,16 @@
 -- Assumes nothing.
 use Prim.Native.Nat.{ℕ, zero, suc, _+_, _<_, _≤_}
 use mathlib.Core.Path.{_≡_, refl, ap}
-use mathlib.Core.Bool.{Bool, true, false, not, _&&_}
+use mathlib.Core.Bool.{Bool, true, false}
 use mathlib.Core.List.{List}
 use native.Mathlib.Omega.{arith}
-use borrow.Author.Tests.{eqb-false, not-true}
 use lib.Dec.{eqb}
 use Rattle.laws.specs.Pick.{pick}
-use Rattle.laws.proofs.Pick.{cases}
-use Rattle.laws.proofs.Tests.{and-l, and-r}
 use Rattle.parts.specs.declared.setup.Setup.{Setup}
-use Rattle.defects.specs.Field.{frontOf, isLast, isIgnored}
-use Rattle.defects.specs.Walk.{outset, isEnded, afterOriginal, afterCopy, after, fieldAt, walkAt, isOriginal}
+use Rattle.defects.specs.Field.{frontOf, isLast}
+use Rattle.defects.specs.Walk.{outset, afterOriginal, afterCopy, fieldAt, walkAt, isOriginal}
 use Rattle.defects.specs.declared.walk.Walk.{Walk}
-
--- where a set begins the map has not ended, the data field is not ignored, and copy 0 is due
-pub begins-set : (w : Walk) (field : List ℕ) → isOriginal w field ≡ true → (isEnded w ≡ false) × (isIgnored field ≡ false) × (eqb (w .copy) 0 ≡ true)
-begins-set w field h =
-    let both : (not (isEnded w) && not (isIgnored field)) ≡ true = and-l _ _ h in
-    (not-true _ (and-l (not (isEnded w)) _ both), not-true _ (and-r (not (isEnded w)) _ both), and-r (not (isEnded w) && not (isIgnored field)) _ h)
-
--- a step of the walk: behind its end, past an ignored data field, past copy 0 and past another copy
-pub next-step : (P : Walk → Type 0) (s : Setup) (octets : List ℕ) (k : ℕ)
-    → let w = walkAt s octets k in
-    let field = fieldAt s octets k in
-    (isEnded w ≡ true → P w) → (isEnded w ≡ false → isIgnored field ≡ true → P w) → (isOriginal w field ≡ true → P (afterOriginal w k (frontOf field)))
-    → (isEnded w ≡ false → isIgnored field ≡ false → (w .copy ≡ 0 → ⊥) → P (afterCopy w)) → P (walkAt s octets (suc k))
-unfolding walkAt after
-next-step P s octets k ended ignored begins copies =
-    let w = walkAt s octets k in
-    let field = fieldAt s octets k in
-    cases P (isEnded w) ended (λ going. cases P (isIgnored field) (ignored going) (λ heard.
-    cases P (eqb (w .copy) 0) (λ first. begins (rw (going, heard, first))) (λ other. copies going heard (eqb-false _ _ other))))
+use Rattle.defects.proofs.WalkSteps.{next-step}
 
 -- what the walk remembers is what copy 0 of the set tells
 pub record Remembered (s : Setup) (octets : List ℕ) (k : ℕ) (w : Walk) : Type 0 where

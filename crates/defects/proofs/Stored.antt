@@ -1,37 +1,21 @@
 -- Data fields of a map in their places, one more at a time: in the octets of the map, and in the sector words.
 -- Assumes nothing.
-use Prim.Native.Nat.{ℕ, zero, suc, _+_, _*_, _<_, _≤_}
+use Prim.Native.Nat.{ℕ, zero, suc, _+_, _*_, _≤_}
 use mathlib.Core.Path.{_≡_, refl, sym, ap, _∙_}
-use mathlib.Core.Bool.{Bool, true}
-use mathlib.Core.List.{List, _++_}
+use mathlib.Core.Bool.{Bool}
+use mathlib.Core.List.{List}
 use native.Mathlib.Nat.{zero-add, add-zero}
 use native.Mathlib.Numerals.{add-one}
 use native.Mathlib.Omega.{arith}
-use lib.ListN.{length, take, drop, length-append}
-use lib.Seq.{length-take-le, take-add, take-append-seam, drop-append-add, drop-drop}
+use lib.ListN.{length, take, drop}
+use lib.Seq.{length-take-le, take-add}
+use Rattle.laws.proofs.Windows.{written-next}
 use Rattle.laws.specs.Lists.{writtenOver, writtenAt}
-use Rattle.parts.specs.Setup.{withinLimits, allWords}
 use Rattle.parts.specs.declared.setup.Setup.{Setup}
-use Rattle.parts.proofs.Bounds.{inside, sector-in-room}
-use Rattle.defects.specs.Place.{fieldOctets, dataFields, placeOf}
+use Rattle.defects.specs.Place.{fieldOctets}
 use Rattle.defects.specs.Sectors.{octetWords, fieldStart, storedFields}
 use Rattle.defects.specs.Walk.{fieldAt}
 use Rattle.defects.specs.EncodeSteps.{FieldPut, FieldsPut}
-use Rattle.defects.proofs.Places.{places}
-
--- a data field of the last cylinder lies within the words of all sectors
-pub field-in-room : (s : Setup) (k : ℕ) → withinLimits s ≡ true → k < dataFields s → fieldStart s k + s .field1 ≤ allWords s
-unfolding fieldStart
-field-in-room s k w h =
-    let room = sector-in-room s (placeOf s k) (inside s (placeOf s k) (places .inside s k w h)) in
-    omega arith
-
--- ---- one more
-
-written-next : (list front part : List ℕ) → writtenAt (writtenOver list front) (length front) part ≡ writtenOver list (front ++ part)
-written-next list front part =
-    let rest = drop (length front) list in
-    rw (take-append-seam front rest, drop-append-add front rest (length part), drop-drop (length part) (length front) list, length-append front part)
 
 stored-next : (s : Setup) (map sectors : List ℕ) (j count : ℕ)
     → storedFields s map sectors j (suc count) ≡ writtenAt (storedFields s map sectors j count) (fieldStart s (j + count)) (octetWords (fieldAt s map (j + count)))

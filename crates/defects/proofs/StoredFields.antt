@@ -1,6 +1,6 @@
 -- Data fields put in their places: as many words as before, each data field as it was put, every other word as it was.
 -- Assumes nothing.
-use Prim.Native.Nat.{ℕ, zero, suc, _+_, _*_, _<_, _≤_}
+use Prim.Native.Nat.{ℕ, zero, suc, _+_, _<_, _≤_}
 use mathlib.Core.Path.{_≡_, refl, sym, ap, _∙_}
 use mathlib.Core.Bool.{Bool, true, false}
 use mathlib.Core.List.{List}
@@ -8,18 +8,18 @@ use native.Mathlib.Omega.{arith}
 use borrow.Author.Tests.{eqb-true, eqb-false}
 use lib.Dec.{eqb}
 use lib.ListN.{length, getD, take, drop, length-drop}
-use lib.Seq.{take-length, paste, length-paste, length-take-le, getD-take, getD-drop, ext-getD}
+use lib.Seq.{paste, length-paste, length-take-le, getD-take, getD-drop, ext-getD}
 use Rattle.laws.specs.Pick.{pick}
 use Rattle.laws.specs.Lists.{writtenAt}
 use Rattle.laws.specs.Octets.{AllOctets}
-use Rattle.laws.proofs.Octets.{octets-taken, octets-dropped}
-use Rattle.laws.proofs.Windows.{paste-at, paste-in}
+use Rattle.laws.proofs.Windows.{paste-at, paste-in, as-paste}
 use Rattle.parts.specs.Setup.{withinLimits, allWords}
 use Rattle.parts.specs.declared.setup.Setup.{Setup}
 use Rattle.defects.specs.Place.{fieldOctets, dataFields}
 use Rattle.defects.specs.Walk.{fieldAt}
 use Rattle.defects.specs.Sectors.{wordOctets, octetWords, fieldStart, sectorField, storedFields}
 use Rattle.defects.specs.OnTheCylinder.{isOfField}
+use Rattle.defects.proofs.Fields.{field-octets}
 use Rattle.defects.proofs.SectorFields.{field-in-room}
 use Rattle.defects.proofs.WordOctets.{length-words, octets-of-words}
 use Rattle.defects.proofs.FieldsApart.{fields-apart}
@@ -29,9 +29,6 @@ words s octets k = octetWords (fieldAt s octets k)
 
 abbrev put : Setup → List ℕ → List ℕ → ℕ → List ℕ
 put s octets sectors k = writtenAt sectors (fieldStart s k) (words s octets k)
-
-as-paste : (list : List ℕ) (at : ℕ) (part : List ℕ) (n : ℕ) → length part ≡ n → writtenAt list at part ≡ paste list at part n
-as-paste list at part n e = rw (← e, take-length part)
 
 module _ (s : Setup) (octets : List ℕ) (many : ℕ) (small : withinLimits s ≡ true) (few : many ≤ dataFields s)
     (whole : (k : ℕ) → k < many → length (fieldAt s octets k) ≡ fieldOctets s) where
@@ -45,7 +42,7 @@ module _ (s : Setup) (octets : List ℕ) (many : ℕ) (small : withinLimits s �
     put-is = as-paste sectors (fieldStart s k) (words s octets k) (s .field1) (words-there k h)
 
     there : fieldStart s k + s .field1 ≤ length sectors
-    there = field-in-room s sectors small room k (omega arith)
+    there = omega (arith, room, field-in-room s k small (omega arith))
 
     length-put : length (put s octets sectors k) ≡ length sectors
     length-put = ap length put-is ∙ length-paste sectors (fieldStart s k) (words s octets k) (s .field1) there (omega (arith, words-there k h))
@@ -123,4 +120,4 @@ module _ (s : Setup) (octets : List ℕ) (many : ℕ) (small : withinLimits s �
   unfolding sectorField fieldAt
   stored-field sectors k room h all =
       ap wordOctets (stored-words sectors k room h)
-      ∙ octets-of-words (fieldAt s octets k) (omega (arith, whole k h)) (octets-taken (fieldOctets s) _ (octets-dropped (k * fieldOctets s) octets all))
+      ∙ octets-of-words (fieldAt s octets k) (omega (arith, whole k h)) (field-octets s octets k all)

@@ -17,7 +17,7 @@ use Rattle.defects.specs.Exactly.{GivenAt, here, later, Each, Least}
 use Rattle.defects.specs.declared.defect.Defect.{Defect}
 use Rattle.defects.specs.declared.front.Front.{Front}
 use Rattle.defects.specs.declared.walk.Walk.{Walk}
-use Rattle.defects.proofs.PassedFields.{entries-few}
+use Rattle.defects.proofs.EntriesLeft.{entries-few}
 
 -- ---- tests in order
 

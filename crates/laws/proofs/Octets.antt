@@ -1,9 +1,9 @@
--- Octets to a number and back, high first, at every width.
+-- Octets to a number and back, high first, at every width; the number that octets stand for fits as many.
 -- Assumes nothing.
 use Prim.Native.Nat.{ℕ, zero, suc, _+_, _*_, _/_, _%_, _^_, _<_}
 use mathlib.Core.Path.{_≡_, refl, sym, ap, _∙_}
 use mathlib.Core.List.{List, [], _∷_, _++_}
-use native.Mathlib.Nat.{pow-suc, div-lt-iff-lt-mul}
+use native.Mathlib.Nat.{add-zero, zero-add, pow-suc, div-lt-iff-lt-mul}
 use native.Mathlib.Omega.{arith}
 use lib.ListN.{length, getD, take, drop, length-append}
 use lib.Seq.{take-suc, take-all, getD-drop, length-take-le}
@@ -52,3 +52,13 @@ octets-of-number (suc count) octets e h =
 
 pub octets-dropped : (n : ℕ) (octets : List ℕ) → AllOctets octets → AllOctets (drop n octets)
 octets-dropped n octets h i = rw (getD-drop n octets i 0) (h (n + i))
+
+-- the number fits
+number-after-fits : (before width : ℕ) (octets : List ℕ) → before < 256 ^ width → AllOctets octets → numberAfter before octets < 256 ^ (width + length octets)
+number-after-fits before width [] h all = rw add-zero h
+number-after-fits before width (x ∷ octets) h all =
+    let e : width + suc (length octets) ≡ suc width + length octets = omega arith in
+    rw e (number-after-fits (before * 256 + x) (suc width) octets (rw pow-suc (omega (arith, all 0))) (λ i. all (suc i)))
+
+pub number-fits : (octets : List ℕ) → AllOctets octets → numberOf octets < 256 ^ length octets
+number-fits octets all = rw zero-add at (number-after-fits 0 0 octets (omega arith) all)

@@ -15,7 +15,7 @@ run-of-requires : tie.Need-run-of-requires
 run-of-requires c κs =
     let start : tie.Start = search in
     let p = plan (start .pre .0 .planned) in
-    (p .large, p .first _ (start .pre .0 .within))
+    (omega arith, p .first _ (start .pre .0 .within))
 
 known : (c : tie.After-run-of) → let a = c .before .before .before .args in RunKnown (a .setup) (a .job) (a .defects .now) (a .set) (c .run-of .result)
 known c = let due = c .before .before .before .pre .0 in run-known (plan (due .planned)) (due .within) (c .run-of .ensures)

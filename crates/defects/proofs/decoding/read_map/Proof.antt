@@ -58,7 +58,7 @@ room-told : (c : tie.After-lacks-room)
     ≡ (ltb (length (a .sectors .now)) (allWords (a .setup)) || ltb (length (a .defects .now)) (dataFields (a .setup) * fieldOctets (a .setup) / 3))
 room-told c =
     let limited = small (c .before .before .before .before) in
-    rw (c .lacks-room .ensures, c .before .sector-words .ensures, lacks-words _ _ limited, c .before .before .field-octets .ensures, c .before .before .before .data-fields .ensures)
+    rw (c .lacks-room .ensures, lacks-words _ _ _ limited (c .before .sector-words .ensures), c .before .before .field-octets .ensures, c .before .before .before .data-fields .ensures)
 
 returns-2 : tie.Need-returns-2
 unfolding firstOf pick

@@ -14,7 +14,8 @@ use Rattle.defects.specs.Encoding.{mapLength}
 use Rattle.defects.specs.EncodeSteps.{Planned}
 use Rattle.defects.specs.declared.encoding.MapEncoded.the-variants.{Written}
 use Rattle.defects.proofs.Plans.{plan}
-use Rattle.defects.proofs.MapPromised.{map-encoded, Told, some-octets, length-told, lacks-octets, has-octets, planned, room-in-octets, whole-map}
+use Rattle.defects.proofs.Promised.{map-encoded}
+use Rattle.defects.proofs.EncodeRows.{Told, some-octets, length-told, lacks-octets, has-octets, planned, room-in-octets, whole-map}
 use borrow.Author.Needs.{needs}
 use Rattle.defects.proofs.encoding.encode_map.Statement.{statement}
 use Rattle.defects.proofs.encoding.encode_map.Tie as tie

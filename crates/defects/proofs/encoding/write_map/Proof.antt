@@ -11,7 +11,8 @@ use Rattle.laws.specs.Pick.{pick}
 use Rattle.parts.specs.Setup.{withinLimits, allWords}
 use Rattle.defects.specs.EncodeSteps.{Planned}
 use Rattle.defects.proofs.Plans.{plan}
-use Rattle.defects.proofs.MapPromised.{lacks-words, planned, room-in-words}
+use Rattle.defects.proofs.SectorFields.{lacks-words}
+use Rattle.defects.proofs.EncodeRows.{planned, room-in-words}
 use borrow.Author.Needs.{needs}
 use Rattle.defects.proofs.encoding.write_map.Statement.{statement}
 use Rattle.defects.proofs.encoding.write_map.Tie as tie

@@ -14,7 +14,7 @@ use Rattle.parts.proofs.Bounds.{limits}
 use Rattle.defects.specs.Place.{fieldOctets}
 use Rattle.defects.specs.Walk.{fieldAt}
 use Rattle.defects.specs.Steps.{stringIn, ownDefects, Loadable}
-use Rattle.defects.proofs.Accepted.{room}
+use Rattle.defects.proofs.Fields.{some-field}
 use Rattle.defects.proofs.Loadables.{length-loaded}
 use Rattle.defects.proofs.Gathers.{Gathering, gathering-start, gathering-next, own-room}
 use Rattle.defects.proofs.gathering.gather.Statement.{statement}
@@ -88,7 +88,7 @@ list-field-requires c κs =
     let loaded = c .before .before .before .before in
     let turn = loaded .before .before in
     let start : tie.Start Inv-loop μ-loop = search in
-    let some = room (start .args .setup) (turn .before .loop .k) (loadable turn .inside) in
+    let some = some-field (start .args .setup) (turn .before .loop .k) (loadable turn .inside) in
     (rw (is-field loaded, length-loaded (loadable turn)) (omega arith), rw (is-field loaded) (next-room turn))
 
 add-k : tie.Need-add-k Inv-loop μ-loop

@@ -5,7 +5,7 @@ use lib.ListN.{length-drop}
 use Rattle.defects.specs.Field.{slots}
 use Rattle.defects.specs.Defect.{defectAt, defectOctets, isBlank}
 use Rattle.defects.proofs.EntriesLeft.{blank-left, none-left}
-use Rattle.defects.proofs.Listing.{part-back}
+use Rattle.laws.proofs.Windows.{part-back}
 use Prim.Native.Nat.{_+_, _-_, _*_, _≤_, _<_}
 use mathlib.Core.Path.{_≡_, sym, ap, _∙_}
 use native.Mathlib.Omega.{arith}

@@ -5,7 +5,7 @@ use mathlib.Core.Path.{sym}
 use native.Mathlib.Nat.{add-zero}
 use borrow.Author.Tests.{eq-eqb, ne-eqb}
 use Rattle.laws.specs.Pick.{pick}
-use Rattle.defects.proofs.Listing.{written-none}
+use Rattle.laws.proofs.Windows.{written-none}
 use borrow.Author.Needs.{needs}
 use Rattle.defects.proofs.gathering.list_field.Statement.{statement}
 use Rattle.defects.proofs.gathering.list_field.Tie as tie

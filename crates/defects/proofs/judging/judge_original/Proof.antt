@@ -6,7 +6,8 @@ use lib.ListN.{length}
 use Rattle.defects.specs.Offence.{firstOf}
 use Rattle.defects.specs.Field.{slots, defectsIn}
 use Rattle.defects.specs.Judging.{paddingTests}
-use Rattle.defects.proofs.Originals.{entries-within, in-front, in-entries, in-padding, in-crc}
+use Rattle.defects.proofs.EntriesLeft.{entries-few}
+use Rattle.defects.proofs.Originals.{in-front, in-entries, in-padding, in-crc}
 use mathlib.Core.Path.{_≡_, refl, ap, _∙_}
 use Rattle.defects.proofs.Offences.{caught}
 use borrow.Author.Needs.{needs}
@@ -41,7 +42,7 @@ padding-offence-requires c κs =
     let start = entries .before .before .before .before .before in
     let field = start .args .field .now in
     let many = entries .entries-offence .ensures .count (c .if2 .left) in
-    let few = entries-within field 14 (slots (length field)) in
+    let few = entries-few field 14 (slots (length field)) in
     let sized = start .pre .0 in
     (omega (arith, many, few, sized .least), omega (arith, sized .within, sized .most))
 

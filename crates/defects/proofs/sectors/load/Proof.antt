@@ -28,9 +28,10 @@ load-words-requires c κs =
     let start : tie.Start = search in
     let (pre, long) = start .pre in
     let a = start .args in
-    let fits = field-in-room (a .setup) (a .sectors .now) (pre .limits) (pre .room (c .before .before .before .if1 .taken)) (a .k) (pre .inside) in
+    let fits = field-in-room (a .setup) (a .k) (pre .limits) (pre .inside) in
+    let room = pre .room (c .before .before .before .if1 .taken) in
     let few = limits _ (pre .limits) in
-    (rw (c .before .before .field-start .ensures) fits, omega arith)
+    (rw (c .before .before .field-start .ensures) (omega arith), omega arith)
 
 same-length : tie.Need-same-length
 same-length c = search needs

@@ -11,9 +11,8 @@ use Rattle.defects.specs.Place.{fieldOctets}
 use Rattle.defects.specs.Encoding.{dataField, mapOctets}
 use Rattle.defects.specs.EncodeSteps.{valueIn, FieldsPut}
 use Rattle.defects.specs.declared.body.Job.{Job}
-use Rattle.defects.proofs.Plans.{plan}
+use Rattle.defects.proofs.Plans.{plan, before-field, copy-there, has-place}
 use Rattle.defects.proofs.Bodies.{IsOf, blank-part, length-blank, body-of, finished-as, field-of}
-use Rattle.defects.proofs.MapFields.{before-field, copy-there, has-place}
 use Rattle.defects.proofs.Stored.{one-more-put}
 use borrow.Author.Needs.{needs}
 use Rattle.defects.proofs.sets.put_set.Statement.{statement}
@@ -55,7 +54,7 @@ sized c =
     let p = plan (start c .pre .0 .planned) in
     let is = c .field-octets .ensures in
     let l = p .limits in
-    record { is = is; least = omega (arith, is, p .large); most = omega (arith, is, l .field1) }
+    record { is = is; least = omega (arith, is, p .field1); most = omega (arith, is, l .field1) }
 
 within-blank : (c : tie.After-blank-field Inv-loop μ-loop) → c .before .field-octets .result ≤ length (c .blank-field .result)
 within-blank c = rw (c .blank-field .ensures, length-blank) (sized (c .before) .most)

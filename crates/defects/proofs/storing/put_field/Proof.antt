@@ -5,8 +5,8 @@ use mathlib.Core.Path.{sym, _∙_}
 use mathlib.Core.Bool.{true≢false, false≢true}
 use native.Mathlib.Omega.{arith}
 use lib.ListN.{length}
-use Rattle.defects.proofs.Words.{length-words}
-use Rattle.defects.proofs.Stored.{field-in-room}
+use Rattle.defects.proofs.WordOctets.{length-words}
+use Rattle.defects.proofs.SectorFields.{field-in-room}
 use borrow.Author.Needs.{needs}
 use Rattle.defects.proofs.storing.put_field.Statement.{statement}
 use Rattle.defects.proofs.storing.put_field.Tie as tie

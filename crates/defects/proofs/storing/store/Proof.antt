@@ -7,7 +7,7 @@ use native.Mathlib.Omega.{arith}
 use lib.ListN.{length, length-set}
 use lib.Seq.{paste, paste-zero, paste-suc, take-length}
 use Rattle.defects.specs.Sectors.{octetWords}
-use Rattle.defects.proofs.Words.{length-words, word-there}
+use Rattle.defects.proofs.WordOctets.{length-words, word-there}
 use borrow.Author.Needs.{needs}
 use Rattle.defects.proofs.storing.store.Statement.{statement}
 use Rattle.defects.proofs.storing.store.Tie as tie

@@ -15,8 +15,10 @@ use Rattle.defects.specs.Place.{fieldOctets, dataFields}
 use Rattle.defects.specs.Steps.{stringIn}
 use Rattle.defects.specs.Walk.{isEnded}
 use Rattle.defects.specs.declared.walk.Walk.{Walk}
-use Rattle.defects.proofs.Loadables.{start-few, fields-few}
-use Rattle.defects.proofs.Reaching.{Reached, reached-outset, reached-next, walk-few}
+use Rattle.defects.proofs.Thirds.{counted}
+use Rattle.defects.proofs.Fields.{few-fields}
+use Rattle.defects.proofs.Loadables.{start-few}
+use Rattle.defects.proofs.Reaching.{Reached, reached-outset, reached-next}
 use Rattle.defects.proofs.Judgements.{judged-end, judged-short, judged-stop, judged-last}
 use Rattle.defects.proofs.walking.judge.Statement.{statement}
 use Rattle.defects.proofs.walking.judge.Tie as tie
@@ -135,12 +137,12 @@ turn-requires c κs =
     let start : tie.Start Inv-loop μ-loop = search in
     let a = start .args in
     let octets = stringIn (a .setup) (a .in-sectors) (a .octets .now) (a .sectors .now) in
-    let few = walk-few (not (a .in-sectors)) (a .setup) octets (loop .loop .k) in
+    let c = counted (a .setup) octets (loop .loop .k) in
     let at = loop .loop .inv .reached in
-    let many = fields-few (a .setup) (start .pre .0 .limits) in (
+    let many = few-fields (a .setup) (limits (a .setup) (start .pre .0 .limits)) in (
       record { limits = start .pre .0 .limits; room = start .pre .0 .room; inside = one-more turn; whole = is-whole passed },
-      rw (at .walk) (omega (arith, few .0, at .within, many)),
-      rw (at .walk) (few .1),
+      rw (at .walk) (omega (arith, c .fields, at .within, many)),
+      rw (at .walk) (c .original),
       omega (arith, loop .loop .inv .originals, start .pre .1),
       omega (arith, loop .loop .inv .fields, start .pre .2),
     )

@@ -1,8 +1,8 @@
--- From what the encoder of a map answers to its promise, and the tests of its rows as the code makes them.
+-- The rows of the calls that encode a map, as the code tests them, and what they leave; the whole map put.
 -- Assumes nothing.
 use Prim.Native.Nat.{ℕ, _*_, _/_, _%_, _<_, _≤_}
 use mathlib.Core.Path.{_≡_, refl, sym, ap, _∙_}
-use mathlib.Core.Bool.{Bool, true, false, not, _||_, true≢false, false≢true}
+use mathlib.Core.Bool.{true, false, not, _||_, true≢false, false≢true}
 use mathlib.Core.List.{List}
 use native.Mathlib.Nat.{div-lt-iff-lt-mul, le-div-iff-mul-le}
 use native.Mathlib.Omega.{arith}
@@ -11,35 +11,15 @@ use lib.Dec.{eqb, ltb}
 use lib.ListN.{length}
 use lib.Seq.{take-all}
 use Rattle.laws.specs.Lists.{writtenOver}
-use Rattle.laws.specs.Rows.{unlessRefused}
-use Rattle.laws.proofs.Rows.{seen-on-paper}
 use Rattle.laws.proofs.Tests.{or-r}
-use Rattle.parts.specs.Setup.{withinLimits, sectorWords, allWords, lacksRoom}
+use Rattle.parts.specs.Setup.{withinLimits, allWords}
 use Rattle.parts.specs.declared.setup.Setup.{Setup}
 use Rattle.parts.proofs.Bounds.{limits}
 use Rattle.defects.specs.Place.{fieldOctets}
-use Rattle.defects.specs.Encoding as encoding
-use Rattle.defects.specs.Encoding.{defectsListed, setsFor, mapOctets, mapLength, isEncodable, encodeRows, encodeRefusal, EncodedMap}
+use Rattle.defects.specs.Encoding.{setsFor, mapOctets, mapLength, isEncodable}
 use Rattle.defects.specs.EncodeSteps.{valueIn, Planned, FieldsPut, HasRoom}
 use Rattle.defects.specs.declared.body.Job.{Job}
-use Rattle.defects.specs.declared.encoding.MapEncoded.{MapEncoded}
-use Rattle.defects.specs.declared.encoding.MapEncoded.the-variants.{Written, Refused}
-use Rattle.defects.proofs.Plans.{plan}
-use Rattle.defects.proofs.MapFields.{all-octets}
-
-pub map-encoded : {s : Setup} {cylinder head : ℕ} {defects before after : List ℕ} {r : MapEncoded}
-    → let refusal = encodeRefusal s cylinder head defects (length before) in
-    r ≡ unlessRefused refusal (Refused refusal) (Written (mapLength s (length defects / 12)))
-    → after ≡ unlessRefused refusal before (writtenOver before (mapOctets s (record { cylinder = cylinder; head = head; defects = defectsListed defects })))
-    → EncodedMap s cylinder head defects before after r
-map-encoded {s} {cylinder} {head} {defects} {before} {r = r} e written =
-    record {
-      answer = e;
-      on-paper = seen-on-paper encoding.paper Refused _ r _ (encodeRows s cylinder head defects (length before)) refl (λ n. refl) (λ passed. refl) e;
-      slice = written;
-    }
-
--- ---- the rows
+use Rattle.defects.proofs.Plans.{plan, all-octets}
 
 -- 10, without a product that can be too large for a number
 pub record Told (s : Setup) (count size sets : ℕ) : Type 0 where
@@ -59,15 +39,6 @@ module _ {s : Setup} {count size sets : ℕ} (told : Told s count size sets) whe
 
   pub has-octets : (room : ℕ) → sets ≤ room / (3 * size) → ltb room (mapLength s count) ≡ false
   has-octets room h = le-ltb room (mapLength s count) (omega (arith, le-div-iff-mul-le {k = 3 * size} {x = sets} {y = room} some-octets .0 h, length-told))
-
--- 10, for the sector words alone
-pub lacks-words : (s : Setup) (n words : ℕ) → withinLimits s ≡ true → words ≡ sectorWords s → lacksRoom s n words ≡ ltb n (allWords s)
-unfolding lacksRoom
-lacks-words s n words w e = rw (w, e, le-ltb (sectorWords s) (sectorWords s) (omega arith)) (or-none (ltb n (allWords s)))
-  where
-    or-none : (a : Bool) → a || false ≡ a
-    or-none true = refl
-    or-none false = refl
 
 -- 8 not given
 pub planned : {s : Setup} {job : Job} {octets : List ℕ} → withinLimits s ≡ true → job .sets ≡ setsFor s (length octets / 12)
