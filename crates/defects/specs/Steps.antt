@@ -8,11 +8,11 @@ use Rattle.laws.specs.Pick.{pick}
 use lib.ListN.{length}
 use Rattle.parts.specs.Setup.{withinLimits, allWords}
 use Rattle.parts.specs.declared.setup.Setup.{Setup}
-use Rattle.defects.specs.Offence.{Test, _at_when_, noOffence, firstOf}
+use Rattle.defects.specs.Offence.{Test, _at_when_, noOffence, firstOf, testsOver}
 use Rattle.laws.specs.Lists.{writtenOver, writtenAt}
 use Rattle.defects.specs.Defect.{behind, behindAll, listOctets}
 use Rattle.defects.specs.Field.{isIgnored, defectsIn}
-use Rattle.defects.specs.Judging.{entryTests, listTests, originalTests, fieldTests}
+use Rattle.defects.specs.Judging.{entryTests, listTests, sameTest, originalTests, fieldTests}
 use Rattle.defects.specs.Place.{fieldOctets, dataFields}
 use Rattle.defects.specs.Walk.{after, isEnded, walkAt, defectsBefore, mapTests}
 use Rattle.defects.specs.Decoding.{defectsOf, mapOf}
@@ -53,6 +53,10 @@ pub record EntriesJudged (s : Setup) (flagged : Bool) (least start : ℕ) (field
 pub record OriginalJudged (s : Setup) (w : Walk) (least start : ℕ) (field : List ℕ) (r : Judged) : Type 0 where
   pub offence : r .offence ≡ firstOf (originalTests s w least start field)
   pub next : r .offence .found ≡ false → r .least ≡ behindAll least (defectsIn field)
+
+-- No one of so many octets from an index on is told as unlike that of copy 0.
+abbrev pub NoneUnlike : List ℕ → List ℕ → ℕ → ℕ → Bool → Type 0
+NoneUnlike field original from count alike = (start : ℕ) → alike ≡ true → firstOf (testsOver (sameTest start field original) from count) ≡ noOffence
 
 -- A data field that can be judged at an offset, and copy 0 of its set beside it.
 pub record Judgeable (s : Setup) (w : Walk) (start : ℕ) (original field : List ℕ) : Type 0 where

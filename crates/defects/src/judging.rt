@@ -18,7 +18,7 @@ ghost use lib.ListN.{length};
 ghost use Rattle.defects.specs.Offence.{firstOf, testsOver};
 ghost use Rattle.defects.specs.Field.{frontOf};
 ghost use Rattle.defects.specs.Judging.{sameTest, crcTests, paddingTests, copyTests};
-ghost use Rattle.defects.specs.Steps.{Sized, OriginalJudged};
+ghost use Rattle.defects.specs.Steps.{Sized, OriginalJudged, NoneUnlike};
 
 pub(crate) const CRC_LENGTH: usize = 2;
 
@@ -108,6 +108,31 @@ fn padding_offence(start: usize, field: &[u8], count: usize) -> Offence
 
 // So many octets from an index on are as in copy 0.
 fn same_offence(start: usize, field: &[u8], original: &[u8], from: usize, count: usize) -> Offence
+    requires { ⌜ (from + count ≤ length (now field)) × (length (now original) ≡ length (now field)) × (start + length (now field) < 2 ^ 63) ⌝ }
+    ensures { λ r. ⌜ r ≡ firstOf (testsOver (sameTest start (now (field .entry)) (now (original .entry))) from count) ⌝ }
+{
+    if is_alike(field, original, from, count) {
+        return no_offence();
+    }
+    first_unlike(start, field, original, from, count)
+}
+
+// Copies are mostly alike, and without a stop at the first octet that differs many are compared at once.
+fn is_alike(field: &[u8], original: &[u8], from: usize, count: usize) -> bool
+    requires { ⌜ (from + count ≤ length (now field)) × (length (now original) ≡ length (now field)) × (length (now field) < 2 ^ 63) ⌝ }
+    ensures { λ r. ⌜ NoneUnlike (now (field .entry)) (now (original .entry)) from count r ⌝ }
+{
+    let end = from + count;
+    let mut alike = true;
+    let mut i = from;
+    while i < end {
+        alike = alike & (field[i] == original[i]);
+        i += 1;
+    }
+    alike
+}
+
+fn first_unlike(start: usize, field: &[u8], original: &[u8], from: usize, count: usize) -> Offence
     requires { ⌜ (from + count ≤ length (now field)) × (length (now original) ≡ length (now field)) × (start + length (now field) < 2 ^ 63) ⌝ }
     ensures { λ r. ⌜ r ≡ firstOf (testsOver (sameTest start (now (field .entry)) (now (original .entry))) from count) ⌝ }
 {
