@@ -19,8 +19,8 @@ ghost use Rattle.laws.specs.Pick.{pick};
 ghost use Rattle.laws.specs.Lists.{writtenOver, writtenAt};
 ghost use Rattle.defects.specs.Defect.{listOctets};
 ghost use Rattle.defects.specs.Field.{defectsIn};
-ghost use Rattle.defects.specs.Walk.{defectsBefore};
-ghost use Rattle.defects.specs.Steps.{stringIn, ownDefects, FieldListed, Listable};
+ghost use Rattle.defects.specs.Walk.{fieldAt, defectsBefore};
+ghost use Rattle.defects.specs.Steps.{stringIn, ownDefects, Loadable, FieldListed, Listable};
 
 // How many defects are listed, and which copy is due.
 pub(crate) struct Gathered {
@@ -41,18 +41,50 @@ pub(crate) fn gather(
     requires { ⌜ Listable setup «in_sectors» (now octets) (now sectors) fields (now defects) × (2048 ≤ length (now field)) ⌝ }
     ensures { λ r. ⌜ (r ≡ length (defectsBefore setup (stringIn setup «in_sectors» (now (octets .entry)) (now (sectors .entry))) fields)) × (now (defects .exit) ≡ writtenOver (now (defects .entry)) (listOctets (defectsBefore setup (stringIn setup «in_sectors» (now (octets .entry)) (now (sectors .entry))) fields))) ⌝ }
 {
-    let each = field_octets(setup);
     let mut count = 0;
     let mut copy: u8 = 0;
     let mut k = 0;
     while k < fields {
-        load(setup, in_sectors, octets, sectors, k, field);
-        let listed = list_field(copy, count, &field[..each], defects);
+        let listed = list_at(
+            setup,
+            in_sectors,
+            octets,
+            sectors,
+            k,
+            copy,
+            count,
+            field,
+            defects,
+        );
         count = listed.count;
         copy = listed.copy;
         k += 1;
     }
     count
+}
+
+// Data field k, behind so many defects.
+fn list_at(
+    setup: Setup,
+    in_sectors: bool,
+    octets: &[u8],
+    sectors: &[u16],
+    k: usize,
+    copy: u8,
+    count: usize,
+    field: &mut [u8],
+    defects: &mut [u8],
+) -> Gathered
+    requires { ⌜ Loadable setup «in_sectors» (now octets) (now sectors) k × (12 * (count + length (ownDefects copy (fieldAt setup (stringIn setup «in_sectors» (now octets) (now sectors)) k))) ≤ length (now defects)) × (2048 ≤ length (now field)) ⌝ }
+    ensures { λ r. ⌜ FieldListed copy count (fieldAt setup (stringIn setup «in_sectors» (now (octets .entry)) (now (sectors .entry))) k) (now (defects .entry)) (now (defects .exit)) r ⌝ }
+{
+    let each = field_octets(setup);
+    if in_sectors {
+        load(setup, sectors, k, field);
+        return list_field(copy, count, &field[..each], defects);
+    }
+    let at = k * each;
+    list_field(copy, count, &octets[at..at + each], defects)
 }
 
 // A data field behind so many defects: its own are listed where copy 0 is due and it is not ignored.

@@ -1,5 +1,4 @@
-// The data fields of a map in a drive's sector words, and out of a string of octets.
-use crate::place::field_octets;
+// The data fields of a map in a drive's sector words.
 use crate::place::place_of;
 use parts::Place;
 use parts::Setup;
@@ -7,41 +6,17 @@ ghost use Prim.Native.Nat.{_+_, _*_, _^_, _≤_, _<_};
 ghost use mathlib.Core.Path.{_≡_};
 ghost use mathlib.Core.Bool.{true};
 ghost use lib.ListN.{length, take, drop};
-ghost use Rattle.parts.specs.Setup.{withinLimits, sectorNumber, sectorStart, isPlace};
+ghost use Rattle.parts.specs.Setup.{withinLimits, allWords, sectorNumber, sectorStart, isPlace};
 ghost use Rattle.defects.specs.Place.{fieldOctets, dataFields};
 ghost use Rattle.defects.specs.Walk.{fieldAt};
-ghost use Rattle.defects.specs.Sectors.{wordOctets, fieldStart};
-ghost use Rattle.defects.specs.Steps.{stringIn, Loadable};
+ghost use Rattle.defects.specs.Sectors.{wordOctets, fieldStart, lastCylinder};
 
 // Data field k of the map, at the front of a lent slice.
-pub(crate) fn load(
-    setup: Setup,
-    in_sectors: bool,
-    octets: &[u8],
-    sectors: &[u16],
-    k: usize,
-    field: &mut [u8],
-)
-    requires { ⌜ Loadable setup «in_sectors» (now octets) (now sectors) k × (2048 ≤ length (now field)) ⌝ }
-    ensures { λ _. ⌜ take (fieldOctets setup) (now (field .exit)) ≡ fieldAt setup (stringIn setup «in_sectors» (now (octets .entry)) (now (sectors .entry))) k ⌝ }
+pub(crate) fn load(setup: Setup, sectors: &[u16], k: usize, field: &mut [u8])
+    requires { ⌜ (withinLimits setup ≡ true) × (allWords setup ≤ length (now sectors)) × (k < dataFields setup) × (2048 ≤ length (now field)) ⌝ }
+    ensures { λ _. ⌜ take (fieldOctets setup) (now (field .exit)) ≡ fieldAt setup (lastCylinder setup (now (sectors .entry))) k ⌝ }
 {
-    let size = field_octets(setup);
-    if in_sectors {
-        load_words(sectors, field_start(setup, k), setup.field1 as usize, field);
-        return;
-    }
-    load_octets(octets, k * size, size, field);
-}
-
-fn load_octets(octets: &[u8], start: usize, count: usize, field: &mut [u8])
-    requires { ⌜ (start + count ≤ length (now octets)) × (count ≤ length (now field)) ⌝ }
-    ensures { λ _. ⌜ take count (now (field .exit)) ≡ take count (drop start (now (octets .entry))) ⌝ }
-{
-    let mut i = 0;
-    while i < count {
-        field[i] = octets[start + i];
-        i += 1;
-    }
+    load_words(sectors, field_start(setup, k), setup.field1 as usize, field);
 }
 
 // The high octet of a word is the first.

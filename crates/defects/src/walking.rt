@@ -113,18 +113,15 @@ fn turn(
     ensures { λ r. ⌜ StepTaken setup walk least k (k * fieldOctets setup) (fieldAt setup (stringIn setup «in_sectors» (now (octets .entry)) (now (sectors .entry))) (walk .original)) (fieldAt setup (stringIn setup «in_sectors» (now (octets .entry)) (now (sectors .entry))) k) r ⌝ }
 {
     let each = field_octets(setup);
-    let first = walk.original;
-    load(setup, in_sectors, octets, sectors, first, original);
-    load(setup, in_sectors, octets, sectors, k, field);
-    step(
-        setup,
-        walk,
-        least,
-        k,
-        k * each,
-        &original[..each],
-        &field[..each],
-    )
+    let at = k * each;
+    if in_sectors {
+        load(setup, sectors, walk.original, original);
+        load(setup, sectors, k, field);
+        return step(setup, walk, least, k, at, &original[..each], &field[..each]);
+    }
+    let first = walk.original * each;
+    let begun = &octets[first..first + each];
+    step(setup, walk, least, k, at, begun, &octets[at..at + each])
 }
 
 // Behind the last data field of the cylinder.
