@@ -1,11 +1,11 @@
-/* Pantoglide 2.0: the proved drive behind a C interface.
+/* Pantoglide 2.1: the proved drive behind a C interface.
  *
  * Two hosts share a drive, one on each of two IPI-2 ports, 0 and 1. The firmware hands each thing
  * that a host does to pg_event, with the words of the drive; the call does what the drive would do
  * and tells what to answer. This header is all that a caller needs to read. The rules are those of
  * the paper that the project calls document 01, with commands and responses as request M-100 adds
- * them. Both take them from three papers on IPI: 001 (a drive's manual), 003 (the physical level)
- * and 004 (IPI-2). Octets are in hex.
+ * them and the maker's defect map as M-108 does. All take them from three papers on IPI: 001 (a
+ * drive's manual), 003 (the physical level) and 004 (IPI-2). Octets are in hex.
  *
  *
  * WHAT IT NEEDS
@@ -51,7 +51,8 @@
  * same state of this version.
  *
  * Byte order. A word is a number of 16 bits. Which of its two octets comes first on a medium, or in
- * a file that keeps the sectors, is the caller's. Events and captures have the high octet first.
+ * a file that keeps the sectors, is the caller's. Events, captures and defect maps have the high
+ * octet first, and a map on the last cylinder takes the high octet of each word for the first.
  */
 #ifndef PANTOGLIDE_H
 #define PANTOGLIDE_H
@@ -66,7 +67,7 @@ extern "C" {
 /* The version of this header and of the archive it belongs to. The major number grows where a
  * program that was written for the last one may need a change; CHANGELOG.md says which. */
 #define PG_VERSION_MAJOR 2
-#define PG_VERSION_MINOR 0
+#define PG_VERSION_MINOR 1
 
 /* ---- The drive ---------------------------------------------------------------------------- */
 
@@ -372,7 +373,8 @@ enum {
 #define PG_PENDING_UNSUPPORTED_CONTROL 0x0020             /* octet 2, UNSUPPORTED BUS CONTROL */
 #define PG_PENDING_TARGET_MISSING 0x0010                  /* octet 2, BUS CONTROL CONTEXT */
 
-/* The refusals. A refused call changes nothing. */
+/* The refusals. A refused call changes nothing, but that pg_decode_map and pg_read_map tell in
+ * *offset where a map's offence lies. The answers 16 to 21 of pg_line are no refusals. */
 enum {
     PG_ACCEPTED = 0,
     PG_REFUSED_NO_SUCH_PORT = 1,      /* The port is neither 0 nor 1. */
@@ -384,15 +386,41 @@ enum {
     PG_REFUSED_WRONG_MOMENT = 7,      /* A transfer is open, or none is, see below. */
     PG_REFUSED_MALFORMED = 8,         /* The kind is not 1 to 10 or an unused argument octet is not
                                          0; records are not whole, or too long for a capture; a
-                                         setting is over 31. */
-    PG_REFUSED_OUTSIDE_LIMITS = 9,    /* Power-up: a number is outside its limits. */
+                                         setting is over 31; no map can be made of the defects. */
+    PG_REFUSED_OUTSIDE_LIMITS = 9,    /* Power-up and maps: a number is outside its limits. */
     PG_REFUSED_TOO_SHORT = 10,        /* A lent slice is too short. */
     PG_REFUSED_UNSOUND = 11,          /* The state handed in is not sound, see below, or is none
                                          that a trace leads a follower to. */
     PG_REFUSED_CAPTURE_TOO_SHORT = 12,  /* A capture has under 8 octets. */
     PG_REFUSED_TRAILER_MARK = 13,       /* A capture's trailer mark is wrong. */
-    PG_REFUSED_TRAILER_DISTANCE = 14    /* A trailer's distance is no multiple of 8, or is more than
+    PG_REFUSED_TRAILER_DISTANCE = 14,   /* A trailer's distance is no multiple of 8, or is more than
                                            the capture's length less 8. */
+
+    /* Of a defect map, whose parts are named where its calls are. */
+    PG_REFUSED_MAP_NO_DATA_FIELD = 16,  /* It is not at its end, and the last cylinder has no
+                                           further data field. */
+    PG_REFUSED_MAP_CUT_SHORT = 17,      /* It is not at its end, and the octets end before the next
+                                           data field is whole. */
+    PG_REFUSED_MAP_COUNT = 18,          /* Copy 0: octets 0 and 1 are not the data field's length
+                                           less 2. */
+    PG_REFUSED_MAP_FLAGS = 19,          /* Copy 0: a flag is set that no map has, or bit 7 in a set
+                                           that is not the last, or not in the last. */
+    PG_REFUSED_MAP_COPY_NUMBER = 20,    /* Octet 3 is neither the number of the copy that is due nor
+                                           FF. */
+    PG_REFUSED_MAP_UNLIKE_SET_0 = 21,   /* Copy 0: the number of sets is 0; or it or the storage
+                                           track is not as in set 0. */
+    PG_REFUSED_MAP_SET_NUMBER = 22,     /* Copy 0: the set's number is not that of the sets before
+                                           it. */
+    PG_REFUSED_MAP_OUTSIDE_DRIVE = 23,  /* Copy 0: cylinder or head of the storage track, or of a
+                                           defect, is not in the drive. */
+    PG_REFUSED_MAP_OUT_OF_SEQUENCE = 24,  /* Copy 0: flag bit 3 is clear, and a defect before one of
+                                             its own has the same address or a higher one. */
+    PG_REFUSED_MAP_PADDING = 25,        /* Copy 0: an octet between the defects and the CRC is not
+                                           0. */
+    PG_REFUSED_MAP_CRC = 26,            /* The CRC is not that of the octets before it. */
+    PG_REFUSED_MAP_UNLIKE_COPY_0 = 27,  /* Copy 1 or 2: an octet is not as in copy 0, and is neither
+                                           octet 3 nor of the CRC. */
+    PG_REFUSED_MAP_TOO_LONG = 28        /* Octets follow the third copy of the last set. */
 };
 
 /* When 7 is given, a command being open as a write is, and a response as a read is:
@@ -501,6 +529,124 @@ uint8_t pg_capture(const uint8_t *octets, size_t octets_length, size_t *first_re
  * looked at. size must lead to a size_t that no slice overlaps. */
 uint8_t pg_make_capture(const uint8_t *notes, size_t notes_length, const uint8_t *records,
                         size_t records_length, uint8_t *out, size_t out_length, size_t *size);
+
+/* ---- The maker's defect map ------------------------------------------------------------------ */
+
+/* The maker of a drive lists its defects in a map on the last cylinder (004, section 13). Here is
+ * what a caller needs; docs/DEFECTS.md says the map octet by octet and works one by hand.
+ *
+ *     defect       PG_DEFECT_OCTETS octets: cylinder (4), head (2), offset from Index in octets (4)
+ *                  and length in bits (2), each with its high octet first. Its address is cylinder,
+ *                  head and offset, compared in this order
+ *     data field   field 1 of a sector, two octets for a word, the high one first. Data field 0 is
+ *                  that of the last cylinder's last head, sector 0; behind the last sector of a
+ *                  head comes sector 0 of the head below it. There are heads * sectors of them, and
+ *                  none where field 1 has under 8 words. Headers and field 2 are no part of a map
+ *     set          up to (field_1 * 2 - 16) / 12 defects, whole part, in one data field, which
+ *                  stands three times, as copies 0, 1 and 2: they differ in octet 3, the number of
+ *                  the copy, and in the CRC, their last two octets. A data field with FF in octet 3
+ *                  is ignored wherever it stands before the map's end
+ *     map          its sets one after another, from data field 0 on. It ends behind the third copy
+ *                  of its last set. Each data field also tells the storage track, a cylinder and a
+ *                  head: where a controller may store its Format Specification
+ *
+ * The calls have no state and know the drive by the seven numbers that pg_power_up is given:
+ * cylinders to address, with the same limits (see the state's words 0 to 6). They never look at a
+ * drive's state. A caller makes no other call with the same sector words at that time.
+ *
+ * A pointer to a single number, as cylinder or count, must lead to one, which no slice and no other
+ * pointer of the same call overlaps. */
+#define PG_DEFECT_OCTETS 12
+
+/* Takes a defect apart.
+ *
+ * Returns 10 if octets has under PG_DEFECT_OCTETS octets, and then nothing is changed. Otherwise
+ * returns 0, with the numbers of the defect in the first PG_DEFECT_OCTETS octets in *cylinder,
+ * *head, *offset and *length. Any 12 octets are a defect. */
+uint8_t pg_decode_defect(const uint8_t *octets, size_t octets_length, uint32_t *cylinder,
+                         uint16_t *head, uint32_t *offset, uint16_t *length);
+
+/* Puts a defect together.
+ *
+ * Returns 10 if octets has under PG_DEFECT_OCTETS octets, and then nothing is changed. Otherwise
+ * returns 0, with the defect in the first PG_DEFECT_OCTETS octets and the others as they were. Any
+ * four numbers are a defect. */
+uint8_t pg_encode_defect(uint32_t cylinder, uint16_t head, uint32_t offset, uint16_t length,
+                         uint8_t *octets, size_t octets_length);
+
+/* Tells where a data field stands, counted from 0.
+ *
+ * Returns 9 if a number of the set-up is outside its limits; otherwise 16 if the last cylinder has
+ * no such data field, that is if data_field is heads * sectors or more or field_1 is under 8; and
+ * then nothing is changed. Otherwise returns 0, with its place in *cylinder, *head and *sector. */
+uint8_t pg_map_place(uint16_t cylinders, uint16_t heads, uint16_t sectors, uint16_t header,
+                     uint16_t field_1, uint16_t field_2, uint16_t address, size_t data_field,
+                     uint16_t *cylinder, uint16_t *head, uint16_t *sector);
+
+/* Decodes a map: octets are its data fields, one after another from data field 0 on, and nothing
+ * behind the map's end.
+ *
+ * Returns 9 if a number of the set-up is outside its limits; otherwise 10 if defects_length is
+ * under octets_length / 3, whole part, which is always enough for the defects; otherwise 16 to 28
+ * if the octets are no map: the first offence, which is the one that lies at the lowest offset, and
+ * at one offset the one with the lower number. Then *offset is where it lies, counted in octets
+ * from the first one, which is 0 with 9 and 10; an offence of a number of several octets lies at
+ * its first one, 16 and 17 lie where the missing data field would begin or begins, 28 behind the
+ * map's end; and nothing else is changed.
+ *
+ * Otherwise returns 0, with the map's defects at the front of defects, in the map's order and
+ * PG_DEFECT_OCTETS octets each, the rest of defects as it was, their number in *count, the storage
+ * track in *storage_cylinder and *storage_head, and *offset as it was. */
+uint8_t pg_decode_map(uint16_t cylinders, uint16_t heads, uint16_t sectors, uint16_t header,
+                      uint16_t field_1, uint16_t field_2, uint16_t address, const uint8_t *octets,
+                      size_t octets_length, uint8_t *defects, size_t defects_length, size_t *count,
+                      uint16_t *storage_cylinder, uint16_t *storage_head, size_t *offset);
+
+/* Encodes a map: of a storage track and of defects, PG_DEFECT_OCTETS octets each, in any order.
+ *
+ * With E = (field_1 * 2 - 16) / 12, the defects that fill a set, the map has as many sets as they
+ * take, but one at least, and so 3 * sets data fields of field_1 * 2 octets. (Where field_1 is
+ * under 14, E is 0, and the map counts as one set.)
+ *
+ * Returns 9 if a number of the set-up is outside its limits; otherwise 10 if out is shorter than
+ * the map of defects_length / 12 defects, whole part; otherwise 8 if defects_length is no multiple
+ * of 12, if a defect or the storage track is on a cylinder or head that the drive does not have, if
+ * a defect is twelve octets 0, if there is a defect and E is 0, or if the last cylinder has fewer
+ * data fields than the map; and then nothing is changed. Otherwise returns 0, with the map at the
+ * front of out, the rest of out as it was, and the map's length in *size. pg_decode_map makes the
+ * same defects and storage track of it, in the same order. */
+uint8_t pg_encode_map(uint16_t cylinders, uint16_t heads, uint16_t sectors, uint16_t header,
+                      uint16_t field_1, uint16_t field_2, uint16_t address,
+                      uint16_t storage_cylinder, uint16_t storage_head, const uint8_t *defects,
+                      size_t defects_length, uint8_t *out, size_t out_length, size_t *size);
+
+/* Reads the map off the last cylinder. What stands there behind the map's end is not looked at.
+ *
+ * Returns 9 if a number of the set-up is outside its limits; otherwise 10 if sector_words is
+ * shorter than the drive, as in pg_power_up, or defects_length is under a third, whole part, of the
+ * octets of all data fields of the last cylinder; otherwise 16 or 18 to 27 if those octets are no
+ * map; and then *offset is where the first offence lies, counted in the octets of the data fields,
+ * as in pg_decode_map, and nothing else is changed. Otherwise returns 0, with defects, *count,
+ * *storage_cylinder, *storage_head and *offset as pg_decode_map leaves them. The sector words are
+ * never changed. */
+uint8_t pg_read_map(uint16_t cylinders, uint16_t heads, uint16_t sectors, uint16_t header,
+                    uint16_t field_1, uint16_t field_2, uint16_t address,
+                    const uint16_t *sector_words, size_t sector_length, uint8_t *defects,
+                    size_t defects_length, size_t *count, uint16_t *storage_cylinder,
+                    uint16_t *storage_head, size_t *offset);
+
+/* Writes the map that pg_encode_map makes onto the last cylinder, from data field 0 on.
+ *
+ * Returns 9 if a number of the set-up is outside its limits; otherwise 10 if sector_words is
+ * shorter than the drive, as in pg_power_up; otherwise 8 as in pg_encode_map; and then nothing is
+ * changed. Otherwise returns 0, with field 1 of the map's data fields written and all other
+ * words as they were, headers, field 2 and the data fields behind the map among them. It writes
+ * word by word, so power lost inside the call can leave part of a map; who writes one again has it
+ * whole. */
+uint8_t pg_write_map(uint16_t cylinders, uint16_t heads, uint16_t sectors, uint16_t header,
+                     uint16_t field_1, uint16_t field_2, uint16_t address,
+                     uint16_t storage_cylinder, uint16_t storage_head, const uint8_t *defects,
+                     size_t defects_length, uint16_t *sector_words, size_t sector_length);
 
 /* ---- The lines of a port -------------------------------------------------------------------- */
 

@@ -1,11 +1,11 @@
--- A data field of the map: built from zeros, finished as one of its copies, and as long as field 1 is.
+-- A data field of the map: made of its parts, finished as one of its copies, and as long as field 1 is.
 -- Assumes nothing.
-use Prim.Native.Nat.{ℕ, zero, suc, _+_, _-_, _*_, _≤_}
+use Prim.Native.Nat.{ℕ, _+_, _-_, _*_, _≤_}
 use mathlib.Core.Path.{_≡_, refl, sym, ap, _∙_}
-use mathlib.Core.List.{List, [], _∷_, _++_, append-assoc}
+use mathlib.Core.List.{List, [], _∷_, _++_, append-assoc, append-nil}
 use native.Mathlib.Omega.{arith}
-use lib.ListN.{length, take, drop, set, replicate, length-append, length-take, length-replicate, replicate-append-replicate}
-use lib.Seq.{take-at, drop-append-add, drop-drop, set-set}
+use lib.ListN.{length, take, drop, set, replicate, length-append, length-take, length-drop, length-replicate, replicate-append-replicate}
+use lib.Seq.{take-at, drop-length, set-set}
 use Rattle.laws.specs.Lists.{writtenOver, writtenAt}
 use Rattle.laws.specs.Octets.{octetsOf}
 use Rattle.parts.specs.declared.setup.Setup.{Setup}
@@ -14,44 +14,27 @@ use Rattle.defects.specs.Defect.{listOctets}
 use Rattle.defects.specs.Field.{slots}
 use Rattle.defects.specs.Place.{fieldOctets}
 use Rattle.defects.specs.Encoding.{Value, defectsOfSet, frontOctets, bodyOctets, dataField}
-use Rattle.defects.specs.EncodeSteps.{finished, blankField}
+use Rattle.defects.specs.EncodeSteps.{finished}
 use Rattle.defects.proofs.DefectOctets.{length-list}
 
--- ---- from zeros
+-- ---- its parts
 
-drop-zeros : (n m : ℕ) → drop n (replicate {A = ℕ} m 0) ≡ replicate (m - n) 0
-drop-zeros zero m = let e : m - 0 ≡ m = omega arith in rw e
-drop-zeros (suc n) zero = let e : 0 - suc n ≡ 0 = omega arith in rw e
-drop-zeros (suc n) (suc m) = let e : suc m - suc n ≡ m - n = omega arith in rw e (drop-zeros n m)
-
-take-zeros : (n m : ℕ) → n ≤ m → take n (replicate {A = ℕ} m 0) ≡ replicate n 0
-take-zeros zero m h = refl
-take-zeros (suc n) zero h = absurd (omega arith)
-take-zeros (suc n) (suc m) h = ap (λ (rest : List ℕ). 0 ∷ rest) (take-zeros n m (omega arith))
-
-pub blank-part : (n : ℕ) → n ≤ 2048 → take n blankField ≡ replicate n 0
-unfolding blankField
-blank-part n h = take-zeros n 2048 h
-
-pub length-blank : length blankField ≡ 2048
-unfolding blankField
-length-blank = length-replicate {A = ℕ} 2048 0
-
--- front and entries over zeros, with room for the CRC behind them
-pub over-zeros : (size : ℕ) (front entries : List ℕ) → length front ≡ 14 → 16 + length entries ≤ size
-    → writtenAt (writtenOver (replicate size 0) front) 14 entries ≡ front ++ entries ++ replicate (size - 16 - length entries) 0 ++ (0 ∷ 0 ∷ [])
-over-zeros size front entries e h =
-    let zeros : List ℕ = replicate size 0 in
-    let rest = drop (length front) zeros in
+-- front and entries, and zeros to the end, where the CRC goes
+pub padded-to-the-end : (field front entries : List ℕ) → length front ≡ 14 → 16 + length entries ≤ length field
+    → let made = writtenOver field front in
+    writtenAt made 14 (entries ++ replicate (length made - 14 - length entries) 0) ≡ front ++ entries ++ replicate (length field - 16 - length entries) 0 ++ (0 ∷ 0 ∷ [])
+padded-to-the-end field front entries e h =
+    let rest = drop (length front) field in
+    let made = front ++ rest in
     let n = length entries in
-    let behind : drop (14 + n) (front ++ rest) ≡ replicate (size - 16 - n) 0 ++ (0 ∷ 0 ∷ []) =
-    ap (λ (k : ℕ). drop (k + n) (front ++ rest)) (sym e)
-    ∙ drop-append-add front rest n
-    ∙ drop-drop n (length front) zeros
-    ∙ drop-zeros (length front + n) size
-    ∙ ap (λ (k : ℕ). replicate k 0) {x = size - (length front + n)} {y = size - 16 - n + 2} (omega arith)
-    ∙ sym (replicate-append-replicate (size - 16 - n) 2 0) in
-    rw (take-at front rest 14 e, behind, append-assoc (front ++ entries) (replicate (size - 16 - n) 0) (0 ∷ 0 ∷ []))
+    let size = length field in
+    let padding : List ℕ = replicate (length made - 14 - n) 0 in
+    let zeros : List ℕ = replicate (size - 16 - n) 0 in
+    let long : length made ≡ size = omega (arith, length-append front rest, length-drop (length front) field) in
+    let alike : padding ≡ zeros ++ (0 ∷ 0 ∷ []) =
+    ap (λ (k : ℕ). replicate k 0) {x = length made - 14 - n} {y = size - 16 - n + 2} (omega arith) ∙ sym (replicate-append-replicate (size - 16 - n) 2 0) in
+    let all : 14 + length (entries ++ padding) ≡ length made = omega (arith, length-append entries padding, length-replicate {A = ℕ} (length made - 14 - n) 0) in
+    rw (take-at front rest 14 e, all, drop-length made, append-nil (front ++ (entries ++ padding)), alike, append-assoc (front ++ entries) zeros (0 ∷ 0 ∷ []), append-assoc front entries (zeros ++ (0 ∷ 0 ∷ [])))
 
 -- ---- its length
 

@@ -2,10 +2,10 @@
 -- Assumes nothing.
 use Prim.Native.Nat.{ℕ, _+_, _-_, _*_}
 use mathlib.Core.Path.{_≡_, sym, ap, _∙_}
-use mathlib.Core.List.{List}
+use mathlib.Core.List.{List, _++_}
 use native.Mathlib.Omega.{arith}
 use lib.Dec.{eqb}
-use lib.ListN.{take, drop, replicate}
+use lib.ListN.{length, take, drop, replicate}
 use lib.Seq.{take-add}
 use Rattle.laws.specs.Lists.{writtenOver, writtenAt}
 use Rattle.laws.specs.Octets.{AllOctets}
@@ -21,7 +21,7 @@ use Rattle.defects.specs.declared.body.Run.{Run}
 use Rattle.defects.specs.declared.front.Front.{Front}
 use Rattle.defects.proofs.Listed.{listed-octets, behind-parts}
 use Rattle.defects.proofs.Plans.{plan, RunKnown}
-use Rattle.defects.proofs.Bodies.{over-zeros, length-front, entries-fit}
+use Rattle.defects.proofs.Bodies.{padded-to-the-end, length-front, entries-fit}
 
 -- the front that the code writes
 abbrev pub frontMade : Setup → Job → ℕ → ℕ → Front
@@ -41,18 +41,20 @@ module _ {s : Setup} {job : Job} {octets : List ℕ} {set least : ℕ} (due : Du
   unfolding octetsInFront frontOctets
   front-is flags e = rw (e, plan (due .planned) .sets)
 
-  pub filled : (run : Run) (order : Order) (flags : ℕ) (field : List ℕ) → RunKnown s job octets set run → AllOctets octets
+  pub filled : (run : Run) (order : Order) (flags : ℕ) (field₀ field : List ℕ) → length field₀ ≡ fieldOctets s → RunKnown s job octets set run → AllOctets octets
       → Ordered least (listFrom octets (run .at) (run .count)) order → flags ≡ flagsFor (eqb (set + 1) (job .sets)) (order .unordered)
-      → field ≡ writtenAt (writtenOver (replicate (fieldOctets s) 0) (octetsInFront (frontMade s job set flags))) 14 (take (12 * run .count) (drop (run .at) octets))
+      → (let made = writtenOver field₀ (octetsInFront (frontMade s job set flags)) in
+      let entries = take (12 * run .count) (drop (run .at) octets) in
+      field ≡ writtenAt made 14 (entries ++ replicate (length made - 14 - length entries) 0))
       → Filled s job octets set field (order .least)
   unfolding bodyOctets
-  filled run order flags field known all ordered f e =
+  filled run order flags field₀ field size known all ordered f e =
       let v = valueIn job octets in
       let entries = listOctets (defectsOfSet s v set) in
       let told : flags ≡ setFlags s v set = f ∙ rw (ordered .unordered, ← (known .listed), due .above, plan (due .planned) .sets) in
       let there : take (12 * run .count) (drop (run .at) octets) ≡ entries =
       sym (listed-octets octets all (run .at) (run .count) (known .within)) ∙ ap listOctets (sym (known .listed)) in
       record {
-        body = e ∙ rw (front-is flags told, there) (over-zeros (fieldOctets s) (frontOctets s v set 0) entries (length-front s v set 0) (entries-fit s v set (plan (due .planned) .field1)));
+        body = e ∙ rw (front-is flags told, there) (rw size at (padded-to-the-end field₀ (frontOctets s v set 0) entries (length-front s v set 0) (rw size (entries-fit s v set (plan (due .planned) .field1)))));
         next = ordered .next ∙ ap (behindAll least) (sym (known .listed)) ∙ next-least;
       }

@@ -50,7 +50,7 @@ at-from alone s octets k =
     either (From start 16) (isEnded (walkAt s octets k)) (omega arith)
     (either (From start 16) (leb (dataFields s) k) (omega arith) (omega arith, from-lower start 16 start 18 (own s octets k) (omega arith) (omega arith) (own-from s octets k)))
 
-from-on : (alone : Bool) (s : Setup) (octets : List ℕ) (k count low : ℕ) → low ≤ k * fieldOctets s → From low 16 (testsFrom alone s octets k count)
+pub from-on : (alone : Bool) (s : Setup) (octets : List ℕ) (k count low : ℕ) → low ≤ k * fieldOctets s → From low 16 (testsFrom alone s octets k count)
 unfolding testsFrom
 from-on alone s octets k zero low h = tt
 from-on alone s octets k (suc count) low h =

@@ -59,6 +59,7 @@ pub mod ExactOffence
 pub mod TestOrder
 pub mod LeastFirst
 pub mod Copies
+pub mod Computing
 pub mod WrongAnswers
 pub mod Cases
 pub mod MapOnly

@@ -3,7 +3,7 @@ use Prim.Native.Nat.{ℕ, _+_, _-_, _*_, _/_, _<_, _≤_, _^_, min}
 use mathlib.Core.Path.{_≡_}
 use mathlib.Core.Bool.{Bool, true, false}
 use mathlib.Core.List.{List, [], _∷_, _++_}
-use lib.ListN.{length, take, set, replicate}
+use lib.ListN.{length, take, set}
 use Rattle.laws.specs.Lists.{writtenOver, writtenAt}
 use Rattle.laws.specs.Octets.{octetsOf}
 use Rattle.parts.specs.Setup.{withinLimits, allWords}
@@ -73,10 +73,6 @@ pub record Filled (s : Setup) (job : Job) (octets : List ℕ) (set : ℕ) (field
 -- The data field as one of the copies, with its CRC.
 unfoldable pub finished : ℕ → List ℕ → List ℕ
 finished copy field = let body = set (take (length field - 2) field) 3 copy in body ++ octetsOf 2 (crcOf body)
-
--- The longest data field, of zeros.
-unfoldable pub blankField : List ℕ
-blankField = replicate 2048 0
 
 -- ---- a data field put into its place
 

@@ -9,13 +9,13 @@ use crate::front::COPY;
 use crate::front::Front;
 use crate::judging::CRC_LENGTH;
 use crate::place::field_octets;
-use crate::storing::put;
+use crate::storing::put_padded;
 use parts::Setup;
 ghost use Prim.Native.Nat.{_+_, _*_, _/_, _^_, _<_, _≤_, max};
 ghost use mathlib.Core.Path.{_≡_};
 ghost use mathlib.Core.Bool.{_||_};
 ghost use lib.Dec.{ltb};
-ghost use lib.ListN.{length, replicate};
+ghost use lib.ListN.{length};
 ghost use Rattle.laws.specs.Lists.{writtenOver};
 ghost use Rattle.defects.specs.Field.{slots};
 ghost use Rattle.defects.specs.Place.{fieldOctets};
@@ -51,8 +51,7 @@ const LAST: u16 = 128;
 
 const OUT_OF_SEQUENCE: u16 = 8;
 
-// Copy 0 of a set, but for its CRC, in a data field of zeros. Returns the least address that is higher than all up to the
-// set's last defect.
+// Copy 0 of a set, with zeros for its CRC. Returns the least address that is higher than all up to the set's last defect.
 pub(crate) fn fill(
     setup: Setup,
     job: Job,
@@ -61,7 +60,7 @@ pub(crate) fn fill(
     defects: &[u8],
     field: &mut [u8],
 ) -> u64
-    requires { ⌜ Due setup job (now defects) set least × (now field ≡ replicate (fieldOctets setup) 0) ⌝ }
+    requires { ⌜ Due setup job (now defects) set least × (length (now field) ≡ fieldOctets setup) ⌝ }
     ensures { λ r. ⌜ Filled setup job (now (defects .entry)) set (now (field .exit)) r ⌝ }
 {
     let run = run_of(setup, set, defects.len());
@@ -78,7 +77,7 @@ pub(crate) fn fill(
         head: job.head,
     };
     write_front(front, field);
-    put(field, ENTRIES, &defects[at..end]);
+    put_padded(field, ENTRIES, &defects[at..end]);
     order.least
 }
 

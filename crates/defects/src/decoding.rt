@@ -2,6 +2,7 @@
 use crate::gathering::gather;
 use crate::place::data_fields;
 use crate::place::field_octets;
+use crate::room::room;
 use crate::walking::judge;
 use parts::Setup;
 ghost use Prim.Native.Nat.{_/_, _≤_};
@@ -23,9 +24,6 @@ pub enum MapRead {
         offset: usize,
     },
 }
-
-// The most octets that a data field has.
-const MOST_OCTETS: usize = 2048;
 
 // The map in the octets: how many defects it lists, and their octets at the front of `defects`. 9 where a number of the set-up is outside its
 // limits, 10 where `defects` has not a third of the octets, 16 to 28 for the map's own offences; then nothing is written.
@@ -82,8 +80,8 @@ pub(crate) fn decode(
     requires { ⌜ Readable setup «in_sectors» (now octets) (now sectors) size × (size / 3 ≤ length (now defects)) ⌝ }
     ensures { λ r. ⌜ MapListed setup «in_sectors» (stringIn setup «in_sectors» (now (octets .entry)) (now (sectors .entry))) (now (defects .entry)) (now (defects .exit)) r ⌝ }
 {
-    let mut field = [0u8; MOST_OCTETS];
-    let mut original = [0u8; MOST_OCTETS];
+    let mut field = room();
+    let mut original = room();
     let judged = judge(
         setup,
         in_sectors,

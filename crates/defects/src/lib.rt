@@ -12,6 +12,7 @@ mod gathering;
 mod judging;
 mod offence;
 mod place;
+mod room;
 mod sectors;
 mod sets;
 mod storing;

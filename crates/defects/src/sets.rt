@@ -4,15 +4,12 @@ use crate::body::Job;
 use crate::body::fill;
 use crate::body::finish;
 use crate::place::field_octets;
+use crate::room::room;
 use crate::storing::put_field;
 use parts::Setup;
 ghost use Prim.Native.Nat.{_*_};
-ghost use mathlib.Core.Path.{_≡_};
 ghost use Rattle.defects.specs.Encoding.{mapOctets};
-ghost use Rattle.defects.specs.EncodeSteps.{valueIn, Planned, Due, HasRoom, FieldsPut, SetPut, blankField};
-
-// The octets of the longest data field.
-const MOST_FIELD_OCTETS: usize = 2048;
+ghost use Rattle.defects.specs.EncodeSteps.{valueIn, Planned, Due, HasRoom, FieldsPut, SetPut};
 
 // All sets of a map.
 pub(crate) fn put_sets(setup: Setup, job: Job, defects: &[u8], out: &mut [u8], sectors: &mut [u16])
@@ -41,7 +38,7 @@ fn put_set(
     ensures { λ r. ⌜ SetPut setup job (now (defects .entry)) set (now (out .entry)) (now (out .exit)) (now (sectors .entry)) (now (sectors .exit)) r ⌝ }
 {
     let size = field_octets(setup);
-    let mut field = blank_field();
+    let mut field = room();
     let next = fill(setup, job, set, least, defects, &mut field[..size]);
     let mut k = COPIES * set as usize;
     let mut copy: u8 = 0;
@@ -52,11 +49,4 @@ fn put_set(
         copy += 1;
     }
     next
-}
-
-// The longest data field, of zeros.
-fn blank_field() -> [u8; MOST_FIELD_OCTETS]
-    ensures { λ r. ⌜ r ≡ blankField ⌝ }
-{
-    [0; MOST_FIELD_OCTETS]
 }

@@ -4,6 +4,7 @@ pub mod Singles
 pub mod Demand3
 pub mod OneStatus
 pub mod Captures
+pub mod Defects
 pub mod Only
 pub mod Exactly
 pub mod WrongAnswers

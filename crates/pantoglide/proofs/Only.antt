@@ -6,6 +6,8 @@ use mathlib.Core.Path.{_≡_}
 use mathlib.Core.List.{List}
 use Rattle.laws.proofs.Only.{answer-only}
 use Rattle.pantoglide.specs.Capture.{CaptureFound, CaptureMade}
+use Rattle.parts.specs.declared.setup.Setup.{Setup}
+use Rattle.pantoglide.specs.Defects.{DefectTold, DefectMade, PlaceTold, MapTold, MapMade, MapReadOff, MapPut}
 use Rattle.pantoglide.specs.Line.{LineFollowed}
 
 pub pg-line-only : {follower : List ℕ} {setting r r′ : ℕ} {follower′ follower″ : List ℕ} → LineFollowed follower setting r follower′
@@ -23,3 +25,68 @@ pub pg-make-capture-only : {notes records out₀ : List ℕ} {size₀ r r′ : �
 pg-make-capture-only h k =
     let e = answer-only (h .refusal) (k .refusal) in
     (e, answer-only (rw e at (h .out)) (k .out), answer-only (rw e at (h .size)) (k .size))
+
+pub pg-decode-defect-only : {octets : List ℕ} {cylinder₀ head₀ offset₀ length₀ r r′ cylinder₁ head₁ offset₁ length₁ cylinder₂ head₂ offset₂ length₂ : ℕ}
+    → DefectTold octets cylinder₀ head₀ offset₀ length₀ r cylinder₁ head₁ offset₁ length₁
+    → DefectTold octets cylinder₀ head₀ offset₀ length₀ r′ cylinder₂ head₂ offset₂ length₂
+    → (r ≡ r′) × (cylinder₁ ≡ cylinder₂) × (head₁ ≡ head₂) × (offset₁ ≡ offset₂) × (length₁ ≡ length₂)
+pg-decode-defect-only h k =
+    let e = answer-only (h .refusal) (k .refusal) in (
+      e,
+      answer-only (rw e at (h .cylinder)) (k .cylinder),
+      answer-only (rw e at (h .head)) (k .head),
+      answer-only (rw e at (h .offset)) (k .offset),
+      answer-only (rw e at (h .length)) (k .length),
+    )
+
+pub pg-encode-defect-only : {cylinder head offset length : ℕ} {octets₀ : List ℕ} {r r′ : ℕ} {octets₁ octets₂ : List ℕ}
+    → DefectMade cylinder head offset length octets₀ r octets₁ → DefectMade cylinder head offset length octets₀ r′ octets₂ → (r ≡ r′) × (octets₁ ≡ octets₂)
+pg-encode-defect-only h k = let e = answer-only (h .refusal) (k .refusal) in (e, answer-only (rw e at (h .octets)) (k .octets))
+
+pub pg-map-place-only : {s : Setup} {k cylinder₀ head₀ sector₀ r r′ cylinder₁ head₁ sector₁ cylinder₂ head₂ sector₂ : ℕ}
+    → PlaceTold s k cylinder₀ head₀ sector₀ r cylinder₁ head₁ sector₁ → PlaceTold s k cylinder₀ head₀ sector₀ r′ cylinder₂ head₂ sector₂
+    → (r ≡ r′) × (cylinder₁ ≡ cylinder₂) × (head₁ ≡ head₂) × (sector₁ ≡ sector₂)
+pg-map-place-only h k =
+    let e = answer-only (h .refusal) (k .refusal) in
+    (e, answer-only (rw e at (h .cylinder)) (k .cylinder), answer-only (rw e at (h .head)) (k .head), answer-only (rw e at (h .sector)) (k .sector))
+
+pub pg-decode-map-only : {s : Setup} {octets defects₀ : List ℕ} {count₀ cylinder₀ head₀ offset₀ r r′ : ℕ} {defects₁ defects₂ : List ℕ}
+    {count₁ cylinder₁ head₁ offset₁ count₂ cylinder₂ head₂ offset₂ : ℕ}
+    → MapTold s octets defects₀ count₀ cylinder₀ head₀ offset₀ r defects₁ count₁ cylinder₁ head₁ offset₁
+    → MapTold s octets defects₀ count₀ cylinder₀ head₀ offset₀ r′ defects₂ count₂ cylinder₂ head₂ offset₂
+    → (r ≡ r′) × (defects₁ ≡ defects₂) × (count₁ ≡ count₂) × (cylinder₁ ≡ cylinder₂) × (head₁ ≡ head₂) × (offset₁ ≡ offset₂)
+pg-decode-map-only h k =
+    let e = answer-only (h .refusal) (k .refusal) in (
+      e,
+      answer-only (rw e at (h .defects)) (k .defects),
+      answer-only (rw e at (h .count)) (k .count),
+      answer-only (rw e at (h .cylinder)) (k .cylinder),
+      answer-only (rw e at (h .head)) (k .head),
+      answer-only (rw e at (h .offset)) (k .offset),
+    )
+
+pub pg-encode-map-only : {s : Setup} {cylinder head : ℕ} {defects out₀ : List ℕ} {size₀ r r′ : ℕ} {out₁ out₂ : List ℕ} {size₁ size₂ : ℕ}
+    → MapMade s cylinder head defects out₀ size₀ r out₁ size₁ → MapMade s cylinder head defects out₀ size₀ r′ out₂ size₂
+    → (r ≡ r′) × (out₁ ≡ out₂) × (size₁ ≡ size₂)
+pg-encode-map-only h k =
+    let e = answer-only (h .refusal) (k .refusal) in
+    (e, answer-only (rw e at (h .out)) (k .out), answer-only (rw e at (h .size)) (k .size))
+
+pub pg-read-map-only : {s : Setup} {sectors defects₀ : List ℕ} {count₀ cylinder₀ head₀ offset₀ r r′ : ℕ} {defects₁ defects₂ : List ℕ}
+    {count₁ cylinder₁ head₁ offset₁ count₂ cylinder₂ head₂ offset₂ : ℕ}
+    → MapReadOff s sectors defects₀ count₀ cylinder₀ head₀ offset₀ r defects₁ count₁ cylinder₁ head₁ offset₁
+    → MapReadOff s sectors defects₀ count₀ cylinder₀ head₀ offset₀ r′ defects₂ count₂ cylinder₂ head₂ offset₂
+    → (r ≡ r′) × (defects₁ ≡ defects₂) × (count₁ ≡ count₂) × (cylinder₁ ≡ cylinder₂) × (head₁ ≡ head₂) × (offset₁ ≡ offset₂)
+pg-read-map-only h k =
+    let e = answer-only (h .refusal) (k .refusal) in (
+      e,
+      answer-only (rw e at (h .defects)) (k .defects),
+      answer-only (rw e at (h .count)) (k .count),
+      answer-only (rw e at (h .cylinder)) (k .cylinder),
+      answer-only (rw e at (h .head)) (k .head),
+      answer-only (rw e at (h .offset)) (k .offset),
+    )
+
+pub pg-write-map-only : {s : Setup} {cylinder head : ℕ} {defects sectors₀ : List ℕ} {r r′ : ℕ} {sectors₁ sectors₂ : List ℕ}
+    → MapPut s cylinder head defects sectors₀ r sectors₁ → MapPut s cylinder head defects sectors₀ r′ sectors₂ → (r ≡ r′) × (sectors₁ ≡ sectors₂)
+pg-write-map-only h k = let e = answer-only (h .refusal) (k .refusal) in (e, answer-only (rw e at (h .sectors)) (k .sectors))

@@ -2,15 +2,16 @@
 -- Assumes nothing.
 use mathlib.Core.Path.{refl, ap}
 use lib.ListN.{getD}
-use Rattle.laws.proofs.Differ.{told-apart}
+use Rattle.laws.proofs.Differ.{told-apart, differ-at}
 use Rattle.lines.specs.Moves.{entryOf}
 use Rattle.lines.specs.Follower.{lacksHistory, remembers, movedBy, isReached, stepOf}
+use Rattle.defects.proofs.Computing.{computing-maps}
 use Rattle.events.proofs.Computing.{computing-words}
 use Rattle.pantoglide.specs.Line.{settingIn, followerIn, followerOctet, lineNumber}
 use Rattle.pantoglide.specs.WrongAnswers.{WrongAnswers}
 
 pub wrong-answers : WrongAnswers
-unfolding computing-words entryOf lacksHistory remembers movedBy isReached stepOf settingIn followerIn followerOctet lineNumber
+unfolding computing-words computing-maps entryOf lacksHistory remembers movedBy isReached stepOf settingIn followerIn followerOctet lineNumber
 wrong-answers =
     record {
       cylindersForHeads = λ h. told-apart 2 1 refl (ap (λ words. getD words 0 0) (h .state));
@@ -25,4 +26,21 @@ wrong-answers =
       tornRecordsTaken = λ h. told-apart 0 8 refl (h .refusal);
       trailerNotCounted = λ h. told-apart 24 32 refl (h .size);
       historyForgotten = λ h. told-apart 0x10 0x30 refl (ap (λ words. getD words 0 0) (h .follower));
+      headForgotten = λ h. told-apart 7 1 refl (h .head);
+      refusedYetWritten = λ h. told-apart 0 7 refl (h .cylinder);
+      lengthForOffset = λ h. differ-at 9 refl (h .octets);
+      twelveTooFew = λ h. told-apart 10 0 refl (h .refusal);
+      firstTrackForLast = λ h. told-apart 0 1 refl (h .head);
+      sectorsForHeads = λ h. told-apart 0 2 refl (h .sector);
+      orderBrokenTaken = λ defects h. told-apart 0 24 refl (h .refusal);
+      crcOfOneLessTaken = λ defects h. told-apart 0 26 refl (h .refusal);
+      cylinderBehindTheLastTaken = λ defects h. told-apart 0 23 refl (h .refusal);
+      offsetForgotten = λ h. told-apart 7 19 refl (h .offset);
+      offsetCleared = λ h. told-apart 0 7 refl (h .offset);
+      oneCopyCounted = λ h. told-apart 16 48 refl (h .size);
+      storageChangedOver = λ h. differ-at 11 refl (h .out);
+      firstTrackRead = λ defects h. told-apart 0 18 refl (h .refusal);
+      restOfTheCylinderJudged = λ defects h. told-apart 28 0 refl (h .refusal);
+      headerWrittenOver = λ h. differ-at 81 refl (h .sectors);
+      firstTrackWritten = λ h. differ-at 82 refl (h .sectors);
     }

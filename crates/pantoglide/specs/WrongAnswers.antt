@@ -2,7 +2,8 @@
 -- the calls of `events` do, so that the wrong answers of those are wrong here too.
 use Prim.Native.Nat.{ℕ}
 use mathlib.Core.List.{List, [], _∷_, _++_}
-use lib.ListN.{replicate}
+use lib.ListN.{replicate, set}
+use Rattle.laws.specs.Octets.{octetsOf}
 use Rattle.parts.specs.Tests.{parameters, noParameters, transferringWith}
 use Rattle.parts.specs.declared.holding.Hold.the-variants.{None}
 use Rattle.parts.specs.declared.transfer.Parameters.{Parameters}
@@ -20,7 +21,10 @@ use Rattle.events.specs.Power.{PoweredUpOnWords}
 use Rattle.events.specs.Event.{eventOfOctets, EventOnWords}
 use Rattle.events.specs.Run.{RunOnWords}
 use Rattle.events.specs.WrongAnswers.{sector, zeros, disk, selection}
+use Rattle.defects.specs.Cases.{narrow, small, noDefects, copyThree, behindTheLastCylinder, orderBroken}
+use Rattle.defects.specs.WrongAnswers.{lent, itsOctets, crcOfOneLess, blank, onTheLastTrack, onTheFirstTrack}
 use Rattle.pantoglide.specs.Capture.{CaptureFound, CaptureMade}
+use Rattle.pantoglide.specs.Defects.{DefectTold, DefectMade, PlaceTold, MapTold, MapMade, MapReadOff, MapPut}
 use Rattle.pantoglide.specs.Line.{LineFollowed}
 
 -- The words of the bench drive at rest.
@@ -72,3 +76,44 @@ pub record WrongAnswers : Type 0 where
   pub tornRecordsTaken : CaptureMade [] (replicate 7 0) (replicate 15 0) 0 0 (captureOctets [] (replicate 7 0)) 15 → ⊥
   -- The size leaves the trailer out.
   pub trailerNotCounted : CaptureMade [] threeEvents (replicate 32 0) 0 0 (threeEvents ++ itsTrailer) 24 → ⊥
+  -- ---- `pg_decode_defect`
+  -- The head stays as it was.
+  pub headForgotten : DefectTold itsOctets 7 7 7 7 0 1 7 300 5 → ⊥
+  -- A refused call puts the cylinder to 0.
+  pub refusedYetWritten : DefectTold [] 7 7 7 7 10 0 7 7 7 → ⊥
+  -- ---- `pg_encode_defect`
+  -- Offset and length changed over.
+  pub lengthForOffset : DefectMade 1 1 300 5 (lent 12) 0 (octetsOf 12 0x00000001000100000005012c) → ⊥
+  -- Twelve octets are said to be too few.
+  pub twelveTooFew : DefectMade 1 1 300 5 (lent 12) 10 (lent 12) → ⊥
+  -- ---- `pg_map_place`
+  -- The first track for the last.
+  pub firstTrackForLast : PlaceTold narrow 0 7 7 7 0 1 0 0 → ⊥
+  -- Heads and sectors changed over: data field 2 is the last sector of its track, and not the first of the next.
+  pub sectorsForHeads : PlaceTold narrow 2 7 7 7 0 1 1 0 → ⊥
+  -- ---- `pg_decode_map`
+  -- The second set lies below the first with bit 3 clear, and is taken.
+  pub orderBrokenTaken : (defects : List ℕ) → MapTold small orderBroken (lent 56) 7 7 7 7 0 defects 2 1 0 7 → ⊥
+  -- A CRC of one octet less is taken.
+  pub crcOfOneLessTaken : (defects : List ℕ) → MapTold narrow crcOfOneLess (lent 16) 7 7 7 7 0 defects 0 1 0 7 → ⊥
+  -- A defect on cylinder 2 of 2 is taken.
+  pub cylinderBehindTheLastTaken : (defects : List ℕ) → MapTold small behindTheLastCylinder (lent 28) 7 7 7 7 0 defects 1 1 0 7 → ⊥
+  -- Where the offence lies is not told.
+  pub offsetForgotten : MapTold narrow copyThree (lent 16) 7 7 7 7 20 (lent 16) 7 7 7 7 → ⊥
+  -- A map that is taken puts the offset to 0.
+  pub offsetCleared : MapTold narrow noDefects (lent 16) 7 7 7 7 0 (lent 16) 0 1 0 0 → ⊥
+  -- ---- `pg_encode_map`
+  -- The size is that of one data field.
+  pub oneCopyCounted : MapMade narrow 1 0 [] (lent 48) 7 0 noDefects 16 → ⊥
+  -- Cylinder and head of the storage track changed over.
+  pub storageChangedOver : MapMade narrow 0 1 [] (lent 48) 7 0 noDefects 48 → ⊥
+  -- ---- `pg_read_map`
+  -- The first track for the last: the map there is taken, though the last track is blank.
+  pub firstTrackRead : (defects : List ℕ) → MapReadOff narrow onTheFirstTrack (lent 32) 7 7 7 7 0 defects 0 1 0 7 → ⊥
+  -- What stands behind the map is an offence.
+  pub restOfTheCylinderJudged : (defects : List ℕ) → MapReadOff narrow onTheLastTrack (lent 32) 7 7 7 7 28 defects 7 7 7 48 → ⊥
+  -- ---- `pg_write_map`
+  -- The header word of the last track's first sector is written over.
+  pub headerWrittenOver : MapPut narrow 1 0 [] blank 0 (set onTheLastTrack 81 0x000E) → ⊥
+  -- The map is put on the first track.
+  pub firstTrackWritten : MapPut narrow 1 0 [] blank 0 onTheFirstTrack → ⊥

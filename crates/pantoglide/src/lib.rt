@@ -1,13 +1,22 @@
-// The drive and the line follower for C and Rust: numbers and lent slices alone. `include/pantoglide.h` is the header.
+// The drive, the line follower, captures and the defect map for C and Rust: numbers and lent slices alone. `include/pantoglide.h` is the header.
 mod capture_calls;
+mod defect_calls;
 mod event;
 mod line;
+mod map_calls;
 mod power;
 mod run;
 
 pub use capture_calls::pg_capture;
 pub use capture_calls::pg_make_capture;
+pub use defect_calls::pg_decode_defect;
+pub use defect_calls::pg_encode_defect;
+pub use defect_calls::pg_map_place;
 pub use event::pg_event;
 pub use line::pg_line;
+pub use map_calls::pg_decode_map;
+pub use map_calls::pg_encode_map;
+pub use map_calls::pg_read_map;
+pub use map_calls::pg_write_map;
 pub use power::pg_power_up;
 pub use run::pg_run;

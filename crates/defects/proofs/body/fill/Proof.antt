@@ -1,9 +1,9 @@
 -- `defects::body::fill` meets its contract: its callees make the parts of the data field.
 -- Assumes nothing.
-use Prim.Native.Nat.{ℕ, _+_, _-_, _*_}
+use Prim.Native.Nat.{_+_, _-_, _*_}
 use mathlib.Core.Path.{_≡_, _∙_}
 use native.Mathlib.Omega.{arith}
-use lib.ListN.{length, drop, length-take, length-replicate}
+use lib.ListN.{length, drop, length-take}
 use Rattle.defects.specs.Place.{fieldOctets}
 use Rattle.defects.proofs.Plans.{plan, RunKnown, run-known}
 use Rattle.defects.proofs.Fills.{filled}
@@ -57,26 +57,26 @@ write-front-requires : tie.Need-write-front-requires
 write-front-requires c κs =
     let start : tie.Start = search in
     let p = plan (start .pre .0 .planned) in
-    rw (start .pre .1, length-replicate {A = ℕ}) (omega arith)
+    omega (arith, start .pre .1)
 
-sub-put : tie.Need-sub-put
-sub-put c = search needs
+sub-put-padded : tie.Need-sub-put-padded
+sub-put-padded c = search needs
 
-part-put-start : tie.Need-part-put-start
-part-put-start c = search needs
+part-put-padded-start : tie.Need-part-put-padded-start
+part-put-padded-start c = search needs
 
-part-put-end : tie.Need-part-put-end
-part-put-end c =
+part-put-padded-end : tie.Need-part-put-padded-end
+part-put-padded-end c =
     let run : tie.After-run-of = search in
     known run .within
 
-put-requires : tie.Need-put-requires
-put-requires c κs =
+put-padded-requires : tie.Need-put-padded-requires
+put-padded-requires c κs =
     let run : tie.After-run-of = search in
     let start : tie.Start = search in
     let front : tie.After-write-front = search in
     let r = run .run-of .result in
-    let same : length (front .write-front .last .1 .0) ≡ fieldOctets (start .args .setup) = front .write-front .kept .1 .0 ∙ rw (start .pre .1) (length-replicate (fieldOctets (start .args .setup)) 0) in
+    let same : length (front .write-front .last .1 .0) ≡ fieldOctets (start .args .setup) = front .write-front .kept .1 .0 ∙ start .pre .1 in
     omega (arith, known run .few, length-take (r .at + 12 * r .count - r .at) (drop (r .at) (start .args .defects .now)))
 
 same-length : tie.Need-same-length
@@ -92,8 +92,8 @@ returns c =
     let start = octets .before in
     let r = run .run-of .result in
     let count : r .at + 12 * r .count - r .at ≡ 12 * r .count = omega arith in
-    filled (start .pre .0) r _ _ _ (known run) (λ i. octets .shared-slice-known .given i .fits) (ordered .order-of .ensures) (flags .flags-for .ensures)
-    (rw (← count, ← (start .pre .1), ← (front .write-front .ensures)) (c .before .before .put .ensures))
+    filled (start .pre .0) r _ _ (start .args .field .now) _ (start .pre .1) (known run) (λ i. octets .shared-slice-known .given i .fits) (ordered .order-of .ensures) (flags .flags-for .ensures)
+    (rw (← count, ← (front .write-front .ensures)) (c .before .before .put-padded .ensures))
 
 pub fill-spec : {M : Type 1} → statement M
 fill-spec =
@@ -109,9 +109,9 @@ fill-spec =
     flags-for-requires
     cast-t18
     write-front-requires
-    sub-put
-    part-put-start
-    part-put-end
-    put-requires
+    sub-put-padded
+    part-put-padded-start
+    part-put-padded-end
+    put-padded-requires
     same-length
     returns)

@@ -14,6 +14,12 @@ use borrow.Author.Needs.{needs}
 use Rattle.defects.proofs.decoding.decode.Statement.{statement}
 use Rattle.defects.proofs.decoding.decode.Tie as tie
 
+room-requires : tie.Need-room-requires
+room-requires c κs = search needs
+
+room-requires-2 : tie.Need-room-requires-2
+room-requires-2 c κs = search needs
+
 slice-aggregate-judge : tie.Need-slice-aggregate-judge
 slice-aggregate-judge c = search needs
 
@@ -33,7 +39,7 @@ gather-requires : tie.Need-gather-requires
 gather-requires c κs =
     let passed = c .before .before .before in
     let judged = passed .before .before .before .before in
-    let start = judged .before .before .before .before .before .before in
+    let start = judged .before .before .before .before .before .before .before .before in
     let pre = start .pre .0 in
     let ends = judged .judge .ensures .ends (passed .if1 .left) in
     let third = third-enough _ _ _ _ ends in
@@ -43,15 +49,15 @@ gather-requires c κs =
 small-cylinder : (c : tie.Else1) → c .before .before .before .before .judge .result .walk .cylinder < 2 ^ 16
 small-cylinder c =
     let judged = c .before .before .before .before in
-    let start = judged .before .before .before .before .before .before in
+    let start = judged .before .before .before .before .before .before .before .before in
     let a = start .args in
     let none = ap (λ (o : Offence). o .found) (sym (judged .judge .ensures .offence)) ∙ c .if1 .left in
     let inside = storage-inside (not (a .in-sectors)) (a .setup) (stringIn (a .setup) (a .in-sectors) (a .octets .now) (a .sectors .now)) none in
     let few = limits (a .setup) (start .pre .0 .limits) in
     rw (judged .judge .ensures .ends (c .if1 .left) .walk) (omega (arith, inside .0))
 
-cast-t22 : tie.Need-cast-t22
-cast-t22 c = record { fits = small-cylinder (c .before .before .before .before .before .before .before .before) }
+cast-t23 : tie.Need-cast-t23
+cast-t23 c = record { fits = small-cylinder (c .before .before .before .before .before .before .before .before) }
 
 same-length : tie.Need-same-length
 same-length c = search needs
@@ -67,12 +73,14 @@ pub decode-spec : {M : Type 1} → statement M
 decode-spec =
     tie.close
     (tie.spec
+    room-requires
+    room-requires-2
     slice-aggregate-judge
     slice-aggregate-judge-2
     judge-requires
     returns
     slice-aggregate-gather
     gather-requires
-    cast-t22
+    cast-t23
     same-length
     returns-2)

@@ -12,7 +12,7 @@ use Rattle.defects.specs.Encoding.{dataField, mapOctets}
 use Rattle.defects.specs.EncodeSteps.{valueIn, FieldsPut}
 use Rattle.defects.specs.declared.body.Job.{Job}
 use Rattle.defects.proofs.Plans.{plan, before-field, copy-there, has-place}
-use Rattle.defects.proofs.Bodies.{IsOf, blank-part, length-blank, body-of, finished-as, field-of}
+use Rattle.defects.proofs.Bodies.{IsOf, body-of, finished-as, field-of}
 use Rattle.defects.proofs.Stored.{one-more-put}
 use borrow.Author.Needs.{needs}
 use Rattle.defects.proofs.sets.put_set.Statement.{statement}
@@ -37,8 +37,8 @@ abbrev μ-loop : tie.MeasureT-loop
 field-octets-requires : tie.Need-field-octets-requires Inv-loop μ-loop
 field-octets-requires c κs = search needs
 
-blank-field-requires : tie.Need-blank-field-requires Inv-loop μ-loop
-blank-field-requires c κs = search needs
+room-requires : tie.Need-room-requires Inv-loop μ-loop
+room-requires c κs = search needs
 
 -- the size of a data field
 record Size (size : ℕ) (s : Setup) : Type 0 where
@@ -56,20 +56,23 @@ sized c =
     let l = p .limits in
     record { is = is; least = omega (arith, is, p .field1); most = omega (arith, is, l .field1) }
 
-within-blank : (c : tie.After-blank-field Inv-loop μ-loop) → c .before .field-octets .result ≤ length (c .blank-field .result)
-within-blank c = rw (c .blank-field .ensures, length-blank) (sized (c .before) .most)
+room-octets : (c : tie.After-room Inv-loop μ-loop) → length (c .room .result) ≡ 2048
+room-octets c = search needs
+
+within-room : (c : tie.After-room Inv-loop μ-loop) → c .before .field-octets .result ≤ length (c .room .result)
+within-room c = rw (room-octets c) (sized (c .before) .most)
 
 array-borrow-prefix-field : tie.Need-array-borrow-prefix-field Inv-loop μ-loop
-array-borrow-prefix-field c = within-blank c
+array-borrow-prefix-field c = within-room c
 
 slice-aggregate-fill : tie.Need-slice-aggregate-fill Inv-loop μ-loop
-slice-aggregate-fill c = sym (length-take-le _ _ (within-blank (c .before)))
+slice-aggregate-fill c = sym (length-take-le _ _ (within-room (c .before)))
 
 fill-requires : tie.Need-fill-requires Inv-loop μ-loop
 fill-requires c κs =
     let octets : tie.After-field-octets Inv-loop μ-loop = search in
     let size = sized octets in
-    (start octets .pre .0, rw (c .before .blank-field .ensures, ← (size .is)) (blank-part _ (size .most)))
+    (start octets .pre .0, length-take-le _ _ (within-room (c .before)) ∙ size .is)
 
 mul-k : tie.Need-mul-k Inv-loop μ-loop
 mul-k c = search needs
@@ -78,14 +81,14 @@ loop-holds : tie.Need-loop-holds Inv-loop μ-loop
 loop-holds c =
     let octets : tie.After-field-octets Inv-loop μ-loop = search in
     let filled = c .before in
-    let blank = filled .before .before in
+    let made = filled .before .before in
     let size = octets .field-octets .result in
     let kept = filled .fill .kept .1 .1 .1 .1 .1 .0 in
-    let part = take-at (filled .fill .last .1 .1 .1 .1 .1 .0) (drop size (blank .blank-field .result)) size (kept ∙ length-take-le _ _ (within-blank blank)) in
+    let part = take-at (filled .fill .last .1 .1 .1 .1 .1 .0) (drop size (made .room .result)) size (kept ∙ length-take-le _ _ (within-room made)) in
     record {
       copies = search needs;
       here = omega arith;
-      array = length-front (blank .blank-field .result) (filled .fill .last .1 .1 .1 .1 .1 .0) size kept ∙ rw (blank .blank-field .ensures) length-blank;
+      array = length-front (made .room .result) (filled .fill .last .1 .1 .1 .1 .1 .0) size kept ∙ room-octets made;
       body = rw part (body-of _ _ _ 0 (0 ∷ 0 ∷ []) _ refl (filled .fill .ensures .body));
       same-out = refl;
       same-sectors = refl;
@@ -197,7 +200,7 @@ put-set-spec =
     Inv-loop
     μ-loop
     field-octets-requires
-    blank-field-requires
+    room-requires
     array-borrow-prefix-field
     slice-aggregate-fill
     fill-requires

@@ -40,7 +40,8 @@ mul-put c =
 put-requires : tie.Need-put-requires
 put-requires c κs =
     let octets : tie.Else1 = search in
-    room octets
+    let start : tie.Start = search in
+    (room octets, omega (arith, start .pre .size))
 
 same-length : tie.Need-same-length
 same-length c = search needs
