@@ -42,18 +42,7 @@ fn main() -> ExitCode {
 fn setup_from_arguments() -> Option<Setup> {
     let numbers = std::env::args().skip(1).map(|number| number.parse().ok());
     let numbers = numbers.collect::<Option<Vec<u16>>>()?;
-    let [cylinders, heads, sectors, header, field1, field2, address] = numbers[..] else {
-        return None;
-    };
-    Some(Setup {
-        cylinders,
-        heads,
-        sectors,
-        header,
-        field1,
-        field2,
-        address,
-    })
+    numbers.try_into().ok().map(Setup::from_numbers)
 }
 
 fn report(setup: Setup, octets: &[u8]) -> Result<String, Refusal> {

@@ -3,8 +3,8 @@
 //! [`Board`] is a drive over sector and staging words that the caller lends, [`Capture`] a file of
 //! events, and [`Follower`] watches the control lines of one port. [`Board::event`] takes what hosts
 //! do one by one; calls such as [`Board::reserve`] stand for a whole command. [`Setup::decode_map`]
-//! reads the maker's defect map, and [`Setup::encode_map`] makes one. All hand every request
-//! to the archive of proved code that the project's `rt staticlib pantoglide` makes; [`raw`] has its calls
+//! and the calls beside it read and make the maker's defect map. All hand every request to the
+//! archive of proved code that the project's `rt staticlib pantoglide` makes; [`raw`] has its calls
 //! as they are, on slices. Nothing in this interface is unsafe, and no input makes a call panic.
 //!
 //! ```

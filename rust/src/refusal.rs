@@ -36,7 +36,8 @@ pub enum Refusal {
     TrailerMark = 13,
     /// A trailer's distance is no multiple of 8, or leads back before the capture's front.
     TrailerDistance = 14,
-    /// A map is not at its end, and the last cylinder has no further data field for it.
+    /// A map is not at its end, and the last cylinder has no further data field for it; or it has
+    /// none with the number that was asked for.
     MapNoDataField = 16,
     /// A map is not at its end, and the octets end before its next data field is whole.
     MapCutShort = 17,
@@ -118,7 +119,9 @@ impl Refusal {
             Refusal::ModeChange => "the selection asks for a mode that cannot change",
             Refusal::Busy => "the other port has the drive and keeps it",
             Refusal::WrongMoment => "a transfer is open, or none is, at the wrong moment",
-            Refusal::Malformed => "malformed: a kind, argument, record, setting or map that is none",
+            Refusal::Malformed => {
+                "malformed: a kind, argument, record, setting or map that is none"
+            }
             Refusal::OutsideLimits => "a number of the set-up is outside its limits",
             Refusal::TooShort => "a lent slice is too short",
             Refusal::Unsound => "the state handed in is not sound",
@@ -128,11 +131,13 @@ impl Refusal {
             Refusal::MapNoDataField => "the last cylinder has no further data field for the map",
             Refusal::MapCutShort => "the octets end before the map's next data field is whole",
             Refusal::MapCount => "a data field's count is not that of the octets behind it",
-            Refusal::MapFlags => "a flag that no map has, or bit 7 in a set that is not the last",
+            Refusal::MapFlags => "a flag that no map has, or flag bit 7 does not tell the last set",
             Refusal::MapCopyNumber => "octet 3 is not the number of the copy that is due",
-            Refusal::MapUnlikeSet0 => "no sets, or their number or the storage track not as in set 0",
+            Refusal::MapUnlikeSet0 => {
+                "no sets, or their number or the storage track not as in set 0"
+            }
             Refusal::MapSetNumber => "the set's number is not that of the sets before it",
-            Refusal::MapOutsideDrive => "a cylinder or a head that is not in the drive",
+            Refusal::MapOutsideDrive => "the storage track or a defect is not in the drive",
             Refusal::MapOutOfSequence => "a defect out of sequence where flag bit 3 is clear",
             Refusal::MapPadding => "an octet behind the defects is not zero",
             Refusal::MapCrc => "the CRC is not that of the octets before it",

@@ -26,7 +26,7 @@ pub struct Setup {
 
 impl Setup {
     /// The measures from their numbers, in the order of the fields.
-    pub fn from_numbers(numbers: Numbers) -> Setup {
+    pub const fn from_numbers(numbers: Numbers) -> Setup {
         let [cylinders, heads, sectors, header, field1, field2, address] = numbers;
         Setup {
             cylinders,
@@ -40,7 +40,7 @@ impl Setup {
     }
 
     /// The numbers of the measures, in the order of the fields.
-    pub fn numbers(&self) -> Numbers {
+    pub const fn numbers(&self) -> Numbers {
         [
             self.cylinders,
             self.heads,

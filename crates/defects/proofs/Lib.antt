@@ -62,4 +62,3 @@ pub mod Copies
 pub mod Computing
 pub mod WrongAnswers
 pub mod Cases
-pub mod MapOnly

@@ -1,6 +1,6 @@
 // Room for the longest data field. Octets that are all alike would be filled in by a call of `memset`, and the archive
 // calls nothing.
-pub(crate) const MOST_OCTETS: usize = 2048;
+const MOST_OCTETS: usize = 2048;
 
 const ROOM: [u8; MOST_OCTETS] =
     *b"0101010101010101010101010101010101010101010101010101010101010101010101010101010101010101010101010101\

@@ -18,7 +18,21 @@ pub struct Place {
     pub sector: u16,
 }
 
-impl Setup<'_> {
+impl<'a> Setup<'a> {
+    /// In the order of the fields.
+    pub fn from_numbers(numbers: &'a [u16; 7]) -> Setup<'a> {
+        let [cylinders, heads, sectors, header, field1, field2, address] = numbers;
+        Setup {
+            cylinders,
+            heads,
+            sectors,
+            header,
+            field1,
+            field2,
+            address,
+        }
+    }
+
     #[inline(always)]
     pub fn is_within_limits(&self) -> bool {
         (1..=4096).contains(self.cylinders)

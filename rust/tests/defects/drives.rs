@@ -1,64 +1,17 @@
 //! Maps on drives: read and written where the places say, and nowhere else.
 
 use crate::maps::{likely_decoding, likely_encoding, plain_fields, Decoding, Encoding};
-use crate::setups::{measures, setup, Numbers};
-use crate::shared::plain::{self, Map};
+use crate::sectors::{drive_words, length_near, map_words, random_words, write_over, MOST_WORDS};
+use crate::setups::measures;
+use crate::shared::plain::{self, Map, Setup};
 use crate::shared::random::Random;
 use crate::BEFORE;
 
 const DRIVES: usize = 20_000;
-/// Larger drives are left to the places.
-const MOST_WORDS: usize = 1 << 14;
 
 const OUTSIDE_LIMITS: u8 = 9;
 const TOO_SHORT: u8 = 10;
 const BEHIND_THE_END: u8 = 28;
-
-/// How many words all sectors have.
-fn drive_words(numbers: &Numbers) -> usize {
-    let [cylinders, heads, sectors, header, field1, field2, _] = numbers.map(usize::from);
-    cylinders * heads * sectors * (header + field1 + field2)
-}
-
-/// The indices of the words of all data fields, in the map's order.
-fn map_words(numbers: &Numbers) -> Vec<usize> {
-    let [cylinders, heads, sectors, header, field1, field2, _] = numbers.map(usize::from);
-    let (data_fields, _) = measures(numbers);
-    let mut words = Vec::new();
-    let Some(last_cylinder) = cylinders.checked_sub(1) else {
-        return words;
-    };
-    for head in (0..heads).rev() {
-        for sector in 0..sectors {
-            let sector = (last_cylinder * heads + head) * sectors + sector;
-            let start = sector * (header + field1 + field2) + header;
-            words.extend(start..start + field1);
-        }
-    }
-    words.truncate(data_fields * field1);
-    words
-}
-
-/// Writes octets over the data fields, as far as both go.
-fn write_over(numbers: &Numbers, octets: &[u8], sectors: &mut [u16]) {
-    let (pairs, _) = octets.as_chunks();
-    for (at, pair) in map_words(numbers).into_iter().zip(pairs) {
-        sectors[at] = u16::from_be_bytes(*pair);
-    }
-}
-
-fn random_words(random: &mut Random, count: usize) -> Vec<u16> {
-    (0..count).map(|_| random.word()).collect()
-}
-
-/// A length about as long as is needed.
-fn length_near(random: &mut Random, needed: usize) -> usize {
-    match random.below(24) {
-        0 => random.below(needed + 1),
-        1 => needed.saturating_sub(1),
-        _ => needed + random.below(4),
-    }
-}
 
 #[test]
 fn a_map_is_read_as_its_string_is_decoded() {
@@ -79,7 +32,10 @@ fn a_map_is_read_as_its_string_is_decoded() {
 
 /// The string on a drive, read and compared with what decoding all data fields gives.
 fn read_alike(random: &mut Random, case: &Decoding) -> Result<Map, (u8, usize)> {
-    let (drive, needed) = (setup(&case.numbers), drive_words(&case.numbers));
+    let (drive, needed) = (
+        Setup::from_numbers(&case.numbers),
+        drive_words(&case.numbers),
+    );
     let mut sectors = random_words(random, needed + 4);
     write_over(&case.numbers, &case.octets, &mut sectors);
     let words = map_words(&case.numbers).into_iter().map(|at| sectors[at]);
@@ -122,7 +78,10 @@ fn a_map_is_written_as_it_is_encoded() {
 
 /// The value written on a drive, and all its words compared with what encoding gives.
 fn written_alike(random: &mut Random, case: &Encoding) -> Result<(), u8> {
-    let (drive, needed) = (setup(&case.numbers), drive_words(&case.numbers));
+    let (drive, needed) = (
+        Setup::from_numbers(&case.numbers),
+        drive_words(&case.numbers),
+    );
     let length = length_near(random, needed);
     let mut expected = random_words(random, length);
     let mut sectors = expected.clone();
@@ -150,7 +109,7 @@ fn places_go_down_the_heads_and_up_the_sectors() {
     let mut random = Random::new(0x5108);
     for _ in 0..2_000 {
         let numbers = likely_decoding(&mut random).numbers;
-        let drive = setup(&numbers);
+        let drive = Setup::from_numbers(&numbers);
         if plain::map_place(drive, 0) == Err(OUTSIDE_LIMITS) {
             continue;
         }

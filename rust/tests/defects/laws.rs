@@ -1,27 +1,18 @@
 //! The laws of strings and values, on random ones.
-//!
-//! `PANTOGLIDE_MAPS` sets the number of each, 100,000 where it is not set.
 
 use crate::maps::{likely_decoding, likely_encoding, plain_fields, Decoding, Encoding};
-use crate::setups::{setup, Numbers};
-use crate::shared::plain;
+use crate::setups::Numbers;
+use crate::shared::plain::{self, Setup};
 use crate::shared::random::Random;
 use crate::spelling::{is_plain, Value};
-use crate::BEFORE;
+use crate::{maps_to_try, BEFORE};
 
 const NOT_ENCODABLE: u8 = 8;
-
-fn maps_to_try() -> usize {
-    match std::env::var("PANTOGLIDE_MAPS") {
-        Ok(number) => number.parse().expect("PANTOGLIDE_MAPS is a number"),
-        Err(_) => 100_000,
-    }
-}
 
 /// The value of a map. Every octet that is no part of it is checked to be as it was.
 fn decoded(numbers: &Numbers, octets: &[u8], room: usize) -> Result<Value, (u8, usize)> {
     let mut defects = vec![BEFORE; room];
-    let map = plain::decode_map(setup(numbers), octets, &mut defects);
+    let map = plain::decode_map(Setup::from_numbers(numbers), octets, &mut defects);
     let written = map.map_or(0, |map| 12 * map.count);
     assert!(defects[written..].iter().all(|octet| *octet == BEFORE));
     let map = map?;
@@ -36,7 +27,7 @@ fn decoded(numbers: &Numbers, octets: &[u8], room: usize) -> Result<Value, (u8, 
 fn encoded(case: &Encoding) -> Result<Vec<u8>, u8> {
     let mut out = vec![BEFORE; case.room];
     let (cylinder, head) = case.storage;
-    let drive = setup(&case.numbers);
+    let drive = Setup::from_numbers(&case.numbers);
     let size = plain::encode_map(drive, cylinder, head, &case.defects, &mut out);
     let written = size.unwrap_or(0);
     assert!(out[written..].iter().all(|octet| *octet == BEFORE));

@@ -1,6 +1,5 @@
 //! Set-ups for maps.
 
-use crate::shared::plain::Setup;
 use crate::shared::random::Random;
 
 /// Cylinders, heads, sectors; words of header, field 1 and field 2; address.
@@ -8,19 +7,6 @@ pub type Numbers = [u16; 7];
 
 const LEAST: Numbers = [1, 1, 1, 0, 1, 0, 0];
 const MOST: Numbers = [4096, 32, 256, 8, 1024, 1024, 7];
-
-pub fn setup(numbers: &Numbers) -> Setup<'_> {
-    let [cylinders, heads, sectors, header, field1, field2, address] = numbers;
-    Setup {
-        cylinders,
-        heads,
-        sectors,
-        header,
-        field1,
-        field2,
-        address,
-    }
-}
 
 /// Octets of a data field.
 pub fn field_octets(numbers: &Numbers) -> usize {

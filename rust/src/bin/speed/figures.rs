@@ -1,4 +1,4 @@
-//! Instructions and time per event or setting.
+//! Instructions and time per event, setting, or octet of a map.
 
 use crate::sides::{Bench, Call, Side};
 use crate::workloads::Workload;

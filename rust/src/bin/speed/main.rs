@@ -4,6 +4,7 @@
 //! With four numbers (workload, side, call, cycles) it only does that work, for callgrind to count.
 
 mod figures;
+mod maps;
 mod sides;
 mod traces;
 mod workloads;
@@ -17,7 +18,7 @@ use workloads::Workload;
 mod shared;
 
 const SIDES: [Side; 3] = [Side::Rattle, Side::Plain, Side::Nothing];
-const CALLS: [Call; 3] = [Call::Single, Call::Run, Call::Line];
+const CALLS: [Call; 4] = [Call::Single, Call::Run, Call::Line, Call::Map];
 
 fn main() {
     let numbers: Vec<usize> = std::env::args()
@@ -38,10 +39,7 @@ fn main() {
 fn print_tables() {
     for call in CALLS {
         println!("{}", title(call));
-        println!(
-            "{:40} {:^27}   {:^27}",
-            "", "instructions per call", "ns per call, median"
-        );
+        println!("{:40} {:^27}   {:^27}", "", "instructions", "ns, median");
         println!("{:40} {}   {}", "workload", column_names(), column_names());
         for (number, workload) in workloads::of(call).iter().enumerate() {
             print_row(workload, number, call);
@@ -59,6 +57,15 @@ fn title(call: Call) -> &'static str {
         Call::Single => "pg_event; both sides test rows 11 and 10 at every event",
         Call::Run => "pg_run, per record; the plain side tests rows 11 and 10 once in a run",
         Call::Line => "pg_line; both sides judge the follower's octet at every setting",
+        Call::Map => "pg_decode_map and the like, per octet of the map",
+    }
+}
+
+/// Decimal places of instructions and of nanoseconds.
+fn places(call: Call) -> [usize; 2] {
+    match call {
+        Call::Single | Call::Run | Call::Line => [1, 2],
+        Call::Map => [2, 3],
     }
 }
 
@@ -69,11 +76,13 @@ fn column_names() -> String {
 fn print_row(workload: &Workload, number: usize, call: Call) {
     let counted = instructions(workload, number, call);
     let timed = nanoseconds(workload, call);
+    let [of_instructions, of_nanoseconds] = places(call);
     let counted = match counted {
-        Some(sides) => columns(&sides, 1),
+        Some(sides) => columns(&sides, of_instructions),
         None => format!("{:>27}", "no callgrind"),
     };
-    println!("{:40} {}   {}", workload.name, counted, columns(&timed, 2));
+    let timed = columns(&timed, of_nanoseconds);
+    println!("{:40} {counted}   {timed}", workload.name);
 }
 
 fn columns(sides: &Sides, places: usize) -> String {

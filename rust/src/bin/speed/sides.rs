@@ -1,5 +1,6 @@
 //! The two implementations behind one loop, and a third that does nothing.
 
+use crate::maps::{FullMap, MapCall};
 use crate::shared::plain::{self, ANSWER_WORDS};
 use crate::workloads::{Words, Workload};
 use pantoglide::raw;
@@ -21,6 +22,7 @@ pub enum Call {
     Single,
     Run,
     Line,
+    Map,
 }
 
 /// One side's own words and its answers.
@@ -29,6 +31,9 @@ pub struct Bench<'a> {
     words: Words,
     follower: [u8; 1],
     answers: Vec<u16>,
+    /// What calls for maps write octets to, and what the last one told.
+    room: Vec<u8>,
+    told: Result<usize, u8>,
 }
 
 type EventCall = fn(&mut [u16], u8, u8, u8, u8, u8, u8, &mut [u16], &mut [u16], &mut [u16]) -> u8;
@@ -62,6 +67,11 @@ fn no_line(_: &mut [u8], _: u8) -> u8 {
     0
 }
 
+#[inline(never)]
+fn no_map(_: &FullMap, _: &mut [u16], _: &mut [u8]) -> Result<usize, u8> {
+    Ok(0)
+}
+
 impl<'a> Bench<'a> {
     pub fn new(workload: &'a Workload) -> Bench<'a> {
         Bench {
@@ -69,10 +79,12 @@ impl<'a> Bench<'a> {
             words: workload.words.clone(),
             follower: [0],
             answers: vec![0; ANSWER_WORDS * RUN_RECORDS],
+            room: vec![0; workload.requests(Call::Map)],
+            told: Ok(0),
         }
     }
 
-    /// Sends the workload's records, or its settings, so many times.
+    /// Sends the workload's records, its settings, or its request about a map, so many times.
     pub fn cycles(&mut self, side: Side, call: Call, cycles: usize) {
         // Hidden from the optimiser, so that the arguments of a call that ignores them are passed.
         let (no_event, no_run, no_line): (EventCall, RunCall, LineCall) =
@@ -88,6 +100,9 @@ impl<'a> Bench<'a> {
                 (Call::Line, Side::Rattle) => self.lines(raw::line),
                 (Call::Line, Side::Plain) => self.lines(plain::line),
                 (Call::Line, Side::Nothing) => self.lines(no_line),
+                (Call::Map, Side::Rattle) => self.map(|map| map.rattle),
+                (Call::Map, Side::Plain) => self.map(|map| map.plain),
+                (Call::Map, Side::Nothing) => self.map(|_| no_map),
             }
         }
     }
@@ -143,6 +158,14 @@ impl<'a> Bench<'a> {
         }
     }
 
+    #[inline(never)]
+    fn map(&mut self, call: impl Fn(&FullMap) -> MapCall) {
+        let map = self.workload.map.as_ref().expect("a workload for maps");
+        let call = black_box(call(map));
+        self.told = call(map, &mut self.words.sectors, &mut self.room);
+        assert!(self.told.is_ok(), "{}: {:?}", self.workload.name, self.told);
+    }
+
     /// Whether two sides that did the same work came to the same words.
     pub fn agrees_with(&self, other: &Bench) -> bool {
         self.words.state == other.words.state
@@ -150,5 +173,7 @@ impl<'a> Bench<'a> {
             && self.words.staging == other.words.staging
             && self.follower == other.follower
             && self.answers == other.answers
+            && self.room == other.room
+            && self.told == other.told
     }
 }

@@ -1,5 +1,6 @@
-//! The streams of events, and of settings of the lines, that are measured.
+//! The streams of events, and of settings of the lines, and the map that are measured.
 
+use crate::maps::{self, FullMap, MapCall};
 use crate::shared::plain::{self, ANSWER_WORDS, RECORD_OCTETS, STATE_WORDS};
 use crate::shared::random::Random;
 use crate::shared::streams::{likely_event, record, EventOctets};
@@ -20,6 +21,8 @@ pub struct Workload {
     pub records: Vec<[u8; RECORD_OCTETS]>,
     /// The settings of one cycle, for the calls of the lines.
     pub settings: Vec<u8>,
+    /// The map that one cycle is about, for the calls of maps.
+    pub map: Option<FullMap>,
 }
 
 /// What is lent to a drive.
@@ -44,6 +47,7 @@ pub fn of(call: Call) -> Vec<Workload> {
             settings("f  words handed over", traces::words_handed_over()),
             settings("g  mixed settings", traces::mixed()),
         ],
+        Call::Map => maps::REQUESTS.map(map_request).into(),
     }
 }
 
@@ -142,12 +146,24 @@ fn settings(name: &'static str, settings: Vec<u8>) -> Workload {
     }
 }
 
+/// A request about a map, with a drive that has it on its last cylinder.
+fn map_request((name, rattle, plain): (&'static str, MapCall, MapCall)) -> Workload {
+    let map = FullMap::new(rattle, plain);
+    let mut words = Words::powered_up(maps::NUMBERS);
+    map.write(&mut words.sectors);
+    Workload {
+        map: Some(map),
+        ..Stream::new(words).named(name)
+    }
+}
+
 impl Workload {
-    /// How many calls, or records of calls, one cycle has.
+    /// How many calls, records of calls, or octets of a map one cycle has.
     pub fn requests(&self, call: Call) -> usize {
         match call {
             Call::Single | Call::Run => self.records.len(),
             Call::Line => self.settings.len(),
+            Call::Map => self.map.as_ref().map_or(0, |map| map.octets.len()),
         }
     }
 }
@@ -226,6 +242,7 @@ impl Stream {
             words,
             records,
             settings: Vec::new(),
+            map: None,
         }
     }
 

@@ -1,0 +1,43 @@
+// The set-up that the arguments give.
+use crate::number::MOST_DIGITS;
+use crate::number::Number;
+use crate::number::number_of;
+use parts::Setup;
+
+pub(crate) enum Arguments {
+    Good(Setup),
+    Bad,
+}
+
+// The program's name, and the four numbers.
+const ARGUMENT_COUNT: usize = 5;
+
+// A map has nothing to do with the header, field 2 and the drive's address: any within their limits do.
+pub(crate) fn read_arguments() -> Arguments {
+    if os::arg_count() != ARGUMENT_COUNT {
+        return Arguments::Bad;
+    }
+    let setup = Setup {
+        cylinders: argument(1),
+        heads: argument(2),
+        sectors: argument(3),
+        header: 0,
+        field1: argument(4),
+        field2: 0,
+        address: 0,
+    };
+    if setup.within_limits() {
+        return Arguments::Good(setup);
+    }
+    Arguments::Bad
+}
+
+// 0, which is outside the limits of each, where the argument is no number. One that is longer than its room is read as none.
+fn argument(index: usize) -> u16 {
+    let mut digits = [0u8; MOST_DIGITS];
+    let length = os::arg(index, &mut digits);
+    match number_of(&digits[..length]) {
+        Number::Is(number) => number,
+        Number::Not => 0,
+    }
+}

@@ -1,0 +1,50 @@
+// A number as an argument spells it.
+ghost use Prim.Native.Nat.{_-_, _≤_};
+ghost use mathlib.Core.Path.{_≡_};
+ghost use Rattle.list_defects.specs.Number.{isDigit, numberIn};
+
+pub(crate) enum Number {
+    Is(u16),
+    Not,
+}
+
+pub(crate) const MOST_DIGITS: usize = 5;
+
+// The number that one to five decimal digits spell, if a word holds it.
+pub(crate) fn number_of(digits: &[u8]) -> Number
+    ensures { λ r. ⌜ r ≡ numberIn (now (digits .entry)) ⌝ }
+{
+    if digits.len() == 0 {
+        return Number::Not;
+    }
+    if MOST_DIGITS < digits.len() {
+        return Number::Not;
+    }
+    let mut number: u32 = 0;
+    let mut i = 0;
+    while i < digits.len() {
+        let digit = digits[i];
+        if !is_digit(digit) {
+            return Number::Not;
+        }
+        number = number * 10 + value_of(digit);
+        i += 1;
+    }
+    if number <= u16::MAX as u32 {
+        return Number::Is(number as u16);
+    }
+    Number::Not
+}
+
+fn is_digit(octet: u8) -> bool
+    ensures { λ r. ⌜ r ≡ isDigit octet ⌝ }
+{
+    (b'0' <= octet) & (octet <= b'9')
+}
+
+fn value_of(digit: u8) -> u32
+    requires { ⌜ 48 ≤ digit ⌝ }
+    ensures { λ r. ⌜ r ≡ digit - 48 ⌝ }
+{
+    (digit - b'0') as u32
+}
