@@ -17,13 +17,15 @@
  *
  * The most stack that a call takes, in octets, its return address included and its arguments not:
  *
- *     pg_power_up 24     pg_event 312     pg_run 248     pg_line 1032
- *     pg_capture 8       pg_make_capture 8
+ *     pg_power_up 24          pg_event 312          pg_run 248        pg_line 1032
+ *     pg_capture 8            pg_make_capture 8
+ *     pg_decode_map 5392      pg_encode_map 3008    pg_read_map 5392  pg_write_map 3008
+ *     pg_decode_defect 8      pg_encode_defect 16   pg_map_place 8
  *
- * c/stack.c measured it: on a stack filled with a pattern, how deep each call writes, over every
- * kind, code, function, status and refusal. Part of it lies below the stack pointer, in the 128
- * octets that the ABI of x86-64 grants a function there (the red zone), so code that interrupts a
- * call on the same stack has to leave those alone.
+ * c/stack.c and c/map_stack.c measured it: on a stack filled with a pattern, how deep each call
+ * writes, over every kind, code, function, status and refusal. Part of it lies below the stack
+ * pointer, in the 128 octets that the ABI of x86-64 grants a function there (the red zone), so code
+ * that interrupts a call on the same stack has to leave those alone.
  *
  * Every input gets one of the answers named here, nothing has to be checked beforehand, and all
  * calls end.
