@@ -45,7 +45,7 @@ pub(crate) fn tell_unless(written: bool) {
     if !written {
         io::write_all(
             STDERR_FILENO,
-            b"list_defects: the list was not written whole\n",
+            b"list_defects: standard output was not written whole\n",
         );
     }
 }
