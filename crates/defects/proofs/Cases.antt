@@ -1,20 +1,11 @@
 -- `specs/Cases` proved: antt computes each.
 -- Assumes nothing.
 use mathlib.Core.Path.{refl}
-use Rattle.laws.specs.Pick.{pick}
-use Rattle.parts.specs.Setup.{withinLimits}
-use Rattle.defects.specs.Offence.{firstOf, testsOver}
-use Rattle.defects.specs.Crc.{crcOf, remainderAfter}
-use Rattle.defects.specs.Defect.{numberAt, defectOctets, isBlank, address}
-use Rattle.defects.specs.Field.{frontOf, defectsFrom}
-use Rattle.defects.specs.Judging.{hasWrongFlags, openingTests, laterTests, frontTests, entryTests, listTests}
-use Rattle.defects.specs.Place.{dataFields, placeOf}
-use Rattle.defects.specs.Walk.{after, fieldAt, walkAt, defectsBefore, testsAt, testsFrom}
-use Rattle.defects.specs.Encoding.{listFrom, setsFor, isUnordered, frontOctets, bodyOctets, dataField, setsFrom, mapOctets, isListable, areListable, fits, isEncodable}
 use Rattle.defects.specs.Cases.{Cases}
+use Rattle.defects.proofs.Computing.{computing-maps}
 
 pub cases : Cases
-unfolding pick withinLimits firstOf testsOver crcOf remainderAfter numberAt defectOctets isBlank address frontOf defectsFrom hasWrongFlags openingTests laterTests frontTests entryTests listTests dataFields placeOf after fieldAt walkAt defectsBefore testsAt testsFrom listFrom setsFor isUnordered frontOctets bodyOctets dataField setsFrom mapOctets isListable areListable fits isEncodable
+unfolding computing-maps
 cases =
     record {
       check-value = refl;

@@ -1,4 +1,4 @@
--- A data field loaded octet by octet, or word by word: what stands in front is what was to be loaded so far.
+-- A data field loaded word by word: what stands in front is what was to be loaded so far.
 -- Assumes nothing.
 use Prim.Native.Nat.{ℕ, suc, _+_, _*_, _/_, _%_, _<_}
 use mathlib.Core.Path.{_≡_, refl, ap}
@@ -14,11 +14,6 @@ taken-next : (list : List ℕ) (start i : ℕ) → start + i < length list → t
 taken-next list start i h =
     let inside : i < length (drop start list) = simp length-drop (omega arith) in
     rw (add-one i, take-suc (drop start list) i 0 inside, getD-drop start list i 0)
-
-pub octet-loaded : (field octets : List ℕ) (start i : ℕ) → i < length field → start + i < length octets → take i field ≡ take i (drop start octets)
-    → take (i + 1) (set field i (getD octets (start + i) 0)) ≡ take (i + 1) (drop start octets)
-octet-loaded field octets start i h inside e =
-    rw (taken-next octets start i inside, add-one i, take-suc-set field i (getD octets (start + i) 0) h, e)
 
 word-octets-append : (words : List ℕ) (word : ℕ) → wordOctets (words ++ (word ∷ [])) ≡ wordOctets words ++ (word / 256 ∷ word % 256 ∷ [])
 word-octets-append [] word = refl

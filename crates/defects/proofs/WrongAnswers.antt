@@ -2,22 +2,13 @@
 -- Assumes nothing.
 use Prim.Native.Nat.{ℕ}
 use mathlib.Core.Path.{refl, ap}
-use Rattle.laws.specs.Pick.{pick}
 use Rattle.laws.proofs.Differ.{differ, differ-at, never}
-use Rattle.parts.specs.Setup.{withinLimits, allWords, sectorNumber, sectorStart}
-use Rattle.defects.specs.Offence.{firstOf, testsOver}
-use Rattle.defects.specs.Crc.{crcOf, remainderAfter}
-use Rattle.defects.specs.Defect.{numberAt, defectOctets, isBlank, address}
-use Rattle.defects.specs.Field.{frontOf, defectsFrom}
-use Rattle.defects.specs.Judging.{hasWrongFlags, openingTests, laterTests, frontTests, entryTests, listTests}
-use Rattle.defects.specs.Place.{dataFields, placeOf}
-use Rattle.defects.specs.Walk.{after, fieldAt, walkAt, defectsBefore, testsAt, testsFrom}
-use Rattle.defects.specs.Encoding.{listFrom, setsFor, isUnordered, frontOctets, bodyOctets, dataField, setsFrom, mapOctets, isListable, areListable, fits, isEncodable}
-use Rattle.defects.specs.Sectors.{fieldStart, sectorField, sectorFields, storedFields}
+use Rattle.defects.specs.Walk.{after}
 use Rattle.defects.specs.WrongAnswers.{WrongAnswers}
 use Rattle.defects.specs.declared.decoding.MapRead.{MapRead}
 use Rattle.defects.specs.declared.defect.DefectRead.{DefectRead}
 use Rattle.defects.specs.declared.place.MapPlace.{MapPlace}
+use Rattle.defects.proofs.Computing.{computing-maps}
 
 abbrev cylinderIn : DefectRead → ℕ
 cylinderIn (DefectRead.Decoded d) = d .cylinder
@@ -37,7 +28,7 @@ offsetIn (MapRead.Map count cylinder head) = 99
 offsetIn (MapRead.Refused n offset) = offset
 
 pub wrong-answers : WrongAnswers
-unfolding pick withinLimits allWords sectorNumber sectorStart firstOf testsOver crcOf remainderAfter numberAt defectOctets isBlank address frontOf defectsFrom hasWrongFlags openingTests laterTests frontTests entryTests listTests dataFields placeOf after fieldAt walkAt defectsBefore testsAt testsFrom listFrom setsFor isUnordered frontOctets bodyOctets dataField setsFrom mapOctets isListable areListable fits isEncodable fieldStart sectorField sectorFields storedFields
+unfolding computing-maps
 wrong-answers =
     record {
       cylinder-low-first = λ h. differ refl (ap cylinderIn (h .answer));

@@ -1,10 +1,14 @@
 -- `defects::body::write_front` meets its contract: fourteen stores at the front, each the octet of its number.
 -- Assumes nothing.
+use Prim.Native.Nat.{ℕ}
+use mathlib.Core.Path.{ap, ap₂, _∙_}
+use mathlib.Core.List.{List, [], _∷_, _++_}
 use native.Mathlib.Omega.{arith}
 use lib.ListN.{length-set}
+use lib.Seq.{sets}
 use Rattle.laws.proofs.Lists.{stored}
 use Rattle.defects.specs.EncodeSteps.{octetsInFront}
-use Rattle.defects.proofs.HighOctets.{long-high, long-next, word-high}
+use Rattle.defects.proofs.HighOctets.{long-octets, word-octets}
 use borrow.Author.Needs.{needs}
 use Rattle.defects.proofs.body.write_front.Statement.{statement}
 use Rattle.defects.proofs.body.write_front.Tie as tie
@@ -96,15 +100,10 @@ returns c =
     let start : tie.Start = search in
     let front = start .args .front in
     let fits = c .struct-known12 .given in
-    cc (
-      word-high (front .count) (omega arith),
-      word-high (front .sets) (omega arith),
-      word-high (front .set) (omega arith),
-      long-high (front .cylinder) (omega arith),
-      long-next (front .cylinder),
-      word-high (front .head) (omega arith),
-      stored (start .args .field .now) (octetsInFront front) (start .pre),
-    )
+    let opening = ap (λ (count : List ℕ). count ++ (front .flags ∷ front .copy ∷ [])) (word-octets (front .count) (omega arith)) in
+    let numbers = ap₂ _++_ (ap₂ _++_ opening (word-octets (front .sets) (omega arith))) (word-octets (front .set) (omega arith)) in
+    let track = ap₂ _++_ (ap₂ _++_ numbers (long-octets (front .cylinder) (omega arith))) (word-octets (front .head) (omega arith)) in
+    ap (sets (start .args .field .now) 0) track ∙ stored (start .args .field .now) (octetsInFront front) (start .pre)
 
 pub write-front-spec : {M : Type 1} → statement M
 write-front-spec =

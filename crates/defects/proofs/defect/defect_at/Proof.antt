@@ -26,7 +26,13 @@ word-at-requires-2 : tie.Need-word-at-requires-2
 word-at-requires-2 c κs = search needs
 
 returns : tie.Need-returns
-returns c = cc
+returns c =
+    λ i. record {
+      cylinder = c .before .before .before .long-at .ensures i;
+      head = c .before .before .word-at .ensures i;
+      offset = c .before .long-at2 .ensures i;
+      length = c .word-at2 .ensures i;
+    }
 
 pub defect-at-spec : {M : Type 1} → statement M
 defect-at-spec =

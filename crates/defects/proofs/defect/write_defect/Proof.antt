@@ -1,10 +1,13 @@
 -- `defects::defect::write_defect` meets its contract: twelve stores at the front, each the octet of its number.
 -- Assumes nothing.
+use mathlib.Core.Path.{ap, ap₂, _∙_}
+use mathlib.Core.List.{_++_}
 use native.Mathlib.Omega.{arith}
 use lib.ListN.{length-set}
+use lib.Seq.{sets}
 use Rattle.laws.proofs.Lists.{stored}
 use Rattle.defects.specs.Defect.{defectOctets}
-use Rattle.defects.proofs.HighOctets.{long-high, long-next, word-high}
+use Rattle.defects.proofs.HighOctets.{long-octets, word-octets}
 use borrow.Author.Needs.{needs}
 use Rattle.defects.proofs.defect.write_defect.Statement.{statement}
 use Rattle.defects.proofs.defect.write_defect.Tie as tie
@@ -87,18 +90,12 @@ same-length c = simp length-set
 returns : tie.Need-returns
 unfolding defectOctets
 returns c =
-    let b = c .before .before .before .before .before .before .before .before .before .before .before .before in
-    let d = b .args .defect in
+    let start : tie.Start = search in
+    let d = start .args .defect in
     let fits = c .struct-known12 .given in
-    cc (
-      long-high (d .cylinder) (omega arith),
-      long-next (d .cylinder),
-      word-high (d .head) (omega arith),
-      long-high (d .offset) (omega arith),
-      long-next (d .offset),
-      word-high (d .length) (omega arith),
-      stored (b .args .octets .now) (defectOctets d) (b .pre),
-    )
+    let front = ap₂ _++_ (long-octets (d .cylinder) (omega arith)) (word-octets (d .head) (omega arith)) in
+    let back = ap₂ _++_ (ap₂ _++_ front (long-octets (d .offset) (omega arith))) (word-octets (d .length) (omega arith)) in
+    ap (sets (start .args .octets .now) 0) back ∙ stored (start .args .octets .now) (defectOctets d) (start .pre)
 
 pub write-defect-spec : {M : Type 1} → statement M
 write-defect-spec =

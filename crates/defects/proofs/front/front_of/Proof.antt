@@ -1,5 +1,8 @@
--- `defects::front::front_of` meets its contract: its numbers one by one.
+-- `defects::front::front_of` meets its contract.
 -- Assumes nothing.
+use Prim.Native.Nat.{ℕ}
+use mathlib.Core.List.{List}
+use lib.ListN.{getD}
 use Rattle.defects.specs.Field.{frontOf}
 use borrow.Author.Needs.{needs}
 use Rattle.defects.proofs.front.front_of.Statement.{statement}
@@ -28,7 +31,19 @@ word-at-requires-4 c κs = search needs
 
 returns : tie.Need-returns
 unfolding frontOf
-returns c = cc
+returns c =
+    let copy = c .before .before .before .before in
+    let count = copy .before .before in
+    let field : List ℕ = count .before .before .args .field .now in
+    λ i. record {
+      count = count .word-at .ensures i;
+      flags = getD field 2 0;
+      copy = getD field 3 0;
+      sets = c .before .before .before .word-at2 .ensures i;
+      set = c .before .before .word-at3 .ensures i;
+      cylinder = c .before .long-at .ensures i;
+      head = c .word-at4 .ensures i;
+    }
 
 pub front-of-spec : {M : Type 1} → statement M
 front-of-spec =

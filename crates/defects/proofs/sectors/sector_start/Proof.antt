@@ -25,7 +25,7 @@ mul-result c = omega (arith, small c)
 
 returns : tie.Need-returns
 unfolding sectorStart
-returns c = (cc, small c)
+returns c = (rw (c .sector-words .ensures, c .before .sector-number .ensures), small c)
 
 pub sector-start-spec : {M : Type 1} → statement M
 sector-start-spec =
