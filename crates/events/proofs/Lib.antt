@@ -21,3 +21,4 @@ pub mod Exactly
 pub mod ByValue
 pub mod Computing
 pub mod WrongAnswers
+pub mod OneWalk

@@ -10,3 +10,4 @@ pub mod Open
 pub mod Fit
 pub mod Turn
 pub mod Copy
+pub mod Words

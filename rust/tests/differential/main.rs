@@ -4,6 +4,7 @@
 //! `PANTOGLIDE_EVENTS` sets the number of events, 100,000 where it is not set.
 
 mod codes;
+mod headers;
 mod setups;
 mod tally;
 mod words;

@@ -72,6 +72,11 @@ pub fn powered_up(random: &mut Random) -> (Pair, Scale) {
         _ => Scale::Small,
     };
     let setup = scale.setup(random);
+    (with_setup(random, setup), scale)
+}
+
+/// A drive of this set-up just powered up.
+pub fn with_setup(random: &mut Random, setup: [u16; 7]) -> Pair {
     let [cylinders, heads, sectors, header, field1, field2, address] = setup;
     let (all, one) = needed_words(&setup);
     // Few different words, so that headers agree by chance too.
@@ -86,7 +91,7 @@ pub fn powered_up(random: &mut Random) -> (Pair, Scale) {
         cylinders, heads, sectors, header, field1, field2, address, &medium, &staging, &mut state,
     );
     assert_eq!(returned, 0, "{setup:?}");
-    (Pair::new(random, state, medium, staging), scale)
+    Pair::new(random, state, medium, staging)
 }
 
 /// The words of all sectors and of one.

@@ -122,6 +122,11 @@ impl Pair {
         &self.plain.sectors
     }
 
+    /// The status of the last answer.
+    pub fn status(&self) -> u16 {
+        self.plain.answers[1]
+    }
+
     pub fn copy_of_plain(&self) -> Words {
         self.plain.clone()
     }

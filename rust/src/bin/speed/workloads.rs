@@ -53,16 +53,24 @@ pub fn of(call: Call) -> Vec<Workload> {
 
 fn events() -> Vec<Workload> {
     vec![
-        verify_writes("a  verify-writes", 2),
+        verify_writes("a  verify-writes", bench_drive(2)),
         long_writes("b  1,024-word writes", 2),
         long_reads("c  1,024-word reads", 2),
         mixed("d  mixed", 2),
-        verify_writes("ea verify-writes, 4,096 cylinders", MANY_CYLINDERS),
+        verify_writes(
+            "ea verify-writes, 4,096 cylinders",
+            bench_drive(MANY_CYLINDERS),
+        ),
         long_writes("eb 1,024-word writes, 4,096 cylinders", MANY_CYLINDERS),
         long_reads("ec 1,024-word reads, 4,096 cylinders", MANY_CYLINDERS),
         mixed("ed mixed, 4,096 cylinders", MANY_CYLINDERS),
         commands("h  commands", 2),
         commands("eh commands, 4,096 cylinders", MANY_CYLINDERS),
+        verify_writes("m  8-word headers", long_header_drive(2)),
+        verify_writes(
+            "em 8-word headers, 4,096 cylinders",
+            long_header_drive(MANY_CYLINDERS),
+        ),
     ]
 }
 
@@ -71,18 +79,27 @@ fn bench_drive(cylinders: u16) -> Words {
     Words::powered_up([cylinders, 2, 3, 1, 2, 1, ADDRESS])
 }
 
+/// The same fields behind a header of 8.
+fn long_header_drive(cylinders: u16) -> Words {
+    Words::powered_up([cylinders, 2, 3, 8, 2, 1, ADDRESS])
+}
+
 /// No header, field 1 of 1,024.
 fn long_sector_drive(cylinders: u16) -> Words {
     Words::powered_up([cylinders, 2, 3, 0, 1024, 0, ADDRESS])
 }
 
-fn verify_writes(name: &'static str, cylinders: u16) -> Workload {
-    let mut stream = Stream::selected(bench_drive(cylinders));
+/// Of a drive with field 1 of 2 and field 2 of 1. The stored headers are 0.
+fn verify_writes(name: &'static str, drive: Words) -> Workload {
+    let header = drive.state[3];
+    let mut stream = Stream::selected(drive);
     for _ in 0..400 {
         stream.position();
         for (control, field_words) in [(0x85, 2), (0x86, 1), (0x87, 3)] {
             stream.push(3, [control, 0, 0, 0]);
-            stream.push(4, [0; 4]); // the stored headers are 0
+            for _ in 0..header {
+                stream.push(4, [0; 4]);
+            }
             stream.words_from_host(field_words);
         }
     }
