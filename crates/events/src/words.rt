@@ -19,11 +19,8 @@ fn walk(a: &[u16], i: usize, b: &[u16], k: usize, n: usize) -> usize
     ensures { λ walked. ⌜ walked ≡ alike (take n (drop i (now (a .entry)))) (take n (drop k (now (b .entry)))) ⌝ }
 {
     let mut walked = 0;
-    while walked < n {
-        if a[i + walked] != b[k + walked] {
-            return walked;
-        }
+    while walked < n && a[i + walked] == b[k + walked] {
         walked += 1;
     }
-    n
+    walked
 }

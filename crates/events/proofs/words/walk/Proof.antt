@@ -5,7 +5,7 @@ use mathlib.Core.Path.{_≡_, _∙_}
 use mathlib.Core.List.{List, _∷_}
 use native.Mathlib.Omega.{arith}
 use borrow.Author.Needs.{needs}
-use borrow.Author.Tests.{eq-eqb, ne-eqb}
+use borrow.Author.Tests.{eq-eqb, ne-eqb, eqb-true, eqb-false}
 use denote.Ref.{now}
 use lib.ListN.{length, take, drop, getD}
 use Rattle.laws.proofs.Windows.{cut}
@@ -65,15 +65,6 @@ mul-if1-2 c = search needs
 shared-slice-read-if1-2 : tie.Need-shared-slice-read-if1-2 Inv-loop μ-loop
 shared-slice-read-if1-2 c = search needs
 
-returns : tie.Need-returns Inv-loop μ-loop
-returns c =
-    let l = c .before .before .before .before .loop in
-    let a = c .before .before .before .before .before .args in
-    let differs = c .if1 .taken in
-    let stop = stops-here (now (a .a)) (a .i) (now (a .b)) (a .k) (a .n) (l .walked) (search needs) (search needs) (search needs) (λ e. omega (arith, differs, e)) in
-    let all = l .inv .1 in
-    omega (arith, all, stop)
-
 add-walked : tie.Need-add-walked Inv-loop μ-loop
 add-walked c = search needs
 
@@ -84,9 +75,17 @@ loop-again : tie.Need-loop-again Inv-loop μ-loop
 loop-again c =
     let l = c .before .before .before .before .loop in
     let a = c .before .before .before .before .before .args in
-    let on = goes-on (now (a .a)) (a .i) (now (a .b)) (a .k) (a .n) (l .walked) (search needs) (search needs) (search needs) (c .if1 .left) in
+    let on = goes-on (now (a .a)) (a .i) (now (a .b)) (a .k) (a .n) (l .walked) (search needs) (search needs) (search needs) (eqb-true _ _ (c .if1 .taken)) in
     let all = l .inv .1 in
     (search needs, omega (arith, all, on))
+
+returns : tie.Need-returns Inv-loop μ-loop
+returns c =
+    let l = c .before .before .before .before .loop in
+    let a = c .before .before .before .before .before .args in
+    let stop = stops-here (now (a .a)) (a .i) (now (a .b)) (a .k) (a .n) (l .walked) (search needs) (search needs) (search needs) (eqb-false _ _ (c .if1 .left)) in
+    let all = l .inv .1 in
+    omega (arith, all, stop)
 
 returns-2 : tie.Need-returns-2 Inv-loop μ-loop
 returns-2 c =
@@ -110,8 +109,8 @@ walk-spec =
     add-if1-2
     mul-if1-2
     shared-slice-read-if1-2
-    returns
     add-walked
     loop-less
     loop-again
+    returns
     returns-2)
