@@ -9,10 +9,11 @@ use pantoglide::raw::ABSENT;
 
 const LONGEST_HEADER: u16 = 8;
 const HEADER_MISCOMPARE: u16 = 7;
-const ADDRESS: u8 = 3;
-/// 2 cylinders, 2 heads, 3 sectors, and the last sector of them all.
-const SHAPE: [u16; 3] = [2, 2, 3];
+const SELECT_3: [u8; 4] = [0x30, 0, 0, 0];
+/// Cylinder 1, head 1, sector 2: the last of twelve.
 const LAST_SECTOR: [u8; 4] = [0, 1, 1, 2];
+const SECTORS_BEFORE: u16 = 11;
+const FIELD_WORDS: u16 = 3;
 
 #[test]
 fn headers_that_differ_agree() {
@@ -42,26 +43,15 @@ fn last_status(
     differing: u16,
     control: u8,
 ) -> u16 {
-    let [cylinders, heads, sectors] = SHAPE;
-    let (field1, field2) = (2, 1);
-    let setup = [
-        cylinders,
-        heads,
-        sectors,
-        header,
-        field1,
-        field2,
-        ADDRESS.into(),
-    ];
-    let mut pair = with_setup(random, setup);
+    let mut pair = with_setup(random, [2, 2, 3, header, 2, 1, 3]);
     let mut send = |pair: &mut Pair, kind, [a0, a1, a2, a3]: [u8; 4]| {
         let event: EventOctets = [0, kind, a0, a1, a2, a3];
         assert_eq!(pair.event(event, Cut::default(), tally), 0, "{event:?}");
     };
-    send(&mut pair, 1, [ADDRESS << 4, 0, 0, 0]);
+    send(&mut pair, 1, SELECT_3);
     send(&mut pair, 7, LAST_SECTOR);
     send(&mut pair, 3, [control, 0, 0, 0]);
-    let first = (cylinders * heads * sectors - 1) * (header + field1 + field2);
+    let first = SECTORS_BEFORE * (header + FIELD_WORDS);
     for k in 0..header {
         let stored = pair.sectors()[usize::from(first + k)];
         let bit = (differing >> k & 1) << random.below(16);
