@@ -14,22 +14,23 @@ alike [] ys = 0
 alike (x ∷ xs) [] = 0
 alike (x ∷ xs) (y ∷ ys) = pick (eqb x y) (suc (alike xs ys)) 0
 
--- The walk ends there: it is the whole length, or the index of a difference.
+-- Where a walk can end: at the whole length, or at the index of a difference.
 abbrev pub EndsAt : List ℕ → List ℕ → ℕ → Type 0
 EndsAt xs ys n = (n ≡ length xs) ⊎ ((n < length xs) × (getD xs n 0 ≡ getD ys n 0 → ⊥))
 
--- And no word before it differs.
+-- And no word before that differs.
 pub record FirstDifference (xs ys : List ℕ) (n : ℕ) : Type 0 where
   pub before : take n xs ≡ take n ys
   pub ends : EndsAt xs ys n
 
 pub record OneWalk : Type 0 where
-  -- So many words are alike just where the first difference is.
+  -- How many are alike is the index of the first difference, or the whole length, and no other number is.
   pub stops : (xs ys : List ℕ) → length xs ≡ length ys → (n : ℕ) → FirstDifference xs ys n ↔ (n ≡ alike xs ys)
   -- Two runs of one length are the same words exactly when all of them are alike,
   pub same : (xs ys : List ℕ) → length xs ≡ length ys → (xs ≡ ys) ↔ (alike xs ys ≡ length xs)
   -- and so says the test that goes word for word.
   pub tested : (xs ys : List ℕ) → length xs ≡ length ys → sameList xs ys ≡ eqb (alike xs ys) (length xs)
-  -- Not what a walk hands back over runs that differ in words 1 and 2: the later one, if it went on; the length, if it saw none.
+  -- Over runs that differ in words 1 and 2, not the later one, which a walk that went on hands back, though it too says that they differ,
   pub wentOn : 2 ≡ alike (5 ∷ 6 ∷ 7 ∷ []) (5 ∷ 8 ∷ 9 ∷ []) → ⊥
+  -- and not the length.
   pub sawNone : 3 ≡ alike (5 ∷ 6 ∷ 7 ∷ []) (5 ∷ 8 ∷ 9 ∷ []) → ⊥

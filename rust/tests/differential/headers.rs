@@ -1,4 +1,4 @@
-//! Headers of every length, sent with every choice of words that differ from the stored ones.
+//! Headers of 1 to 8 words, sent with every choice of words that differ from the stored ones.
 
 use crate::setups::with_setup;
 use crate::shared::random::Random;
@@ -8,6 +8,9 @@ use crate::words::{Cut, Pair};
 use pantoglide::raw::ABSENT;
 
 const LONGEST_HEADER: u16 = 8;
+/// The writes that verify the header.
+const VERIFYING: [u8; 8] = [0x84, 0x85, 0x86, 0x87, 0x94, 0x95, 0x96, 0x97];
+const NORMAL: u16 = 0;
 const HEADER_MISCOMPARE: u16 = 7;
 const SELECT_3: [u8; 4] = [0x30, 0, 0, 0];
 /// Cylinder 1, head 1, sector 2: the last of twelve.
@@ -21,12 +24,13 @@ fn headers_that_differ_agree() {
     let mut tally = Tally::default();
     for header in 1..=LONGEST_HEADER {
         for differing in 0..1 << header {
-            for control in [0x85, 0x86, 0x87, 0x95, 0x96, 0x97] {
+            for control in VERIFYING {
                 let status = last_status(&mut random, &mut tally, header, differing, control);
-                let expected = if differing == 0 {
-                    ABSENT
-                } else {
-                    HEADER_MISCOMPARE
+                // Without a field the header's last word is the last of all.
+                let expected = match (differing, control & 3) {
+                    (0, 0) => NORMAL,
+                    (0, _) => ABSENT,
+                    _ => HEADER_MISCOMPARE,
                 };
                 assert_eq!(status, expected, "{control:X}: {differing:b} of {header}");
             }
