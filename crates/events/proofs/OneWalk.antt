@@ -4,7 +4,6 @@ use Prim.Native.Nat.{ℕ, zero, suc}
 use mathlib.Core.Path.{_≡_, refl, sym, ap, ap₂, subst, _∙_}
 use mathlib.Core.Bool.{Bool, true, false, _&&_}
 use mathlib.Core.List.{List, [], _∷_}
-use mathlib.Core.Logic.{inl, inr}
 use native.Mathlib.Omega.{arith}
 use borrow.Author.Tests.{eq-eqb, ne-eqb, eqb-true, eqb-false}
 use lib.Dec.{eqb}
@@ -14,7 +13,7 @@ use Rattle.laws.specs.Lists.{sameList}
 use Rattle.laws.specs.Pick.{pick}
 use Rattle.laws.proofs.Differ.{told-apart}
 use Rattle.laws.proofs.Tests.{same-equation}
-use Rattle.events.specs.Words.{alike, EndsAt, FirstDifference, OneWalk}
+use Rattle.events.specs.Words.{alike, StopsAt, OneWalk}
 
 -- of two runs that begin with the same word one more is alike, of two that do not none is
 pub one-more : (x y : ℕ) (xs ys : List ℕ) → eqb x y ≡ true → alike (x ∷ xs) (y ∷ ys) ≡ suc (alike xs ys)
@@ -29,47 +28,30 @@ pub at-the-end : (ys : List ℕ) → alike [] ys ≡ 0
 unfolding alike
 at-the-end ys = refl
 
--- ---- the first difference
+-- ---- where it stops
 
 -- behind a word that is the same, it is that of the rest, one further on
-one-on : (x y : ℕ) (xs ys : List ℕ) (n : ℕ) → x ≡ y → FirstDifference xs ys n → FirstDifference (x ∷ xs) (y ∷ ys) (suc n)
-one-on x y xs ys n e d = record { before = ap₂ _∷_ e (d .before); ends = further (d .ends) }
-  where
-    further : EndsAt xs ys n → EndsAt (x ∷ xs) (y ∷ ys) (suc n)
-    further (inl all) = inl (ap suc all)
-    further (inr (inside, differs)) = inr (omega arith, differs)
+one-on : (x y : ℕ) (xs ys : List ℕ) (n : ℕ) → x ≡ y → StopsAt xs ys n → StopsAt (x ∷ xs) (y ∷ ys) (suc n)
+one-on x y xs ys n e d = record { within = omega (arith, d .within); before = ap₂ _∷_ e (d .before); there = λ h. d .there (omega arith) }
 
-one-back : (x y : ℕ) (xs ys : List ℕ) (n : ℕ) → FirstDifference (x ∷ xs) (y ∷ ys) (suc n) → FirstDifference xs ys n
-one-back x y xs ys n d = record { before = ap (drop 1) (d .before); ends = nearer (d .ends) }
-  where
-    nearer : EndsAt (x ∷ xs) (y ∷ ys) (suc n) → EndsAt xs ys n
-    nearer (inl all) = inl (omega arith)
-    nearer (inr (inside, differs)) = inr (omega arith, differs)
+one-back : (x y : ℕ) (xs ys : List ℕ) (n : ℕ) → StopsAt (x ∷ xs) (y ∷ ys) (suc n) → StopsAt xs ys n
+one-back x y xs ys n d = record { within = omega (arith, d .within); before = ap (drop 1) (d .before); there = λ h. d .there (omega arith) }
 
-stops-there : (xs ys : List ℕ) → length xs ≡ length ys → FirstDifference xs ys (alike xs ys)
-stops-there [] [] e = record { before = refl; ends = inl (at-the-end []) }
+stops-there : (xs ys : List ℕ) → length xs ≡ length ys → StopsAt xs ys (alike xs ys)
+stops-there [] [] e = rw (at-the-end []) (record { within = omega arith; before = refl; there = λ h. absurd (omega arith) })
 stops-there [] (y ∷ ys) e = absurd (omega arith)
 stops-there (x ∷ xs) [] e = absurd (omega arith)
 stops-there (x ∷ xs) (y ∷ ys) e = by-word (eqb x y) refl (stops-there xs ys (omega arith))
   where
-    by-word : (same : Bool) → eqb x y ≡ same → FirstDifference xs ys (alike xs ys) → FirstDifference (x ∷ xs) (y ∷ ys) (alike (x ∷ xs) (y ∷ ys))
+    by-word : (same : Bool) → eqb x y ≡ same → StopsAt xs ys (alike xs ys) → StopsAt (x ∷ xs) (y ∷ ys) (alike (x ∷ xs) (y ∷ ys))
     by-word true p rest = rw (one-more x y xs ys p) (one-on x y xs ys (alike xs ys) (eqb-true x y p) rest)
-    by-word false p rest = rw (none-alike x y xs ys p) (record { before = refl; ends = inr (omega arith, eqb-false x y p) })
+    by-word false p rest = rw (none-alike x y xs ys p) (record { within = omega arith; before = refl; there = λ h. eqb-false x y p })
 
-nowhere-else : (xs ys : List ℕ) → length xs ≡ length ys → (n : ℕ) → FirstDifference xs ys n → n ≡ alike xs ys
-nowhere-else [] [] e n d = by-end (d .ends)
-  where
-    by-end : EndsAt [] [] n → n ≡ alike [] []
-    by-end (inl all) = all ∙ sym (at-the-end [])
-    by-end (inr (inside, differs)) = absurd (omega arith)
+nowhere-else : (xs ys : List ℕ) → length xs ≡ length ys → (n : ℕ) → StopsAt xs ys n → n ≡ alike xs ys
+nowhere-else [] [] e n d = omega (arith, d .within, at-the-end [])
 nowhere-else [] (y ∷ ys) e n d = absurd (omega arith)
 nowhere-else (x ∷ xs) [] e n d = absurd (omega arith)
-nowhere-else (x ∷ xs) (y ∷ ys) e zero d = by-word (eqb x y) refl (d .ends)
-  where
-    by-word : (same : Bool) → eqb x y ≡ same → EndsAt (x ∷ xs) (y ∷ ys) 0 → 0 ≡ alike (x ∷ xs) (y ∷ ys)
-    by-word false p h = sym (none-alike x y xs ys p)
-    by-word true p (inl all) = absurd (omega arith)
-    by-word true p (inr (inside, differs)) = absurd (differs (eqb-true x y p))
+nowhere-else (x ∷ xs) (y ∷ ys) e zero d = sym (none-alike x y xs ys (ne-eqb x y (d .there (omega arith))))
 nowhere-else (x ∷ xs) (y ∷ ys) e (suc n) d =
     let first = ap (λ (list : List ℕ). getD list 0 0) (d .before) in
     ap suc (nowhere-else xs ys (omega arith) n (one-back x y xs ys n d)) ∙ sym (one-more x y xs ys (eq-eqb x y first))
@@ -102,7 +84,7 @@ pub one-walk : OneWalk
 unfolding alike pick
 one-walk =
     record {
-      stops = λ xs ys e n. (nowhere-else xs ys e n, λ q. subst (FirstDifference xs ys) (sym q) (stops-there xs ys e));
+      stops = λ xs ys e n. (nowhere-else xs ys e n, λ q. subst (StopsAt xs ys) (sym q) (stops-there xs ys e));
       same = λ xs ys e. (λ q. subst (λ (zs : List ℕ). alike xs zs ≡ length xs) q (all-of-them xs), same-words xs ys e);
       tested = word-for-word;
       wentOn = told-apart 2 1 refl;

@@ -4,10 +4,10 @@ pub mod Run
 pub mod Power
 pub mod Exactly
 pub mod WrongAnswers
+pub mod Words
 -- what the private functions go by: nothing that a reader of the rules needs
 pub mod Unsound
 pub mod Open
 pub mod Fit
 pub mod Turn
 pub mod Copy
-pub mod Words
