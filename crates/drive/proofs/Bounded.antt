@@ -23,7 +23,8 @@ use Rattle.parts.specs.Kind.{Kind, Select, Deselect, Use, Reset, Unknown, Work,
 use Rattle.parts.specs.declared.setup.Setup.{Setup}
 use Rattle.parts.specs.declared.event.Event.{Event}
 use Rattle.parts.proofs.Bits.{bit-fits}
-use Rattle.drive.specs.State.{Result, pendingOn}
+use Rattle.drive.specs.State.{Result, pendingOn, postedOn}
+use Rattle.drive.specs.Request.{octet2Cleared}
 use Rattle.drive.specs.Answer.{paper, refusalIn}
 use Rattle.drive.specs.AnswerWords.{answerWords, wordsOfAnswers, answerIn, answersIn}
 use Rattle.drive.specs.Refusal.{rows, refusalOf}
@@ -43,7 +44,7 @@ use Rattle.drive.proofs.SoundPlace.{pending-stray}
 use Rattle.drive.proofs.Posted.{on-either, kept-on-both}
 use Rattle.drive.proofs.Standing.{sought-setup}
 use Rattle.drive.proofs.FromPowerUp.{sought-inside}
-use Rattle.drive.proofs.StaysSound.{same-size}
+use Rattle.drive.proofs.StaysSound.{same-size, heard-passable}
 use Rattle.drive.proofs.Turns.{thirteen}
 use Rattle.drive.proofs.Outcomes
 
@@ -64,13 +65,21 @@ opened-within {d} {c = c} p q =
       inside = sought-inside p q;
     }
 
+asked-bounded : {d : Drive} {e : Event} {sectors staging : List ℕ} {work : Work} {o : Outcome} → Passable d sectors staging → Outcomes.Asked d e work o
+    → Bounded (d .setup) (o .answer)
+asked-bounded p (Outcomes.bad q b) = refl
+asked-bounded p (Outcomes.stepped k) = refl
+asked-bounded p (Outcomes.nothingToCome q w) = refl
+asked-bounded p (Outcomes.opens q o z) = opened-within p q
+asked-bounded p (Outcomes.placed h) = refl
+asked-bounded p (Outcomes.aimed h) = refl
+
 quiet-bounded : {d : Drive} {e : Event} {sectors staging : List ℕ} {work : Work} {o : Outcome} → Passable d sectors staging
     → (AreOctets (d .pending0) × AreOctets (d .pending1)) → Outcomes.Quiet d e sectors work o → Bounded (d .setup) (o .answer)
+unfolding octet2Cleared postedOn
 quiet-bounded p f (Outcomes.unsolicited q) = refl
-quiet-bounded p f (Outcomes.bad q b) = refl
-quiet-bounded p f (Outcomes.stepped k) = refl
-quiet-bounded p f (Outcomes.nothingToCome q w) = refl
-quiet-bounded p f (Outcomes.opens q o z) = opened-within p q
+quiet-bounded p f (Outcomes.asked (Outcomes.afresh c z) x) = asked-bounded (heard-passable p (Outcomes.afresh c z)) x
+quiet-bounded p f (Outcomes.asked (Outcomes.asItWas z) x) = asked-bounded p x
 quiet-bounded p f (Outcomes.takenLast high) = tt
 quiet-bounded p f (Outcomes.taken high z) = tt
 quiet-bounded p f (Outcomes.ends high) = refl
@@ -80,8 +89,6 @@ quiet-bounded p f (Outcomes.exchanged low (Outcomes.disobeys b)) = refl
 quiet-bounded p f (Outcomes.exchanged low (Outcomes.tells z)) = tt
 quiet-bounded p f (Outcomes.exchanged low (Outcomes.tellsLast z)) = tt
 quiet-bounded p f (Outcomes.exchanged low Outcomes.cut) = refl
-quiet-bounded p f (Outcomes.placed h) = refl
-quiet-bounded p f (Outcomes.aimed h) = refl
 quiet-bounded {d} {e} p f Outcomes.statusTold =
     record { octets = on-either AreOctets d (e .port) f; known = pending-stray (e .port) (sound d (p .sound)); fits = refl }
 
@@ -115,6 +122,7 @@ octets-stay =
       reset = (omega arith, omega arith);
       notice = λ p o. (bit-fits (p .octet1) bit6 (o .0), o .1);
       fault = λ p b o. (o .0, bit-fits (p .octet2) b (o .1));
+      clear = λ p o. (o .0, omega arith);
     })
 
 pub octets-along : (m : Machine) (events : List Event) → PendingOctets m → PendingOctets (final m events)
@@ -133,7 +141,7 @@ bounded-along m (e ∷ events) f =
 work-response : {d : Drive} {e : Event} {sectors : List ℕ} {work : Work} {o : Outcome} (octets : List ℕ) → Outcomes.Told d e sectors work o
     → paper (o .answer) .response ≡ some octets → octets ≡ responseTo (pendingOn d (e .port))
 unfolding paper
-work-response octets (Outcomes.anOpening q w) h = absent refl h
+work-response octets (Outcomes.anOpening a q w) h = absent refl h
 work-response octets (Outcomes.aWord high w p r) h = absent r h
 work-response octets (Outcomes.aResponseWord low w p r) h = absent r h
 work-response {d} {e} octets Outcomes.aResponse h = cc

@@ -7,21 +7,22 @@ use mathlib.Core.List.{[], _∷_}
 use native.Mathlib.Nat.{zero-add, div-add-mod'}
 use native.Mathlib.Numerals.{add-one}
 use native.Mathlib.Omega.{arith}
-use borrow.Author.Tests.{ne-eqb}
+use borrow.Author.Tests.{eq-eqb, ne-eqb}
 use lib.ListN.{getD}
 use Rattle.laws.specs.Pick.{pick}
 use Rattle.parts.specs.Setup.{isPlace, isTarget}
 use Rattle.parts.specs.Command.{loadPosition, readStatus, codeOf, parameterWords}
 use Rattle.parts.specs.Control.{controlOf, wordsToCome}
 use Rattle.parts.specs.Kind.{DataControl, WordFromHost, TakeWord, Target, ReadStatus, kindOf}
-use Rattle.parts.specs.Pending.{nothingPending}
+use Rattle.parts.specs.Pending.{pendingOf, nothingPending}
 use Rattle.parts.specs.Tests.{parameters, noParameters, transferringWith}
 use Rattle.parts.specs.declared.setup.Place.{Place}
+use Rattle.parts.specs.declared.pending.Pending.{Pending}
 use Rattle.parts.specs.declared.transfer.Parameters.{Parameters}
 use Rattle.drive.specs.Answer.{normal}
 use Rattle.drive.specs.State.{atPlace, withPlace, withTarget, withTransfer, pendingOn, postedOn, told}
 use Rattle.drive.specs.Drive.{closed}
-use Rattle.drive.specs.Request.{opened, dataControl, targeted, statusRead}
+use Rattle.drive.specs.Request.{octet2Cleared, opened, dataControl, targeted, statusRead}
 use Rattle.drive.specs.Command.{keptAs, cylinderOf, placeSought, targetSought, seeking, obeyed, parameterSent, statusTold, wordsTold, statusCleared, responseTaken, wordFromHost, wordToHost}
 use Rattle.drive.specs.Run.{Machine, after, final}
 use Rattle.drive.specs.StaysSound.{IsSound}
@@ -29,6 +30,7 @@ use Rattle.drive.specs.Calls.{Ran}
 use Rattle.drive.specs.NeverDead.{sent, wordSent, positionSent}
 use Rattle.drive.specs.Commands.{Idle, takesSent, statusAsked, taken, StatusBy44, positionSentBy07, PositionBy07, Commands}
 use Rattle.drive.specs.declared.answer.Answer.the-variants.{Done, Status, Opened, Word, LastWord}
+use Rattle.drive.proofs.Cleared.{posted-there, nothing-to-clear}
 use Rattle.drive.proofs.NeverDead.{Does, follows, nothing-follows, work-does, quietly, withDrive, position-does}
 use Rattle.drive.proofs.Commands.{holds-by-command, commands-keep-out, command-cut-short}
 
@@ -89,13 +91,17 @@ module _ (m : Machine) (port : ℕ) (q : Idle m port) where
   -- ---- `position-by-07`
 
   module _ (quiet : pendingOn (m .drive) port .octet1 ≡ 0) where
-    position-opens : Does m (sent port 3 loadPosition 0) (quietly m (told (Opened 4 (m .drive .place)) (within m loadPosition 0 noParameters .drive)))
-    unfolding kindOf dataControl controlOf codeOf opened wordsToCome parameterWords pick
-    position-opens = work-does DataControl (q .sound) (q .real) refl refl (q .mine) (q .idle) (rw quiet)
+    -- the drive that the three are requests to
+    abbrev heard : Machine
+    heard = withDrive m (octet2Cleared (m .drive) port)
 
-    position-keeps : (moved : ℕ) (kept : Parameters) (word : ℕ) → moved + 1 < 4 → IsSound (within m loadPosition moved kept)
-        → Does (within m loadPosition moved kept) (wordSent port word) (quietly m (told Done (within m loadPosition (suc moved) (keptAs kept moved word) .drive)))
-    unfolding kindOf controlOf codeOf wordFromHost parameterSent wordsToCome parameterWords pick
+    position-opens : Does m (sent port 3 loadPosition 0) (quietly m (told (Opened 4 (m .drive .place)) (within heard loadPosition 0 noParameters .drive)))
+    unfolding kindOf dataControl controlOf codeOf opened wordsToCome parameterWords octet2Cleared postedOn pick
+    position-opens = work-does DataControl (q .sound) (q .real) refl refl (q .mine) (q .idle) (rw (eq-eqb (pendingOn (m .drive) port .octet1) 0 quiet))
+
+    position-keeps : (moved : ℕ) (kept : Parameters) (word : ℕ) → moved + 1 < 4 → IsSound (within heard loadPosition moved kept)
+        → Does (within heard loadPosition moved kept) (wordSent port word) (quietly m (told Done (within heard loadPosition (suc moved) (keptAs kept moved word) .drive)))
+    unfolding kindOf controlOf codeOf wordFromHost parameterSent wordsToCome parameterWords octet2Cleared postedOn pick
     position-keeps moved kept word h s =
         work-does WordFromHost s (q .real) refl refl (q .mine) refl (rw (div-add-mod' word 256, ne-eqb (moved + 1) 4 (λ z. omega arith), add-one moved))
 
@@ -104,14 +110,14 @@ module _ (m : Machine) (port : ℕ) (q : Idle m port) where
       there : atPlace (cylinderOf 0 (p .cylinder)) (p .head) (m .drive .place .sector) ≡ p
       there = rw (zero-add (p .cylinder), ← sector)
 
-      position-obeys : IsSound (within m loadPosition 3 (parameters 0 (p .cylinder) (p .head)))
-          → Does (within m loadPosition 3 (parameters 0 (p .cylinder) (p .head))) (wordSent port target)
-          (quietly m (told (Status normal) (closed (withTarget (withPlace (m .drive) p) target))))
-      unfolding kindOf controlOf codeOf wordFromHost parameterSent obeyed seeking placeSought targetSought closed wordsToCome parameterWords pick
+      position-obeys : IsSound (within heard loadPosition 3 (parameters 0 (p .cylinder) (p .head)))
+          → Does (within heard loadPosition 3 (parameters 0 (p .cylinder) (p .head))) (wordSent port target)
+          (quietly m (told (Status normal) (closed (withTarget (withPlace (heard .drive) p) target))))
+      unfolding kindOf controlOf codeOf wordFromHost parameterSent obeyed seeking placeSought targetSought closed wordsToCome parameterWords octet2Cleared postedOn pick
       position-obeys s = work-does WordFromHost s (q .real) refl refl (q .mine) refl (rw (div-add-mod' target 256, there, inside, aimed))
 
       position-run : Ran m (positionSentBy07 port p target) (Opened 4 (m .drive .place) ∷ Done ∷ Done ∷ Done ∷ Status normal ∷ [])
-          (withDrive m (closed (withTarget (withPlace (m .drive) p) target)))
+          (withDrive m (closed (withTarget (withPlace (heard .drive) p) target)))
       unfolding keptAs pick
       position-run =
           let first = position-keeps 0 noParameters 0 (omega arith) (position-opens .sound) in
@@ -119,14 +125,28 @@ module _ (m : Machine) (port : ℕ) (q : Idle m port) where
           let third = position-keeps 2 (parameters 0 (p .cylinder) 0) (p .head) (omega arith) (second .sound) in
           follows position-opens (follows first (follows second (follows third (follows (position-obeys (third .sound)) nothing-follows))))
 
-      -- Position, and then Target
-      placed : Does m (positionSent port p) (quietly m (told (Status normal) (withPlace (m .drive) p)))
+      -- Position, and then Target, which finds octet 2 cleared
+      placed : Does m (positionSent port p) (quietly m (told (Status normal) (withPlace (heard .drive) p)))
       placed = position-does (q .real) (q .sound) (record { selected = q .mine; idle = q .idle; quiet = quiet }) p inside
 
-      aims : Does (withDrive m (withPlace (m .drive) p)) (sent port 8 (target / 256) (target % 256))
-          (quietly m (told (Status normal) (withTarget (withPlace (m .drive) p) target)))
-      unfolding kindOf targeted pendingOn pick
-      aims = work-does Target (placed .sound) (q .real) refl refl (q .mine) (q .idle) (rw (div-add-mod' target 256, quiet, aimed))
+      left-pending : pendingOn (withPlace (heard .drive) p) port ≡ pendingOf (pendingOn (m .drive) port .octet1) 0
+      unfolding octet2Cleared pendingOn
+      left-pending = posted-there (m .drive) port _
+
+      still-aimed : isTarget (heard .drive .setup) target ≡ true
+      unfolding octet2Cleared postedOn
+      still-aimed = aimed
+
+      aim-told : targeted (withPlace (heard .drive) p) port target ≡ told (Status normal) (withTarget (withPlace (heard .drive) p) target)
+      unfolding targeted pick
+      aim-told =
+          rw (eq-eqb (pendingOn (withPlace (heard .drive) p) port .octet1) 0 (ap (λ (x : Pending). x .octet1) left-pending ∙ quiet),
+          nothing-to-clear (withPlace (heard .drive) p) port (ap (λ (x : Pending). x .octet2) left-pending), still-aimed)
+
+      aims : Does (withDrive m (withPlace (heard .drive) p)) (sent port 8 (target / 256) (target % 256))
+          (quietly m (told (Status normal) (withTarget (withPlace (heard .drive) p) target)))
+      unfolding kindOf octet2Cleared postedOn pick
+      aims = work-does Target (placed .sound) (q .real) refl refl (q .mine) (q .idle) (rw (div-add-mod' target 256) (ap (quietly m) aim-told))
 
       position-by-07 : PositionBy07 m port p target
       position-by-07 =

@@ -25,6 +25,7 @@ use Rattle.parts.specs.declared.transfer.Transfer.{Transfer}
 use Rattle.parts.proofs.ByBits.{write-is-data, read-is-data, codes-in-place}
 use Rattle.drive.specs.State.{withHolding, withTransfer, pendingOn, postedOn, Result}
 use Rattle.drive.specs.Drive.{ownerNoticed, selected, afterReset, reserved, unreserved, priorityReserved, headStepped, atItsTarget, closed, ended}
+use Rattle.drive.specs.Request.{octet2Cleared}
 use Rattle.drive.specs.Command.{keptAs, placeSought, statusCleared, parameterSent, responseTaken, wordFromHost, wordToHost, endedEarly}
 use Rattle.drive.specs.Refusal.{row7}
 use Rattle.drive.specs.Able.{Passable}
@@ -32,7 +33,7 @@ use Rattle.drive.specs.Accepted.{isRefused}
 use Rattle.drive.specs.Run.{Machine, machine, answerTo, after}
 use Rattle.drive.specs.Sessions.{Is}
 use Rattle.drive.specs.CutShort.{Cuts, byEnd, byTakeover, byReset}
-use Rattle.drive.specs.Commands.{holdAfter, holdLeft, HoldsByCommand, KeptOut, CommandsKeepOut, cutAlone, CommandCutShort}
+use Rattle.drive.specs.Commands.{holdAfter, holdLeft, HoldsByCommand, KeptOut, CommandsKeepOut, asOpened, cutAlone, CommandCutShort}
 use Rattle.drive.specs.declared.drive.Drive.{Drive}
 use Rattle.drive.specs.declared.answer.Answer.{Answer}
 use Rattle.drive.specs.declared.answer.Outcome.{Outcome}
@@ -97,25 +98,30 @@ module _ (d : Drive) (e : Event) (sectors staging : List ℕ) (p : Passable d se
 
   -- ---- `holds-by-command`
 
-  quiet-holds : {work : Work} {o : Outcome} → row7 work d ≡ false → Outcomes.Quiet d e sectors work o → o .drive .holding ≡ withHold (d .holding) (holdLeft work d e)
+  asked-holds : {at : Drive} {work : Work} {o : Outcome} → at .holding ≡ d .holding → Outcomes.Asked at e work o → o .drive .holding ≡ withHold (d .holding) (holdLeft work d e)
   unfolding postedOn headStepped atItsTarget ended
-  quiet-holds t (Outcomes.unsolicited Outcomes.control) = refl
+  asked-holds h (Outcomes.bad (Outcomes.control n) b) = h
+  asked-holds h (Outcomes.bad Outcomes.position b) = h
+  asked-holds h (Outcomes.bad Outcomes.target b) = h
+  asked-holds h (Outcomes.stepped k) = h
+  asked-holds h (Outcomes.nothingToCome (Outcomes.inPlace a) w) = h
+  asked-holds h (Outcomes.nothingToCome (Outcomes.atTarget a z) w) = h
+  asked-holds h (Outcomes.opens (Outcomes.inPlace a) o z) = h
+  asked-holds h (Outcomes.opens (Outcomes.atTarget a y) o z) = h
+  asked-holds h (Outcomes.placed p) = h
+  asked-holds h (Outcomes.aimed t) = h
+
+  quiet-holds : {work : Work} {o : Outcome} → row7 work d ≡ false → Outcomes.Quiet d e sectors work o → o .drive .holding ≡ withHold (d .holding) (holdLeft work d e)
+  unfolding postedOn octet2Cleared ended
+  quiet-holds t (Outcomes.unsolicited (Outcomes.control n)) = refl
   quiet-holds t (Outcomes.unsolicited Outcomes.position) = refl
   quiet-holds t (Outcomes.unsolicited Outcomes.target) = refl
-  quiet-holds t (Outcomes.bad Outcomes.control b) = refl
-  quiet-holds t (Outcomes.bad Outcomes.position b) = refl
-  quiet-holds t (Outcomes.bad Outcomes.target b) = refl
-  quiet-holds t (Outcomes.stepped k) = refl
-  quiet-holds t (Outcomes.nothingToCome (Outcomes.inPlace a) w) = refl
-  quiet-holds t (Outcomes.nothingToCome (Outcomes.atTarget a z) w) = refl
-  quiet-holds t (Outcomes.opens (Outcomes.inPlace a) o z) = refl
-  quiet-holds t (Outcomes.opens (Outcomes.atTarget a y) o z) = refl
+  quiet-holds t (Outcomes.asked (Outcomes.afresh c z) x) = asked-holds refl x
+  quiet-holds t (Outcomes.asked (Outcomes.asItWas z) x) = asked-holds refl x
   quiet-holds t (Outcomes.takenLast high) = refl
   quiet-holds t (Outcomes.taken high z) = refl
   quiet-holds t (Outcomes.ends high) = refl
   quiet-holds t (Outcomes.exchanged low x) = exchange-leaves t x .holding
-  quiet-holds t (Outcomes.placed h) = refl
-  quiet-holds t (Outcomes.aimed h) = refl
   quiet-holds t Outcomes.statusTold = refl
 
   -- a word of data is not one of 01
@@ -146,15 +152,20 @@ data-control c h = by-test (isWrite (controlOf c)) refl h
     by-test false w h = read-is-data c h
 
 -- a control below 80 ends no transfer at once, and seeks no target
+asked-in-place : {d : Drive} {e : Event} {o : Outcome} → isData (e .a0) ≡ false → Outcomes.Asked d e DataControl o → o .drive .place .sector ≡ d .place .sector
+unfolding postedOn headStepped
+asked-in-place low (Outcomes.bad q b) = refl
+asked-in-place low (Outcomes.stepped k) = refl
+asked-in-place {e = e} low (Outcomes.nothingToCome q w) = absurd (true≢false (sym (data-control (e .a0) w) ∙ low))
+asked-in-place low (Outcomes.opens (Outcomes.inPlace a) o z) = refl
+asked-in-place {e = e} low (Outcomes.opens (Outcomes.atTarget a y) o z) = absurd (true≢false (sym a ∙ codes-in-place (e .a0) low o))
+
 control-stays : {d : Drive} {e : Event} {sectors : List ℕ} {o : Outcome} → isData (e .a0) ≡ false → Outcomes.Quiet d e sectors DataControl o
     → o .drive .place .sector ≡ d .place .sector
-unfolding postedOn headStepped
+unfolding postedOn octet2Cleared
 control-stays low (Outcomes.unsolicited q) = refl
-control-stays low (Outcomes.bad q b) = refl
-control-stays low (Outcomes.stepped k) = refl
-control-stays {e = e} low (Outcomes.nothingToCome q w) = absurd (true≢false (sym (data-control (e .a0) w) ∙ low))
-control-stays low (Outcomes.opens (Outcomes.inPlace a) o z) = refl
-control-stays {e = e} low (Outcomes.opens (Outcomes.atTarget a y) o z) = absurd (true≢false (sym a ∙ codes-in-place (e .a0) low o))
+control-stays low (Outcomes.asked (Outcomes.afresh c z) x) = asked-in-place low x
+control-stays low (Outcomes.asked (Outcomes.asItWas z) x) = asked-in-place low x
 
 out : {m : Machine} {at : Drive} → at .place .sector ≡ m .drive .place .sector → KeptOut m (machine at (m .sectors) (m .staging))
 out s = record { sectors = refl; staging = refl; sector = s }
@@ -254,11 +265,17 @@ in-place : {d at : Drive} {c : ℕ} → isData c ≡ false → (takesWords (cont
 in-place low w (Outcomes.inPlace a) = refl
 in-place {c = c} low w (Outcomes.atTarget a z) = absurd (true≢false (sym a ∙ codes-in-place c low w))
 
+as-opened : {d at : Drive} {e : Event} → Outcomes.Heard d e DataControl at → at ≡ asOpened e d
+unfolding pick
+as-opened (Outcomes.afresh (Outcomes.control n) z) = rw n
+as-opened (Outcomes.asItWas z) = rw z
+
 pub command-cut-short : CommandCutShort
 command-cut-short m opening cut n k place way words low o which w h =
     let first = opened m opening o .0 in
-    let here = in-place low (first .opens) (first .sought) in
-    let come : wordsToCome (m .drive .setup) (opening .a0) ≡ n = subst (λ (d : Drive). wordsToCome (d .setup) (opening .a0) ≡ n) here (first .words) in
-    words-passed way (Inside (m .drive) (opening .a0)) (λ short. Cuts short cut → Alone cut (m .drive) (answerTo short cut) (after short cut)) n
-    (cut-alone (m .drive) (opening .a0) n low come cut) (one-word (m .drive) (opening .a0) n low come which) 0 (after m opening)
+    let d = asOpened opening (m .drive) in
+    let here = in-place low (first .opens) (first .sought) ∙ as-opened (first .heard) in
+    let come : wordsToCome (d .setup) (opening .a0) ≡ n = subst (λ (d : Drive). wordsToCome (d .setup) (opening .a0) ≡ n) here (first .words) in
+    words-passed way (Inside d (opening .a0)) (λ short. Cuts short cut → Alone cut d (answerTo short cut) (after short cut)) n
+    (cut-alone d (opening .a0) n low come cut) (one-word d (opening .a0) n low come which) 0 (after m opening)
     (record { kept = noParameters; drive = first .drive ∙ ap (λ (d : Drive). withTransfer d (transferring (opening .a0) 0)) here }) w (omega arith)

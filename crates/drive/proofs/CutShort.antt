@@ -9,12 +9,13 @@ use native.Mathlib.Omega.{arith}
 use borrow.Author.Tests.{eqb-true}
 use Rattle.laws.proofs.Pick.{either, cases}
 use Rattle.parts.specs.Control.{controlOf, takesWords, givesWords, isData, wordsToCome}
-use Rattle.parts.specs.Kind.{Kind, Select, Deselect, Use, Reset, Unknown, Work, WordFromHost, End, kindOf}
+use Rattle.parts.specs.Kind.{Kind, Select, Deselect, Use, Reset, Unknown, Work, DataControl, WordFromHost, End, kindOf}
 use Rattle.parts.specs.Tests.{transferring, isTaking}
 use Rattle.parts.specs.declared.setup.Place.{Place}
 use Rattle.parts.specs.declared.event.Event.{Event}
 use Rattle.drive.specs.State.{Result, withTransfer, postedOn}
 use Rattle.drive.specs.Drive.{selected, deselected, afterReset, headStepped, closed, ended}
+use Rattle.drive.specs.Request.{octet2Cleared}
 use Rattle.drive.specs.Command.{parameterSent, wordFromHost, endedEarly}
 use Rattle.drive.specs.Answer.{paper}
 use Rattle.drive.specs.Transfer.{wordStaged, staged}
@@ -57,8 +58,10 @@ not-opened {place = place} h o =
 
 -- what was open then, and where
 pub record Opening (d : Drive) (e : Event) (n : ℕ) (next : Drive) : Type 0 where
+  pub hearing : Drive
   pub at : Drive
-  pub sought : Outcomes.Sought d (e .a0) at
+  pub heard : Outcomes.Heard d e DataControl hearing
+  pub sought : Outcomes.Sought hearing (e .a0) at
   pub opens : (takesWords (controlOf (e .a0)) || givesWords (controlOf (e .a0))) ≡ true
   pub words : wordsToCome (at .setup) (e .a0) ≡ n
   pub drive : next ≡ withTransfer at (transferring (e .a0) 0)
@@ -66,7 +69,7 @@ pub record Opening (d : Drive) (e : Event) (n : ℕ) (next : Drive) : Type 0 whe
 opened-there : {d : Drive} {e : Event} {sectors : List ℕ} {work : Work} {o : Outcome} {n : ℕ} {place : Place} → Outcomes.Told d e sectors work o
     → o .answer ≡ Opened n place → Opening d e n (o .drive)
 unfolding paper
-opened-there (Outcomes.anOpening q w) h = record { at = _; sought = q; opens = w; words = cc; drive = refl }
+opened-there (Outcomes.anOpening a q w) h = record { hearing = _; at = _; heard = a; sought = q; opens = w; words = cc; drive = refl }
 opened-there (Outcomes.aWord high w p r) h = absurd (not-opened p h)
 opened-there (Outcomes.aResponseWord low w p r) h = absurd (not-opened p h)
 opened-there Outcomes.aResponse h = absurd (not-opened refl h)
@@ -122,6 +125,7 @@ over-on : {n j : ℕ} {sectors : List ℕ} (m : Machine) (e : Event) → isWrite
 over-on {n} {j} {sectors} m e w s t = by-outcome (Outcomes.work-done (m .drive) e (m .sectors) (m .staging) WordFromHost)
   where
     by-outcome : {r : Result} → Outcomes.WorkDone (m .drive) e (m .sectors) (m .staging) WordFromHost r → Unfinished n j sectors (left r)
+    by-outcome (Outcomes.quiet (Outcomes.asked h (Outcomes.bad q b))) = absurd (false≢true (Outcomes.request-clears q))
     by-outcome (Outcomes.quiet (Outcomes.exchanged low x)) = over (exchange-closed low x) s
     by-outcome (Outcomes.miscompared high) = never-sent (m .drive) w high t
     by-outcome (Outcomes.completed high z) = never-sent (m .drive) w high t
@@ -169,20 +173,26 @@ cut-by m e (byEnd z a) =
 cut-by m e (byTakeover z a) = accepted-by (λ answer next. Left m next) Select m e z a (λ p. record { sectors = refl; closed = no-write })
 cut-by m e (byReset z a) = accepted-by (λ answer next. Left m next) Reset m e z a (λ p. record { sectors = refl; closed = no-write })
 
-quiet-closed : {d : Drive} {e : Event} {sectors : List ℕ} {work : Work} {o : Outcome} → isWriteOpen (d .transfer) ≡ false → Outcomes.Quiet d e sectors work o
+asked-closed : {d : Drive} {e : Event} {work : Work} {o : Outcome} → isWriteOpen (d .transfer) ≡ false → Outcomes.Asked d e work o
     → opensWrite e (o .answer) ≡ false → isWriteOpen (o .drive .transfer) ≡ false
 unfolding postedOn headStepped ended
+asked-closed c (Outcomes.bad q b) n = c
+asked-closed c (Outcomes.stepped k) n = c
+asked-closed c (Outcomes.nothingToCome q w) n = no-write
+asked-closed c (Outcomes.opens q o z) n = n
+asked-closed c (Outcomes.placed h) n = c
+asked-closed c (Outcomes.aimed h) n = c
+
+quiet-closed : {d : Drive} {e : Event} {sectors : List ℕ} {work : Work} {o : Outcome} → isWriteOpen (d .transfer) ≡ false → Outcomes.Quiet d e sectors work o
+    → opensWrite e (o .answer) ≡ false → isWriteOpen (o .drive .transfer) ≡ false
+unfolding postedOn octet2Cleared ended
 quiet-closed c (Outcomes.unsolicited q) n = c
-quiet-closed c (Outcomes.bad q b) n = c
-quiet-closed c (Outcomes.stepped k) n = c
-quiet-closed c (Outcomes.nothingToCome q w) n = no-write
-quiet-closed c (Outcomes.opens q o z) n = n
+quiet-closed c (Outcomes.asked (Outcomes.afresh f z) x) n = asked-closed c x n
+quiet-closed c (Outcomes.asked (Outcomes.asItWas z) x) n = asked-closed c x n
 quiet-closed c (Outcomes.takenLast high) n = no-write
 quiet-closed c (Outcomes.taken high z) n = c
 quiet-closed c (Outcomes.ends high) n = no-write
 quiet-closed c (Outcomes.exchanged low x) n = exchange-closed low x
-quiet-closed c (Outcomes.placed h) n = c
-quiet-closed c (Outcomes.aimed h) n = c
 quiet-closed c Outcomes.statusTold n = c
 
 work-closed : {d : Drive} {e : Event} {sectors staging : List ℕ} {work : Work} {r : Result} → isWriteOpen (d .transfer) ≡ false → row7 work d ≡ false

@@ -28,8 +28,8 @@ use Rattle.drive.proofs.Outcomes
 
 -- ---- what each kind answers
 
-request-answers : {work : Work} {status : ℕ} → Outcomes.Request work → oneOf requestStatuses status ≡ true → Accepted (Use work) (Status status)
-request-answers Outcomes.control h = every.controlled h
+request-answers : {work : Work} {e : Event} {status : ℕ} → Outcomes.Request e work → oneOf requestStatuses status ≡ true → Accepted (Use work) (Status status)
+request-answers (Outcomes.control n) h = every.controlled h
 request-answers Outcomes.position h = every.positioned h
 request-answers Outcomes.target h = every.targeted h
 
@@ -41,18 +41,21 @@ exchange-answers (Outcomes.tells z) = every.taken
 exchange-answers (Outcomes.tellsLast z) = every.lastTaken
 exchange-answers Outcomes.cut = every.ended
 
+asked-answers : {d : Drive} {e : Event} {work : Work} {o : Outcome} → Outcomes.Asked d e work o → Accepted (Use work) (o .answer)
+asked-answers (Outcomes.bad q b) = request-answers q refl
+asked-answers (Outcomes.stepped k) = every.controlled refl
+asked-answers (Outcomes.nothingToCome q w) = every.controlled refl
+asked-answers (Outcomes.opens q o z) = every.opened
+asked-answers (Outcomes.placed h) = every.positioned refl
+asked-answers (Outcomes.aimed h) = every.targeted refl
+
 quiet-answers : {d : Drive} {e : Event} {sectors : List ℕ} {work : Work} {o : Outcome} → Outcomes.Quiet d e sectors work o → Accepted (Use work) (o .answer)
 quiet-answers (Outcomes.unsolicited q) = request-answers q refl
-quiet-answers (Outcomes.bad q b) = request-answers q refl
-quiet-answers (Outcomes.stepped k) = every.controlled refl
-quiet-answers (Outcomes.nothingToCome q w) = every.controlled refl
-quiet-answers (Outcomes.opens q o z) = every.opened
+quiet-answers (Outcomes.asked h x) = asked-answers x
 quiet-answers (Outcomes.takenLast high) = every.lastTaken
 quiet-answers (Outcomes.taken high z) = every.taken
 quiet-answers (Outcomes.ends high) = every.ended
 quiet-answers (Outcomes.exchanged low x) = exchange-answers x
-quiet-answers (Outcomes.placed h) = every.positioned refl
-quiet-answers (Outcomes.aimed h) = every.targeted refl
 quiet-answers Outcomes.statusTold = every.statusRead
 
 done-answers : {d : Drive} {e : Event} {sectors staging : List ℕ} {work : Work} {r : Result} → Outcomes.WorkDone d e sectors staging work r

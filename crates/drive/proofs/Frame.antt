@@ -117,5 +117,5 @@ frame =
       commit = commit-frame;
       staging = λ m e. by-cases (λ answer next. StagingFrame m e (next .staging)) m e (λ n z. asItWas refl) (λ k z p. staging-by k m e z p);
       pending = λ m e port real octets.
-          by-cases (λ answer next. PendingFrame m e port (pendingOn (next .drive) port)) m e (λ n z. kept (λ bit o s. s) (λ bit o s. s)) (λ k z p. pending-by m e port real octets k z p);
+          by-cases (λ answer next. PendingFrame m e port answer (pendingOn (next .drive) port)) m e (λ n z. kept (λ bit o s. s) (λ bit o s. s)) (λ k z p. pending-by m e port real octets k z p);
     }

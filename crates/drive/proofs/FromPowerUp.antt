@@ -30,7 +30,10 @@ use Rattle.drive.specs.Able.{Passable, ReadsAt}
 use Rattle.drive.specs.Run.{Machine, machine, answerTo, answers, final}
 use Rattle.drive.specs.Journal.{journal, lastWrite, AllWhole}
 use Rattle.drive.specs.Standing.{Standing, OpeningTold, OpeningFollows}
+use Rattle.drive.specs.State.{postedOn}
+use Rattle.drive.specs.Request.{octet2Cleared}
 use Rattle.drive.specs.Command.{wordsTold}
+use Rattle.drive.specs.declared.answer.Answer.the-variants.{Opened}
 use Rattle.drive.specs.Reading.{offsetOf, nextAddress, WordTold, ofRead, ofResponse, WordFollows}
 use Rattle.drive.specs.declared.drive.Drive.{Drive}
 use Rattle.drive.specs.declared.answer.Outcome.{Outcome}
@@ -39,6 +42,7 @@ use Rattle.drive.proofs.SoundPlace.{at-target-kept}
 use Rattle.drive.proofs.Own.{able-to-read}
 use Rattle.drive.proofs.Reading.{at-header, at-field1, at-field2, read-in-place}
 use Rattle.drive.proofs.Laws.{by-cases, doneBy, AllPassed}
+use Rattle.drive.proofs.StaysSound.{heard-passable}
 use Rattle.drive.proofs.Along.{same-size-along}
 use Rattle.drive.proofs.Journal.{none-going, no-write, as-journalled, whole-from}
 use Rattle.drive.proofs.Standing.{standingOf, sought-there, sought-setup, stands-there}
@@ -51,17 +55,25 @@ unfolding atItsTarget
 sought-inside {d} p (Outcomes.inPlace a) = sound d (p .sound) .place
 sought-inside {d} p (Outcomes.atTarget a z) = at-target-kept (sound d (p .sound)) z .place
 
--- what an outcome tells of an opening, where the drive stood
-opening-told : {d : Drive} {e : Event} {sectors staging : List ℕ} {work : Work} {o : Outcome} → Passable d sectors staging → Outcomes.Told d e sectors work o
-    → (place : Place) → paper (o .answer) .place ≡ some place → OpeningTold (d .setup) (e .a0) (standingOf d) (paper (o .answer)) place
+-- what an opening tells, by the drive on which it is sought
+opening-sought : {d at : Drive} {c : ℕ} {sectors staging : List ℕ} → Passable d sectors staging → Outcomes.Sought d c at
+    → (place : Place) → paper (Opened (wordsToCome (at .setup) c) (at .place)) .place ≡ some place
+    → OpeningTold (d .setup) c (standingOf d) (paper (Opened (wordsToCome (at .setup) c) (at .place))) place
 unfolding paper
-opening-told {d} {e} p (Outcomes.anOpening {at = at} q w) place h =
+opening-sought {d} {at} {c} p q place h =
     let there : at .place ≡ place = cc in
     record {
       follows = sym there ∙ ap (λ (w : Standing). w .place) (sym (sought-there q));
       inside = subst (λ (x : Place). isPlace (d .setup) x ≡ true) there (sought-inside p q);
-      count = ap (λ (s : Setup). some (wordsToCome s (e .a0))) (sought-setup q);
+      count = ap (λ (s : Setup). some (wordsToCome s c)) (sought-setup q);
     }
+
+-- what an outcome tells of an opening, where the drive stood
+opening-told : {d : Drive} {e : Event} {sectors staging : List ℕ} {work : Work} {o : Outcome} → Passable d sectors staging → Outcomes.Told d e sectors work o
+    → (place : Place) → paper (o .answer) .place ≡ some place → OpeningTold (d .setup) (e .a0) (standingOf d) (paper (o .answer)) place
+unfolding paper octet2Cleared postedOn
+opening-told p (Outcomes.anOpening (Outcomes.afresh c z) q w) place h = opening-sought (heard-passable p (Outcomes.afresh c z)) q place h
+opening-told p (Outcomes.anOpening (Outcomes.asItWas z) q w) place h = opening-sought p q place h
 opening-told p (Outcomes.aWord high w n r) place h = absent n h
 opening-told p (Outcomes.aResponseWord low w n r) place h = absent n h
 opening-told p Outcomes.aResponse place h = absent refl h
@@ -117,7 +129,7 @@ word-at {d} {sectors} {staging} port word p high t e =
 word-told : {d : Drive} {e : Event} {sectors staging : List ℕ} {work : Work} {o : Outcome} → Passable d sectors staging → row7 work d ≡ false
     → Outcomes.Told d e sectors work o → (word : ℕ) → paper (o .answer) .word ≡ some word → Taken (machine d sectors staging) (e .port) word
 unfolding paper
-word-told p t (Outcomes.anOpening q w) word h = absent refl h
+word-told p t (Outcomes.anOpening a q w) word h = absent refl h
 word-told {d} {e} {sectors} p t (Outcomes.aWord high w n r) word h = let it : word ≡ Outcomes.wordAt d sectors = cc in word-at (e .port) word p high t it
 word-told {d} {e} p t (Outcomes.aResponseWord low w n r) word h =
     let it : word ≡ Outcomes.responseAt d (e .port) = cc in

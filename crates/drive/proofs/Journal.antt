@@ -23,9 +23,10 @@ use Rattle.parts.specs.Kind.{Kind, Select, Deselect, Use, Reset, Unknown, Work,
 use Rattle.drive.specs.State.{Result, withPlace, withTransfer, postedOn}
 use Rattle.parts.specs.Tests.{movedOn, noTransfer, isTaking, isGiving}
 use Rattle.drive.specs.Drive.{selected, deselected, afterReset, reserved, unreserved, priorityReserved, headStepped, closed, ended}
+use Rattle.drive.specs.Request.{octet2Cleared}
 use Rattle.drive.specs.Command.{statusCleared}
 use Rattle.drive.specs.Transfer.{committed}
-use Rattle.drive.specs.Refusal.{row7}
+use Rattle.drive.specs.Refusal.{row7, isOneOpen}
 use Rattle.drive.specs.Able.{Passable}
 use Rattle.drive.specs.Run.{Machine, machine, answerTo, after, answers, final}
 use Rattle.drive.specs.Accepted.{isRefused}
@@ -99,10 +100,16 @@ low-not-write t low = writes-take (t .control) ∙ rw low (and-false (isTaking t
 -- ---- kinds 3 to 9
 
 -- kinds 3, 7 and 8 that were stopped or bad leave the page as it was
-request-noted : {work : Work} → Outcomes.Request work → (e : Event) (told : Paper) (going : Option Write) → told .place ≡ none → noted (Use work) e told going ≡ page going []
-request-noted Outcomes.control e told going h = rw h
-request-noted Outcomes.position e told going h = refl
-request-noted Outcomes.target e told going h = refl
+request-noted : {work : Work} {e : Event} → Outcomes.Request e work → (told : Paper) (going : Option Write) → told .place ≡ none → noted (Use work) e told going ≡ page going []
+request-noted (Outcomes.control n) told going h = rw h
+request-noted Outcomes.position told going h = refl
+request-noted Outcomes.target told going h = refl
+
+-- nothing is open where they are let pass
+request-idle : {work : Work} {e : Event} (d : Drive) → Outcomes.Request e work → row7 work d ≡ false → isOneOpen d ≡ false
+request-idle d (Outcomes.control n) t = t
+request-idle d Outcomes.position t = t
+request-idle d Outcomes.target t = t
 
 -- where no write is open before and after
 still-none : (d d′ : Drive) (staging : List ℕ) → isWriteOpen (d .transfer) ≡ false → isWriteOpen (d′ .transfer) ≡ false
@@ -149,21 +156,27 @@ exchange-noted : {d : Drive} {e : Event} {work : Work} {o : Outcome} (staging : 
 exchange-noted {d} {o = o} staging low x =
     rw (none-going d staging (low-not-write (d .transfer) low), none-going (o .drive) staging (exchange-closed low x)) (nothing-noted x (paper (o .answer)))
 
-quiet-noted : {d : Drive} {e : Event} {sectors : List ℕ} {work : Work} {o : Outcome} (staging : List ℕ) → row7 work d ≡ false → Outcomes.Quiet d e sectors work o
+asked-noted : {d : Drive} {e : Event} {work : Work} {o : Outcome} (staging : List ℕ) → isOneOpen d ≡ false → Outcomes.Asked d e work o
     → noted (Use work) e (paper (o .answer)) (goingOn d staging) ≡ page (goingOn (o .drive) staging) []
 unfolding paper goingOn postedOn headStepped ended
-quiet-noted {d} {e} staging t (Outcomes.unsolicited q) = request-noted q e _ (goingOn d staging) refl
-quiet-noted {d} {e} staging t (Outcomes.bad q b) = request-noted q e _ (goingOn d staging) refl
-quiet-noted {d} staging t (Outcomes.stepped k) = still-none d (headStepped d) staging (not-written d t) (not-written d t)
-quiet-noted {d} staging t (Outcomes.nothingToCome {at = at} q w) = still-none d (ended at) staging (not-written d t) no-write
-quiet-noted {d} staging t (Outcomes.opens q o z) = refl
+asked-noted {d} staging t (Outcomes.bad q b) = request-noted q _ (goingOn d staging) refl
+asked-noted {d} staging t (Outcomes.stepped k) = still-none d (headStepped d) staging (not-written d t) (not-written d t)
+asked-noted {d} staging t (Outcomes.nothingToCome {at = at} q w) = still-none d (ended at) staging (not-written d t) no-write
+asked-noted {d} staging t (Outcomes.opens q o z) = refl
+asked-noted {d} {e} staging t (Outcomes.placed h) = still-none d (withPlace d (placeOf e)) staging (not-written d t) (not-written d t)
+asked-noted {d} staging t (Outcomes.aimed h) = refl
+
+quiet-noted : {d : Drive} {e : Event} {sectors : List ℕ} {work : Work} {o : Outcome} (staging : List ℕ) → row7 work d ≡ false → Outcomes.Quiet d e sectors work o
+    → noted (Use work) e (paper (o .answer)) (goingOn d staging) ≡ page (goingOn (o .drive) staging) []
+unfolding paper goingOn postedOn octet2Cleared ended
+quiet-noted {d} staging t (Outcomes.unsolicited q) = request-noted q _ (goingOn d staging) refl
+quiet-noted {d} staging t (Outcomes.asked (Outcomes.afresh q z) x) = asked-noted staging (request-idle d q t) x
+quiet-noted staging t (Outcomes.asked (Outcomes.asItWas z) x) = asked-noted staging t x
 quiet-noted {d} staging t (Outcomes.takenLast high) = still-none d (ended d) staging (being-read d t) no-write
 quiet-noted {d} staging t (Outcomes.taken high z) =
     still-none d (withTransfer d (movedOn (d .transfer) (d .transfer .moved + 1))) staging (being-read d t) (being-read d t)
 quiet-noted staging t (Outcomes.exchanged low x) = exchange-noted staging low x
 quiet-noted {d} staging t (Outcomes.ends high) = ap (λ going. page going []) (sym (none-going (ended d) staging no-write))
-quiet-noted {d} {e} staging t (Outcomes.placed h) = still-none d (withPlace d (placeOf e)) staging (not-written d t) (not-written d t)
-quiet-noted {d} staging t (Outcomes.aimed h) = refl
 quiet-noted {d} staging t Outcomes.statusTold = refl
 
 -- ---- a completed write

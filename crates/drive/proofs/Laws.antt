@@ -14,6 +14,7 @@ use Rattle.parts.specs.Holding.{nobody, grantedTo, released, releasedFrom}
 use Rattle.parts.specs.Kind.{Kind, Select, Deselect, Use, Reset, Unknown, Work, kindOf}
 use Rattle.drive.specs.State.{Result, told, postedOn}
 use Rattle.drive.specs.Drive.{selected, deselected, afterReset, reserved, unreserved, priorityReserved, headStepped, atItsTarget, closed, ended}
+use Rattle.drive.specs.Request.{octet2Cleared}
 use Rattle.drive.specs.Command.{statusCleared}
 use Rattle.drive.specs.Answer.{normal}
 use Rattle.drive.specs.Refusal.{row11, row10, row1, row8, rowsOf, rows, refusalOf}
@@ -119,21 +120,26 @@ exchange-stays (Outcomes.tells z) = as-it-was refl refl refl
 exchange-stays {d} {e} (Outcomes.tellsLast z) = either (λ (at : Drive). Stays d (told (LastWord (Outcomes.responseAt d (e .port))) at)) _ (as-it-was refl refl refl) (as-it-was refl refl refl)
 exchange-stays Outcomes.cut = as-it-was refl refl refl
 
-quiet-stays : {d : Drive} {e : Event} {sectors : List ℕ} {work : Work} {o : Outcome} → Outcomes.Quiet d e sectors work o → Stays d o
+asked-stays : {d : Drive} {e : Event} {work : Work} {o : Outcome} → Outcomes.Asked d e work o → Stays d o
 unfolding postedOn headStepped atItsTarget ended
+asked-stays (Outcomes.bad q b) = as-it-was refl refl refl
+asked-stays (Outcomes.stepped k) = as-it-was refl refl refl
+asked-stays (Outcomes.nothingToCome (Outcomes.inPlace a) w) = as-it-was refl refl refl
+asked-stays (Outcomes.nothingToCome (Outcomes.atTarget a t) w) = as-it-was refl refl refl
+asked-stays (Outcomes.opens (Outcomes.inPlace a) o z) = as-it-was refl refl refl
+asked-stays (Outcomes.opens (Outcomes.atTarget a t) o z) = as-it-was refl refl refl
+asked-stays (Outcomes.placed p) = as-it-was refl refl refl
+asked-stays (Outcomes.aimed t) = as-it-was refl refl refl
+
+quiet-stays : {d : Drive} {e : Event} {sectors : List ℕ} {work : Work} {o : Outcome} → Outcomes.Quiet d e sectors work o → Stays d o
+unfolding postedOn octet2Cleared ended
 quiet-stays (Outcomes.unsolicited q) = as-it-was refl refl refl
-quiet-stays (Outcomes.bad q b) = as-it-was refl refl refl
-quiet-stays (Outcomes.stepped k) = as-it-was refl refl refl
-quiet-stays (Outcomes.nothingToCome (Outcomes.inPlace a) w) = as-it-was refl refl refl
-quiet-stays (Outcomes.nothingToCome (Outcomes.atTarget a t) w) = as-it-was refl refl refl
-quiet-stays (Outcomes.opens (Outcomes.inPlace a) o z) = as-it-was refl refl refl
-quiet-stays (Outcomes.opens (Outcomes.atTarget a t) o z) = as-it-was refl refl refl
+quiet-stays (Outcomes.asked (Outcomes.afresh c z) x) = let s = asked-stays x in record { setup = s .setup; selected = s .selected; owner = s .owner; answered = s .answered }
+quiet-stays (Outcomes.asked (Outcomes.asItWas z) x) = asked-stays x
 quiet-stays (Outcomes.takenLast high) = as-it-was refl refl refl
 quiet-stays (Outcomes.taken high z) = as-it-was refl refl refl
 quiet-stays (Outcomes.ends high) = as-it-was refl refl refl
 quiet-stays (Outcomes.exchanged low x) = exchange-stays x
-quiet-stays (Outcomes.placed p) = as-it-was refl refl refl
-quiet-stays (Outcomes.aimed t) = as-it-was refl refl refl
 quiet-stays Outcomes.statusTold = as-it-was refl refl refl
 
 work-stays : {d : Drive} {e : Event} {sectors staging : List ℕ} {work : Work} {r : Result} → Outcomes.WorkDone d e sectors staging work r → Stays d (r .outcome)

@@ -9,6 +9,7 @@ pub mod Outcomes
 pub mod Laws
 pub mod SoundPlace
 pub mod SoundHolding
+pub mod Cleared
 pub mod Pendings
 pub mod Posted
 pub mod Frame
@@ -31,5 +32,6 @@ pub mod Computing
 pub mod CommandCases
 pub mod Commands
 pub mod CommandRuns
+pub mod IgnoredCases
 pub mod WrongAnswers
 pub mod WrongRuns

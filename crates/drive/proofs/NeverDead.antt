@@ -31,7 +31,7 @@ use Rattle.parts.specs.declared.pending.Pending.{Pending}
 use Rattle.drive.specs.Answer.{normal}
 use Rattle.drive.specs.State.{withPlace, withTransfer, pendingOn, postedOn, told, Result, result}
 use Rattle.drive.specs.Drive.{ownerNoticed, selected, afterReset, ended}
-use Rattle.drive.specs.Request.{opened, opening, dataControl, positioned, statusRead}
+use Rattle.drive.specs.Request.{octet2Cleared, opened, opening, dataControl, positioned, statusRead}
 use Rattle.drive.specs.Refusal.{row8, isOneOpen, row7, ownRows}
 use Rattle.drive.specs.Transfer.{miscompares, committed, staged, wordStaged}
 use Rattle.drive.specs.Command.{wordFromHost}
@@ -48,6 +48,7 @@ use Rattle.drive.specs.declared.answer.Answer.the-variants.{Done, Status
 use Rattle.parts.proofs.Bounds.{limits}
 use Rattle.drive.proofs.Sound.{sound, unsound, room}
 use Rattle.drive.proofs.SoundPlace.{place-kept}
+use Rattle.drive.proofs.Cleared.{nothing-to-clear}
 use Rattle.drive.proofs.Step.{handled-by-kind}
 use Rattle.drive.proofs.Laws.{doneBy, left}
 use Rattle.drive.proofs.StaysSound.{sound-after}
@@ -152,26 +153,34 @@ module _ (m : Machine) (port : ℕ) (real : port ≤ 1) (s : IsSound m) where
   unfolding there ready granted selected grantedTo postedOn pendingOn controlOf codeOf pick
   is-ready p = record { selected = refl; idle = refl; quiet = ap (λ (q : Pending). q .octet1) nothing-pending }
 
+  already-clear : (p : Place) → octet2Cleared (there m port p) port ≡ there m port p
+  unfolding there ready postedOn pendingOn
+  already-clear p = nothing-to-clear (there m port p) port (ap (λ (q : Pending). q .octet2) nothing-pending)
+
 -- ---- Position and the data control
 
 module _ {m : Machine} {port : ℕ} (real : port ≤ 1) (s : IsSound m) (r : Ready (m .drive) port) where
-  position-told : (p : Place) → isPlace (m .drive .setup) p ≡ true → positioned (m .drive) port p ≡ told (Status normal) (withPlace (m .drive) p)
-  unfolding positioned pick
-  position-told p h = rw (r .quiet, h)
+  -- the drive that they are requests to
+  abbrev heard : Drive
+  heard = octet2Cleared (m .drive) port
 
-  pub position-does : (p : Place) → isPlace (m .drive .setup) p ≡ true → Does m (positionSent port p) (quietly m (told (Status normal) (withPlace (m .drive) p)))
+  position-told : (p : Place) → isPlace (m .drive .setup) p ≡ true → positioned (m .drive) port p ≡ told (Status normal) (withPlace heard p)
+  unfolding positioned octet2Cleared postedOn pick
+  position-told p h = rw (eq-eqb (pendingOn (m .drive) port .octet1) 0 (r .quiet), h)
+
+  pub position-does : (p : Place) → isPlace (m .drive .setup) p ≡ true → Does m (positionSent port p) (quietly m (told (Status normal) (withPlace heard p)))
   unfolding kindOf pick
   position-does p h =
       work-does Position s real refl refl (r .selected) (r .idle) (rw (div-add-mod' (p .cylinder) 256) (ap (quietly m) (position-told p h)))
 
   opens : Outcome
-  opens = told (Opened (sectorWords (m .drive .setup)) (m .drive .place)) (withTransfer (m .drive) (transferring wholeSector 0))
+  opens = told (Opened (sectorWords (m .drive .setup)) (m .drive .place)) (withTransfer heard (transferring wholeSector 0))
 
   control-told : dataControl (m .drive) port wholeSector ≡ opens
-  unfolding opens dataControl opening opened controlOf dataWords wordsToCome headerPasses pick
+  unfolding opens dataControl opening opened controlOf dataWords wordsToCome headerPasses octet2Cleared postedOn pick
   control-told =
       let l = limits (m .drive .setup) (sound (m .drive) (s .sound) .limits) in
-      rw (r .quiet, ne-eqb (sectorWords (m .drive .setup)) 0 (λ e. omega arith))
+      rw (eq-eqb (pendingOn (m .drive) port .octet1) 0 (r .quiet), ne-eqb (sectorWords (m .drive .setup)) 0 (λ e. omega arith))
 
   control-does : Does m (sent port 3 wholeSector 0) (quietly m opens)
   unfolding kindOf pick
@@ -249,8 +258,12 @@ whole-run m port p [] q = let l = limits (m .drive .setup) (sound (m .drive) (q 
 whole-run m port p (word ∷ later) q =
     let status = status-does m port (q .real) (q .sound) in
     let r = is-ready m port (q .real) (q .sound) in
-    let position = position-does (q .real) (status .sound) (r (ready m port .place)) p (q .inside) in
-    let control = control-does (q .real) (position .sound) (r p) in
+    let clear = already-clear m port (q .real) (q .sound) in
+    let position : Does (withDrive m (ready m port)) (positionSent port p) (quietly m (told (Status normal) (there m port p))) =
+        rw (clear (ready m port .place)) at (position-does (q .real) (status .sound) (r (ready m port .place)) p (q .inside)) in
+    let control : Does (withDrive m (there m port p)) (sent port 3 wholeSector 0)
+        (quietly m (told (Opened (sectorWords (m .drive .setup)) p) (withTransfer (there m port p) (transferring wholeSector 0)))) =
+        rw (clear p) at (control-does (q .real) (position .sound) (r p)) in
     let count : sectorWords (m .drive .setup) - 1 ≡ length later = omega (arith, q .whole) in
     rw count
     (follows (reset-does m port (q .real) (q .sound))

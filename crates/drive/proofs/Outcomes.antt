@@ -19,11 +19,12 @@ use Rattle.drive.specs.Answer.{paper, normal, headerMiscompare, operatio
 use Rattle.drive.specs.State.{atPlace, withPlace, withTarget, withTransfer, pendingOn, postedOn, told, Result, result}
 use Rattle.parts.specs.Tests.{transferring, movedOn}
 use Rattle.drive.specs.Drive.{reserved, unreserved, priorityReserved, headStepped, atItsTarget, closed, ended}
-use Rattle.drive.specs.Request.{unlessUnsolicited, badRequest, controlled, dataControl, opened, opening, positioned, targeted, statusRead}
+use Rattle.drive.specs.Request.{octet2Cleared, unlessUnsolicited, badRequest, controlled, dataControl, opened, opening, positioned, targeted, statusRead}
 use Rattle.drive.specs.Transfer.{committed, staged, wordStaged, wordTaken}
 use Rattle.drive.specs.Command.{withParameter, placeSought, targetSought, seeking, functioned, obeyed, parameterSent, wordsTold, statusCleared, responseTaken, wordFromHost, wordToHost, endedEarly}
 use Rattle.parts.specs.Kind.{Use, Work, DataControl, WordFromHost, TakeWord, End, Position, Target, ReadStatus, wordOf, placeOf}
 use Rattle.drive.specs.Event.{act}
+use Rattle.drive.specs.Frame.{clearsFirst}
 use Rattle.parts.specs.declared.control.Control.{Control}
 use Rattle.parts.specs.declared.control.Control.the-variants.{StepHead}
 use Rattle.parts.specs.declared.control.Control.the-variants as control-of
@@ -82,16 +83,38 @@ pub data Exchanged (d : Drive) (e : Event) : Work → Outcome → Type 0 where
 
 -- ---- all of them
 
--- kinds 3, 7 and 8, which an unsolicited exception stops and which can be bad requests
-pub data Request : Work → Type 0 where
-  control : Request DataControl
-  position : Request Position
-  target : Request Target
+-- kinds 3, 7 and 8 but for the code that reads status: what an unsolicited exception stops, what clears octet 2 and what can be bad
+pub data Request (e : Event) : Work → Type 0 where
+  control : eqb (e .a0) readStatus ≡ false → Request e DataControl
+  position : Request e Position
+  target : Request e Target
+
+pub request-clears : {e : Event} {work : Work} → Request e work → clearsFirst (Use work) e ≡ true
+request-clears (control n) = rw n
+request-clears position = refl
+request-clears target = refl
 
 -- the drive as a transfer opens on it: where it was, or at its target
 pub data Sought (d : Drive) (c : ℕ) : Drive → Type 0 where
   inPlace : isAtTarget c ≡ false → Sought d c d
   atTarget : isAtTarget c ≡ true → eqb (d .target) noTarget ≡ false → Sought d c (atItsTarget d)
+
+-- the drive that a request is one to: octet 2 of its port is cleared, but not by the code that reads status
+pub data Heard (d : Drive) (e : Event) : Work → Drive → Type 0 where
+  afresh : {work : Work} → Request e work → eqb (pendingOn d (e .port) .octet1) 0 ≡ true → Heard d e work (octet2Cleared d (e .port))
+  asItWas : eqb (e .a0) readStatus ≡ true → Heard d e DataControl d
+
+-- what a request does to the drive that it is one to
+pub data Asked (d : Drive) (e : Event) : Work → Outcome → Type 0 where
+  bad : {work : Work} {bit : ℕ} → Request e work → OneBit bit
+      → Asked d e work (told (Status operationException) (postedOn d (e .port) (faulted (pendingOn d (e .port)) bit)))
+  stepped : controlOf (e .a0) ≡ StepHead → Asked d e DataControl (told (Status normal) (headStepped d))
+  nothingToCome : {at : Drive} → Sought d (e .a0) at → (isWrite (controlOf (e .a0)) || isRead (controlOf (e .a0))) ≡ true
+      → Asked d e DataControl (told (Status normal) (ended at))
+  opens : {at : Drive} → Sought d (e .a0) at → (takesWords (controlOf (e .a0)) || givesWords (controlOf (e .a0))) ≡ true → eqb (wordsToCome (at .setup) (e .a0)) 0 ≡ false
+      → Asked d e DataControl (told (Opened (wordsToCome (at .setup) (e .a0)) (at .place)) (withTransfer at (transferring (e .a0) 0)))
+  placed : isPlace (d .setup) (placeOf e) ≡ true → Asked d e Position (told (Status normal) (withPlace d (placeOf e)))
+  aimed : isTarget (d .setup) (wordOf e) ≡ true → Asked d e Target (told (Status normal) (withTarget d (wordOf e)))
 
 -- the next word of an open read
 abbrev pub wordAt : Drive → List ℕ → ℕ
@@ -99,21 +122,13 @@ wordAt d sectors = getD (wordsRead (d .setup) (d .transfer .control) (sectorAt (
 
 -- what leaves the lent words as they were
 pub data Quiet (d : Drive) (e : Event) (sectors : List ℕ) : Work → Outcome → Type 0 where
-  unsolicited : {work : Work} → Request work → Quiet d e sectors work (told (Status unsolicitedException) d)
-  bad : {work : Work} {bit : ℕ} → Request work → OneBit bit
-      → Quiet d e sectors work (told (Status operationException) (postedOn d (e .port) (faulted (pendingOn d (e .port)) bit)))
-  stepped : controlOf (e .a0) ≡ StepHead → Quiet d e sectors DataControl (told (Status normal) (headStepped d))
-  nothingToCome : {at : Drive} → Sought d (e .a0) at → (isWrite (controlOf (e .a0)) || isRead (controlOf (e .a0))) ≡ true
-      → Quiet d e sectors DataControl (told (Status normal) (ended at))
-  opens : {at : Drive} → Sought d (e .a0) at → (takesWords (controlOf (e .a0)) || givesWords (controlOf (e .a0))) ≡ true → eqb (wordsToCome (at .setup) (e .a0)) 0 ≡ false
-      → Quiet d e sectors DataControl (told (Opened (wordsToCome (at .setup) (e .a0)) (at .place)) (withTransfer at (transferring (e .a0) 0)))
+  unsolicited : {work : Work} → Request e work → Quiet d e sectors work (told (Status unsolicitedException) d)
+  asked : {at : Drive} {work : Work} {o : Outcome} → Heard d e work at → Asked at e work o → Quiet d e sectors work o
   takenLast : isData (d .transfer .control) ≡ true → Quiet d e sectors TakeWord (told (LastWord (wordAt d sectors)) (ended d))
   taken : isData (d .transfer .control) ≡ true → eqb (d .transfer .moved + 1) (wordsToCome (d .setup) (d .transfer .control)) ≡ false
       → Quiet d e sectors TakeWord (told (Word (wordAt d sectors)) (withTransfer d (movedOn (d .transfer) (d .transfer .moved + 1))))
   ends : isData (d .transfer .control) ≡ true → Quiet d e sectors End (told (Status normal) (ended d))
   exchanged : {work : Work} {o : Outcome} → isData (d .transfer .control) ≡ false → Exchanged d e work o → Quiet d e sectors work o
-  placed : isPlace (d .setup) (placeOf e) ≡ true → Quiet d e sectors Position (told (Status normal) (withPlace d (placeOf e)))
-  aimed : isTarget (d .setup) (wordOf e) ≡ true → Quiet d e sectors Target (told (Status normal) (withTarget d (wordOf e)))
   statusTold : Quiet d e sectors ReadStatus
       (told (Response (octet0 (pendingOn d (e .port))) (pendingOn d (e .port) .octet1) (pendingOn d (e .port) .octet2)) (postedOn d (e .port) nothingPending))
 
@@ -139,40 +154,40 @@ pub code-words-come : (s : Setup) (c : ℕ) → isData c ≡ false → (takesWor
 unfolding wordsToCome pick
 code-words-come s c low w = rw low (not-true (eqb (parameterWords c) 0) (sym (codes-open c low) ∙ w))
 
-module _ (d : Drive) (e : Event) (sectors staging : List ℕ) where
+module _ (d : Drive) (e : Event) where
   data-opened : {at : Drive} → Sought d (e .a0) at → (isWrite (controlOf (e .a0)) || isRead (controlOf (e .a0))) ≡ true
-      → (takesWords (controlOf (e .a0)) || givesWords (controlOf (e .a0))) ≡ true → Quiet d e sectors DataControl (opened at (e .a0))
+      → (takesWords (controlOf (e .a0)) || givesWords (controlOf (e .a0))) ≡ true → Asked d e DataControl (opened at (e .a0))
   unfolding opened
-  data-opened {at} q o w =
-      cases (Quiet d e sectors DataControl) (eqb (wordsToCome (at .setup) (e .a0)) 0) (λ z. nothingToCome q o) (λ z. opens q w z)
+  data-opened {at} q o w = cases (Asked d e DataControl) (eqb (wordsToCome (at .setup) (e .a0)) 0) (λ z. nothingToCome q o) (λ z. opens q w z)
 
-  data-sought : (isWrite (controlOf (e .a0)) || isRead (controlOf (e .a0))) ≡ true → (takesWords (controlOf (e .a0)) || givesWords (controlOf (e .a0))) ≡ true
-      → Quiet d e sectors DataControl (opening d (e .port) (e .a0))
+  data-sought : eqb (e .a0) readStatus ≡ false → (isWrite (controlOf (e .a0)) || isRead (controlOf (e .a0))) ≡ true → (takesWords (controlOf (e .a0)) || givesWords (controlOf (e .a0))) ≡ true
+      → Asked d e DataControl (opening d (e .port) (e .a0))
   unfolding opening badRequest
-  data-sought o w =
-      cases (Quiet d e sectors DataControl) (isAtTarget (e .a0))
-      (λ a. cases (Quiet d e sectors DataControl) (eqb (d .target) noTarget) (λ z. bad control bit4) (λ z. data-opened (atTarget a z) o w))
+  data-sought n o w =
+      cases (Asked d e DataControl) (isAtTarget (e .a0))
+      (λ a. cases (Asked d e DataControl) (eqb (d .target) noTarget) (λ z. bad (control n) bit4) (λ z. data-opened (atTarget a z) o w))
       (λ a. data-opened (inPlace a) o w)
 
   -- a code below 80 has words to come, and is not at the target
-  code-opened : isData (e .a0) ≡ false → (takesWords (controlOf (e .a0)) || givesWords (controlOf (e .a0))) ≡ true → Quiet d e sectors DataControl (opened d (e .a0))
+  code-opened : isData (e .a0) ≡ false → (takesWords (controlOf (e .a0)) || givesWords (controlOf (e .a0))) ≡ true → Asked d e DataControl (opened d (e .a0))
   unfolding opened pick
   code-opened low w = rw (code-words-come (d .setup) (e .a0) low w) (opens (inPlace (codes-in-place (e .a0) low w)) w (code-words-come (d .setup) (e .a0) low w))
 
-  control-done : (k : Control) → controlOf (e .a0) ≡ k → Quiet d e sectors DataControl (controlled k d (e .port) (e .a0))
+  control-done : eqb (e .a0) readStatus ≡ false → (k : Control) → controlOf (e .a0) ≡ k → Asked d e DataControl (controlled k d (e .port) (e .a0))
   unfolding badRequest
-  control-done control-of.Write q = data-sought (rw q) (rw q)
-  control-done control-of.Read q = data-sought (rw q) (rw q)
-  control-done control-of.Command q = code-opened (command-low (e .a0) q) (rw q)
-  control-done control-of.Response q = code-opened (response-low (e .a0) q) (rw q)
-  control-done control-of.StepHead q = stepped q
-  control-done control-of.Reserved q = bad control bit7
-  control-done control-of.Unsupported q = bad control bit5
-  control-done control-of.Invalid q = bad control bit7
+  control-done n control-of.Write q = data-sought n (rw q) (rw q)
+  control-done n control-of.Read q = data-sought n (rw q) (rw q)
+  control-done n control-of.Command q = code-opened (command-low (e .a0) q) (rw q)
+  control-done n control-of.Response q = code-opened (response-low (e .a0) q) (rw q)
+  control-done n control-of.StepHead q = stepped q
+  control-done n control-of.Reserved q = bad (control n) bit7
+  control-done n control-of.Unsupported q = bad (control n) bit5
+  control-done n control-of.Invalid q = bad (control n) bit7
 
-  unless-stopped : {work : Work} {o : Outcome} → Request work → Quiet d e sectors work o
-      → Quiet d e sectors work (unlessUnsolicited d (e .port) o)
-  unless-stopped {work} q p = either (Quiet d e sectors work) _ p (unsolicited q)
+module _ (d : Drive) (e : Event) (sectors staging : List ℕ) where
+  unless-stopped : {work : Work} {request : Drive → Outcome} → Request e work → ((at : Drive) → Asked at e work (request at))
+      → Quiet d e sectors work (unlessUnsolicited d (e .port) request)
+  unless-stopped {work} q done = cases (Quiet d e sectors work) _ (λ z. asked (afresh q z) (done (octet2Cleared d (e .port)))) (λ z. unsolicited q)
 
   function-done : (f : Function) → functionIn (wordOf e) ≡ f → eqb (d .transfer .control) loadDriveFunction ≡ true
       → Exchanged d e WordFromHost (functioned f (closed d) (e .port))
@@ -201,8 +216,9 @@ module _ (d : Drive) (e : Event) (sectors staging : List ℕ) where
   pub work-done : (work : Work) → WorkDone d e sectors staging work (act (Use work) d e sectors staging)
   unfolding dataControl positioned targeted statusRead badRequest wordStaged staged wordTaken wordFromHost wordToHost endedEarly
   work-done DataControl =
-      quiet (cases (Quiet d e sectors DataControl) (eqb (e .a0) readStatus) (λ z. control-done control-of.Response (status-responds (e .a0) z))
-      (λ z. unless-stopped control (control-done (controlOf (e .a0)) refl)))
+      quiet (cases (Quiet d e sectors DataControl) (eqb (e .a0) readStatus)
+      (λ z. let q = status-responds (e .a0) z in asked (asItWas z) (code-opened d e (response-low (e .a0) q) (rw q)))
+      (λ z. unless-stopped (control z) (λ at. control-done at e z (controlOf (e .a0)) refl)))
   work-done WordFromHost =
       cases (WorkDone d e sectors staging WordFromHost) (isData (d .transfer .control))
       (λ high. either (WorkDone d e sectors staging WordFromHost) _ (miscompared high)
@@ -213,14 +229,14 @@ module _ (d : Drive) (e : Event) (sectors staging : List ℕ) where
       (λ high. cases (Quiet d e sectors TakeWord) _ (λ z. takenLast high) (taken high)) (λ low. exchanged low response-taken))
   work-done End =
       quiet (cases (λ (at : Drive). Quiet d e sectors End (told (Status normal) at)) (isData (d .transfer .control)) ends (λ low. exchanged low cut))
-  work-done Position = quiet (unless-stopped position (cases (Quiet d e sectors Position) _ placed (λ z. bad position bit6)))
-  work-done Target = quiet (unless-stopped target (cases (Quiet d e sectors Target) _ aimed (λ z. bad target bit6)))
+  work-done Position = quiet (unless-stopped position (λ at. cases (Asked at e Position) _ placed (λ z. bad position bit6)))
+  work-done Target = quiet (unless-stopped target (λ at. cases (Asked at e Target) _ aimed (λ z. bad target bit6)))
   work-done ReadStatus = quiet statusTold
 
 -- ---- what the answer tells beside a status
 
 pub data Told (d : Drive) (e : Event) (sectors : List ℕ) : Work → Outcome → Type 0 where
-  anOpening : {at : Drive} → Sought d (e .a0) at → (takesWords (controlOf (e .a0)) || givesWords (controlOf (e .a0))) ≡ true
+  anOpening : {heard at : Drive} → Heard d e DataControl heard → Sought heard (e .a0) at → (takesWords (controlOf (e .a0)) || givesWords (controlOf (e .a0))) ≡ true
       → Told d e sectors DataControl (told (Opened (wordsToCome (at .setup) (e .a0)) (at .place)) (withTransfer at (transferring (e .a0) 0)))
   aWord : {o : Outcome} → isData (d .transfer .control) ≡ true → paper (o .answer) .word ≡ some (wordAt d sectors) → paper (o .answer) .place ≡ none → paper (o .answer) .response ≡ none
       → Told d e sectors TakeWord o
@@ -231,13 +247,19 @@ pub data Told (d : Drive) (e : Event) (sectors : List ℕ) : Work → Outcome �
   nothing : {work : Work} {o : Outcome} → paper (o .answer) .word ≡ none → paper (o .answer) .place ≡ none → paper (o .answer) .response ≡ none
       → Told d e sectors work o
 
+asked-told : {d at : Drive} {e : Event} {sectors : List ℕ} {work : Work} {o : Outcome} → Heard d e work at → Asked at e work o → Told d e sectors work o
+unfolding paper
+asked-told h (bad q b) = nothing refl refl refl
+asked-told h (stepped k) = nothing refl refl refl
+asked-told h (nothingToCome q w) = nothing refl refl refl
+asked-told h (opens q o z) = anOpening h q o
+asked-told h (placed p) = nothing refl refl refl
+asked-told h (aimed t) = nothing refl refl refl
+
 quiet-told : {d : Drive} {e : Event} {sectors : List ℕ} {work : Work} {o : Outcome} → Quiet d e sectors work o → Told d e sectors work o
 unfolding paper
 quiet-told (unsolicited q) = nothing refl refl refl
-quiet-told (bad q b) = nothing refl refl refl
-quiet-told (stepped k) = nothing refl refl refl
-quiet-told (nothingToCome q w) = nothing refl refl refl
-quiet-told (opens q o z) = anOpening q o
+quiet-told (asked h x) = asked-told h x
 quiet-told (takenLast high) = aWord high refl refl refl
 quiet-told (taken high z) = aWord high refl refl refl
 quiet-told (ends high) = nothing refl refl refl
@@ -247,8 +269,6 @@ quiet-told (exchanged low (disobeys b)) = nothing refl refl refl
 quiet-told (exchanged low (tells z)) = aResponseWord low refl refl refl
 quiet-told (exchanged low (tellsLast z)) = aResponseWord low refl refl refl
 quiet-told (exchanged low cut) = nothing refl refl refl
-quiet-told (placed p) = nothing refl refl refl
-quiet-told (aimed t) = nothing refl refl refl
 quiet-told statusTold = aResponse
 
 pub work-told : {d : Drive} {e : Event} {sectors staging : List ℕ} {work : Work} {r : Result} → WorkDone d e sectors staging work r → Told d e sectors work (r .outcome)

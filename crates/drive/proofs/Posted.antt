@@ -1,4 +1,4 @@
--- What is pending changes by a bit more, by a read status and by a reset alone: what these keep, every event keeps on both ports.
+-- What is pending changes by a bit more, by a cleared octet 2, by a read status and by a reset alone: what these keep, every event keeps on both ports.
 -- Assumes nothing.
 use Prim.Native.Nat.{ℕ}
 use mathlib.Core.List.{List}
@@ -10,6 +10,7 @@ use Rattle.parts.specs.declared.pending.Pending.{Pending}
 use Rattle.drive.specs.State.{Result, pendingOn, postedOn}
 use Rattle.parts.specs.declared.command.Function.{Function}
 use Rattle.drive.specs.Drive.{ownerNoticed, selected, deselected, afterReset, reserved, unreserved, priorityReserved, headStepped, atItsTarget, closed, ended}
+use Rattle.drive.specs.Request.{octet2Cleared}
 use Rattle.drive.specs.Command.{statusCleared}
 use Rattle.drive.specs.Run.{Machine, after}
 use Rattle.drive.specs.declared.drive.Drive.{Drive}
@@ -23,6 +24,7 @@ pub record Postable (P : Pending → Type 0) : Type 0 where
   pub reset : P (pendingOf resetComplete 0)
   pub notice : (p : Pending) → P p → P (noticed p)
   pub fault : {bit : ℕ} (p : Pending) → OneBit bit → P p → P (faulted p bit)
+  pub clear : (p : Pending) → P p → P (pendingOf (p .octet1) 0)
 
 abbrev pub OnBoth : (Pending → Type 0) → Drive → Type 0
 OnBoth P d = P (d .pending0) × P (d .pending1)
@@ -59,19 +61,28 @@ module _ (P : Pending → Type 0) (q : Postable P) where
   exchange-keeps {d} {e} o (Outcomes.tellsLast z) = either (OnBoth P) _ (posted (closed d) (e .port) nothingPending o (q .nothing)) o
   exchange-keeps o Outcomes.cut = o
 
-  quiet-keeps : {d : Drive} {e : Event} {sectors : List ℕ} {work : Work} {o : Outcome} → OnBoth P d → Outcomes.Quiet d e sectors work o → OnBoth P (o .drive)
+  asked-keeps : {d : Drive} {e : Event} {work : Work} {o : Outcome} → OnBoth P d → Outcomes.Asked d e work o → OnBoth P (o .drive)
   unfolding headStepped ended
+  asked-keeps {d} {e} o (Outcomes.bad r b) = posted d (e .port) _ o (q .fault _ b (on-either P d (e .port) o))
+  asked-keeps o (Outcomes.stepped k) = o
+  asked-keeps o (Outcomes.nothingToCome s w) = sought s o
+  asked-keeps o (Outcomes.opens s c z) = sought s o
+  asked-keeps o (Outcomes.placed h) = o
+  asked-keeps o (Outcomes.aimed h) = o
+
+  heard-keeps : {d at : Drive} {e : Event} {work : Work} → OnBoth P d → Outcomes.Heard d e work at → OnBoth P at
+  unfolding octet2Cleared
+  heard-keeps {d} {e = e} o (Outcomes.afresh c z) = posted d (e .port) _ o (q .clear _ (on-either P d (e .port) o))
+  heard-keeps o (Outcomes.asItWas z) = o
+
+  quiet-keeps : {d : Drive} {e : Event} {sectors : List ℕ} {work : Work} {o : Outcome} → OnBoth P d → Outcomes.Quiet d e sectors work o → OnBoth P (o .drive)
+  unfolding ended
   quiet-keeps o (Outcomes.unsolicited r) = o
-  quiet-keeps {d} {e} o (Outcomes.bad r b) = posted d (e .port) _ o (q .fault _ b (on-either P d (e .port) o))
-  quiet-keeps o (Outcomes.stepped k) = o
-  quiet-keeps o (Outcomes.nothingToCome s w) = sought s o
-  quiet-keeps o (Outcomes.opens s c z) = sought s o
+  quiet-keeps o (Outcomes.asked h x) = asked-keeps (heard-keeps o h) x
   quiet-keeps o (Outcomes.takenLast high) = o
   quiet-keeps o (Outcomes.taken high z) = o
   quiet-keeps o (Outcomes.ends high) = o
   quiet-keeps o (Outcomes.exchanged low x) = exchange-keeps o x
-  quiet-keeps o (Outcomes.placed h) = o
-  quiet-keeps o (Outcomes.aimed h) = o
   quiet-keeps {d} {e} o Outcomes.statusTold = posted d (e .port) nothingPending o (q .nothing)
 
   work-keeps : {d : Drive} {e : Event} {sectors staging : List ℕ} {work : Work} {r : Result} → OnBoth P d → Outcomes.WorkDone d e sectors staging work r

@@ -9,8 +9,9 @@ use lib.Dec.{eqb, ltb}
 use Rattle.laws.proofs.Pick.{either, cases}
 use Rattle.laws.proofs.Tests.{or-l, or-r}
 use Rattle.parts.specs.Setup.{isPlace, isTarget, noTarget, following}
-use Rattle.parts.specs.Pending.{OneBit, bit7, bit6, bit5, bit4, withBit, noticed, faulted, nothingPending}
+use Rattle.parts.specs.Pending.{OneBit, bit7, bit6, bit5, bit4, withBit, pendingOf, noticed, faulted, nothingPending}
 use Rattle.drive.specs.State.{atPlace, withPlace, withTarget, pendingOn, postedOn}
+use Rattle.drive.specs.Request.{octet2Cleared}
 use Rattle.drive.specs.Drive.{selected, headStepped, atItsTarget}
 use Rattle.parts.specs.Tests.{hasStrayBit}
 use Rattle.parts.specs.declared.pending.Pending.{Pending}
@@ -140,3 +141,12 @@ posted-kept port p s h =
       bits0 = either (λ p. hasStrayBit p ≡ false) _ h (s .bits0);
       bits1 = either (λ p. hasStrayBit p ≡ false) _ (s .bits1) h;
     }
+
+-- any of the bits that the base sets in octet 2, or none
+pub octet2-kept : {d : Drive} (port octet2 : ℕ) → Sound d → octet2 % 16 ≡ 0 → Sound (postedOn d port (pendingOf (pendingOn d port .octet1) octet2))
+octet2-kept {d} port octet2 s h =
+    posted-kept port _ s (no-stray _ (record { octet1 = only-ours (pendingOn d port) (pending-stray port s) .octet1; octet2 = h }))
+
+pub cleared-kept : {d : Drive} (port : ℕ) → Sound d → Sound (octet2Cleared d port)
+unfolding octet2Cleared
+cleared-kept port s = octet2-kept port 0 s refl

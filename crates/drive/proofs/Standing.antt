@@ -15,6 +15,7 @@ use Rattle.parts.specs.declared.setup.Setup.{Setup}
 use Rattle.parts.specs.declared.event.Event.{Event}
 use Rattle.drive.specs.State.{Result, postedOn}
 use Rattle.drive.specs.Drive.{ownerNoticed, selected, deselected, afterReset, reserved, unreserved, priorityReserved, headStepped, atItsTarget, closed, ended}
+use Rattle.drive.specs.Request.{octet2Cleared}
 use Rattle.drive.specs.Command.{statusCleared}
 use Rattle.drive.specs.Answer.{Paper, paper}
 use Rattle.drive.specs.Accepted.{isRefused}
@@ -54,12 +55,12 @@ sought-setup (Outcomes.inPlace a) = refl
 sought-setup (Outcomes.atTarget a z) = refl
 
 -- kinds 3, 7 and 8 that were stopped or bad stay where they were
-request-stands : {work : Work} → Outcomes.Request work → (s : Setup) (e : Event) (told : Paper) (w : Standing) → told .place ≡ none → isNormal (told .status) ≡ false
+request-stands : {work : Work} {e : Event} → Outcomes.Request e work → (s : Setup) (told : Paper) (w : Standing) → told .place ≡ none → isNormal (told .status) ≡ false
     → stands (Use work) s e told w ≡ w
 unfolding pick
-request-stands Outcomes.control s e told w h n = rw (h, n)
-request-stands Outcomes.position s e told w h n = rw n
-request-stands Outcomes.target s e told w h n = rw n
+request-stands (Outcomes.control c) s told w h n = rw (h, n)
+request-stands Outcomes.position s told w h n = rw n
+request-stands Outcomes.target s told w h n = rw n
 
 function-stands : {d at : Drive} {f : Function} → Outcomes.FunctionDone d f at → standing (recalibrated f (d .place)) (d .target) (d .transfer) ≡ standingOf at
 unfolding reserved unreserved priorityReserved
@@ -85,20 +86,26 @@ exchange-stands low (Outcomes.tells z) = refl
 exchange-stands {d} {e} low (Outcomes.tellsLast z) = rw low (cleared-stands (d .transfer .control) (closed d) (e .port))
 exchange-stands low Outcomes.cut = rw low
 
-quiet-stands : {d : Drive} {e : Event} {sectors : List ℕ} {work : Work} {o : Outcome} → Outcomes.Quiet d e sectors work o
+asked-stands : {d : Drive} {e : Event} {work : Work} {o : Outcome} → Outcomes.Asked d e work o
     → stands (Use work) (d .setup) e (paper (o .answer)) (standingOf d) ≡ standingOf (o .drive)
 unfolding paper pick postedOn headStepped ended
-quiet-stands {d} {e} (Outcomes.unsolicited q) = request-stands q (d .setup) e _ (standingOf d) refl refl
-quiet-stands {d} {e} (Outcomes.bad q b) = request-stands q (d .setup) e _ (standingOf d) refl refl
-quiet-stands (Outcomes.stepped k) = rw k
-quiet-stands {d} {e} (Outcomes.nothingToCome q w) = rw (ended-at-once (controlOf (e .a0)) (d .setup) (e .a0) (standingOf d) w, sought-there q, sought-setup q)
-quiet-stands {e = e} (Outcomes.opens q o z) = ap (λ (w : Standing). withTransfer w (transferring (e .a0) 0)) (sought-there q)
+asked-stands {d} (Outcomes.bad q b) = request-stands q (d .setup) _ (standingOf d) refl refl
+asked-stands (Outcomes.stepped k) = rw k
+asked-stands {d} {e} (Outcomes.nothingToCome q w) = rw (ended-at-once (controlOf (e .a0)) (d .setup) (e .a0) (standingOf d) w, sought-there q, sought-setup q)
+asked-stands {e = e} (Outcomes.opens q o z) = ap (λ (w : Standing). withTransfer w (transferring (e .a0) 0)) (sought-there q)
+asked-stands (Outcomes.placed h) = refl
+asked-stands (Outcomes.aimed h) = refl
+
+quiet-stands : {d : Drive} {e : Event} {sectors : List ℕ} {work : Work} {o : Outcome} → Outcomes.Quiet d e sectors work o
+    → stands (Use work) (d .setup) e (paper (o .answer)) (standingOf d) ≡ standingOf (o .drive)
+unfolding paper pick postedOn octet2Cleared ended
+quiet-stands {d} (Outcomes.unsolicited q) = request-stands q (d .setup) _ (standingOf d) refl refl
+quiet-stands (Outcomes.asked (Outcomes.afresh c z) x) = asked-stands x
+quiet-stands (Outcomes.asked (Outcomes.asItWas z) x) = asked-stands x
 quiet-stands (Outcomes.takenLast high) = rw high
 quiet-stands (Outcomes.taken high z) = refl
 quiet-stands (Outcomes.ends high) = rw high
 quiet-stands (Outcomes.exchanged low x) = exchange-stands low x
-quiet-stands (Outcomes.placed h) = refl
-quiet-stands (Outcomes.aimed h) = refl
 quiet-stands Outcomes.statusTold = refl
 
 work-stands : {d : Drive} {e : Event} {sectors staging : List ℕ} {work : Work} {r : Result} → Outcomes.WorkDone d e sectors staging work r

@@ -20,6 +20,7 @@ use Rattle.drive.specs.Answer.{refusalIn}
 use Rattle.parts.specs.Kind.{Kind, Select, Deselect, Use, Reset, Unknown, Work, kindOf, wordOf}
 use Rattle.drive.specs.State.{Result, postedOn}
 use Rattle.drive.specs.Drive.{ownerNoticed, selected, deselected, afterReset, reserved, unreserved, priorityReserved, atItsTarget, closed}
+use Rattle.drive.specs.Request.{octet2Cleared}
 use Rattle.drive.specs.Command.{statusCleared}
 use Rattle.drive.specs.Refusal.{row1, row7, row10, ownRows, refusalOf}
 use Rattle.parts.specs.Tests.{isTaking, isGiving}
@@ -36,7 +37,7 @@ use Rattle.drive.proofs.Sound.{Sound, sound, unsound, room}
 use Rattle.drive.proofs.Own.{able-to-write, able-to-read}
 use Rattle.drive.proofs.Frame.{commit-frame, staged-room}
 use Rattle.drive.proofs.Laws.{by-cases, doneBy, left, AllPassed, stays, accepts, its-own}
-use Rattle.drive.proofs.SoundPlace.{place-kept, recalibrated-kept, head-step-kept, at-target-kept, target-kept, posted-kept, pending-stray, fault-stray, nothing-stray}
+use Rattle.drive.proofs.SoundPlace.{place-kept, recalibrated-kept, head-step-kept, at-target-kept, target-kept, posted-kept, pending-stray, fault-stray, nothing-stray, cleared-kept}
 use Rattle.drive.proofs.SoundHolding.{closed-kept, ended-kept, transfer-kept, hold-kept, selected-kept, deselected-kept, reset-kept, rest-sound}
 use Rattle.drive.proofs.Outcomes
 
@@ -74,24 +75,36 @@ exchange-sound {d} {e} p n t (Outcomes.tellsLast z) =
     let s = closed-kept (sound d (p .sound)) in either Sound _ (posted-kept (e .port) nothingPending s nothing-stray) s
 exchange-sound {d} p n t Outcomes.cut = closed-kept (sound d (p .sound))
 
+-- the drive that a request is one to is as sound
+pub heard-passable : {d at : Drive} {e : Event} {sectors staging : List ℕ} {work : Work} → Passable d sectors staging → Outcomes.Heard d e work at
+    → Passable at sectors staging
+unfolding octet2Cleared postedOn
+heard-passable {d} {e = e} p (Outcomes.afresh c z) = record { sound = unsound _ (cleared-kept (e .port) (sound d (p .sound))); room = p .room }
+heard-passable p (Outcomes.asItWas z) = p
+
+asked-sound : {d : Drive} {e : Event} {work : Work} {o : Outcome} → Sound d → eqb (d .holding .selected) nobody ≡ false → Outcomes.Asked d e work o → Sound (o .drive)
+unfolding atItsTarget
+asked-sound {e = e} s n (Outcomes.bad q b) = posted-kept (e .port) _ s (fault-stray _ b (pending-stray (e .port) s))
+asked-sound s n (Outcomes.stepped k) = head-step-kept s
+asked-sound s n (Outcomes.nothingToCome (Outcomes.inPlace a) w) = ended-kept s
+asked-sound s n (Outcomes.nothingToCome (Outcomes.atTarget a z) w) = ended-kept (at-target-kept s z)
+asked-sound s n (Outcomes.opens (Outcomes.inPlace a) o z) = transfer-kept s n o (some-to-come _ z)
+asked-sound s n (Outcomes.opens (Outcomes.atTarget a y) o z) = transfer-kept (at-target-kept s y) n o (some-to-come _ z)
+asked-sound s n (Outcomes.placed h) = place-kept s h
+asked-sound s n (Outcomes.aimed h) = target-kept s h
+
 quiet-sound : {d : Drive} {e : Event} {sectors staging : List ℕ} {work : Work} {o : Outcome} → Passable d sectors staging → eqb (d .holding .selected) nobody ≡ false
     → row7 work d ≡ false → Outcomes.Quiet d e sectors work o → Sound (o .drive)
-unfolding atItsTarget
+unfolding postedOn octet2Cleared
 quiet-sound {d} p n t (Outcomes.unsolicited q) = sound d (p .sound)
-quiet-sound {d} {e} p n t (Outcomes.bad q b) = let s = sound d (p .sound) in posted-kept (e .port) _ s (fault-stray _ b (pending-stray (e .port) s))
-quiet-sound {d} p n t (Outcomes.stepped k) = head-step-kept (sound d (p .sound))
-quiet-sound {d} p n t (Outcomes.nothingToCome (Outcomes.inPlace a) w) = ended-kept (sound d (p .sound))
-quiet-sound {d} p n t (Outcomes.nothingToCome (Outcomes.atTarget a z) w) = ended-kept (at-target-kept (sound d (p .sound)) z)
-quiet-sound {d} p n t (Outcomes.opens (Outcomes.inPlace a) o z) = transfer-kept (sound d (p .sound)) n o (some-to-come _ z)
-quiet-sound {d} p n t (Outcomes.opens (Outcomes.atTarget a y) o z) = transfer-kept (at-target-kept (sound d (p .sound)) y) n o (some-to-come _ z)
+quiet-sound {d} {e} p n t (Outcomes.asked (Outcomes.afresh c z) x) = asked-sound (cleared-kept (e .port) (sound d (p .sound))) n x
+quiet-sound {d} p n t (Outcomes.asked (Outcomes.asItWas z) x) = asked-sound (sound d (p .sound)) n x
 quiet-sound {d} p n t (Outcomes.takenLast high) = ended-kept (sound d (p .sound))
 quiet-sound {d} p n t (Outcomes.taken high z) =
     let r = not-false (isGiving (d .transfer)) t in
     transfer-kept (sound d (p .sound)) n (rw r (or-true (isTaking (d .transfer)))) (one-more (d .transfer .moved) _ (able-to-read p r .moved) z)
 quiet-sound {d} p n t (Outcomes.ends high) = ended-kept (sound d (p .sound))
 quiet-sound p n t (Outcomes.exchanged low x) = exchange-sound p n t x
-quiet-sound {d} p n t (Outcomes.placed h) = place-kept (sound d (p .sound)) h
-quiet-sound {d} p n t (Outcomes.aimed h) = target-kept (sound d (p .sound)) h
 quiet-sound {d} {e} p n t Outcomes.statusTold = posted-kept (e .port) nothingPending (sound d (p .sound)) nothing-stray
 
 work-sound : {d : Drive} {e : Event} {sectors staging : List ℕ} {work : Work} {r : Result} → Passable d sectors staging → eqb (d .holding .selected) nobody ≡ false

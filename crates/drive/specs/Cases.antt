@@ -1,4 +1,4 @@
--- "Bench cases" P1 to P12: one table. Each is a run from power-up; a case that goes on from another has the other's events before its own.
+-- "Bench cases" P1 to P12, and the case of M-102: one table. Each is a run from power-up; a case that goes on from another has the other's events before its own.
 use Prim.Native.Nat.{ℕ, _/_, _%_}
 use mathlib.Core.Path.{_≡_}
 use mathlib.Core.List.{List, [], _∷_, _++_}
@@ -50,7 +50,7 @@ word port w = event port 4 (w / 256) (w % 256)
 abbrev pub take : ℕ → Event
 take port = event port 5 0 0
 
-abbrev status : ℕ → Event
+abbrev pub status : ℕ → Event
 status port = event port 9 0 0
 
 abbrev zeros : List ℕ
@@ -147,8 +147,19 @@ p12 =
       sector = 0;
     }
 
+-- M-102: "D0 followed by C4, which ends at once, after which the response is eight zeros."
+abbrev pub d0-then-c4 : Case
+d0-then-c4 =
+    record {
+      stored = zeros;
+      events = select 0 0x30 ∷ control 0 0xD0 ∷ control 0 0xC4 ∷ status 0 ∷ [];
+      answers = Done ∷ Status 8 ∷ Status 0 ∷ Response 0x00 0x00 0x00 ∷ [];
+      left = zeros;
+      sector = 1;
+    }
+
 abbrev pub cases : List Case
-cases = p1-p2-p3 ∷ p4-p5-p6 ∷ p7 ∷ p8 ∷ p9 ∷ p10 ∷ p11 ∷ p12 ∷ []
+cases = p1-p2-p3 ∷ p4-p5-p6 ∷ p7 ∷ p8 ∷ p9 ∷ p10 ∷ p11 ∷ p12 ∷ d0-then-c4 ∷ []
 
 -- "Cases P1 to P12 are proved together, one table, one statement".
 abbrev pub AllHold : List Case → Type 0

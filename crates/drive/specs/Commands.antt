@@ -22,6 +22,7 @@ use Rattle.parts.specs.declared.event.Event.{Event}
 use Rattle.drive.specs.Answer.{normal}
 use Rattle.drive.specs.State.{withTransfer, pendingOn}
 use Rattle.drive.specs.Drive.{selected, afterReset, closed}
+use Rattle.drive.specs.Request.{octet2Cleared}
 use Rattle.drive.specs.Command.{statusTold}
 use Rattle.drive.specs.Refusal.{isOneOpen}
 use Rattle.drive.specs.Accepted.{isRefused}
@@ -81,6 +82,10 @@ pub record CommandsKeepOut : Type 0 where
 
 -- ---- `command-cut-short`
 
+-- What is left of the drive as a code opened on it: M-102, the opening "first clears that port's octet 2", but not that of 44.
+abbrev pub asOpened : Event → Drive → Drive
+asOpened e d = pick (eqb (e .a0) readStatus) d (octet2Cleared d (e .port))
+
 -- What the cut alone makes of a drive.
 abbrev pub cutAlone : Kind → Event → Drive → Drive
 cutAlone Select e d = selected d (e .port) (e .a0)
@@ -95,7 +100,7 @@ abbrev pub CommandCutShort : Type 0
 CommandCutShort =
     (m : Machine) (opening cut : Event) (n k : ℕ) (place : Place) (way : Work) (words : List Event) → isData (opening .a0) ≡ false
     → answerTo m opening ≡ Opened n place → (way ≡ WordFromHost) ⊎ (way ≡ TakeWord) → Words way (after m opening) words k → k < n → let short = final (after m opening) words in
-    Cuts short cut → (after short cut) .drive ≡ cutAlone (kindOf (cut .kind)) cut (m .drive)
+    Cuts short cut → (after short cut) .drive ≡ cutAlone (kindOf (cut .kind)) cut (asOpened opening (m .drive))
 
 -- ---- `status-by-44` and `position-by-07`
 

@@ -1,22 +1,26 @@
--- `frame`: a commit changes the named written fields of one sector and no other word; staging changes at one index; what is pending stays so.
+-- `frame`: a commit changes the named written fields of one sector and no other word; staging changes at one index; what is pending stays so but for what clears it.
 use Prim.Native.Nat.{ℕ, _+_, _-_, _<_, _≤_}
 use mathlib.Core.Path.{_≡_}
-use mathlib.Core.Bool.{Bool, true, _&&_}
+use mathlib.Core.Bool.{Bool, true, false, not, _&&_}
 use mathlib.Core.List.{List}
-use lib.Dec.{leb, ltb}
+use lib.Dec.{eqb, leb, ltb}
 use lib.ListN.{length, getD, set}
 use Rattle.laws.specs.Pick.{pick}
 use Rattle.parts.specs.Command.{readStatus}
 use Rattle.parts.specs.Control.{controlOf, isWrite, movesHeader, namesField1, namesField2, part}
-use Rattle.parts.specs.Pending.{nothingPending, pendingOf, resetComplete, StaysSet}
-use Rattle.parts.specs.Kind.{Use, Reset, WordFromHost, TakeWord, ReadStatus, kindOf, wordOf}
+use Rattle.parts.specs.Pending.{nothingPending, pendingOf, resetComplete, OneBit, StaysSet}
+use Rattle.parts.specs.Kind.{Kind, Select, Deselect, Use, Reset, Unknown, DataControl, WordFromHost, TakeWord, End, Position, Target, ReadStatus, kindOf, wordOf}
+use Rattle.drive.specs.Answer.{normal, operationException}
 use Rattle.drive.specs.State.{pendingOn}
 use Rattle.drive.specs.Transfer.{committed}
 use Rattle.drive.specs.Able.{Room}
-use Rattle.drive.specs.Run.{Machine, after}
+use Rattle.drive.specs.Run.{Machine, answerTo, after}
 use Rattle.parts.specs.declared.setup.Setup.{Setup}
+use Rattle.parts.specs.declared.setup.Place.{Place}
 use Rattle.parts.specs.declared.event.Event.{Event}
 use Rattle.parts.specs.declared.pending.Pending.{Pending}
+use Rattle.drive.specs.declared.answer.Answer.{Answer}
+use Rattle.drive.specs.declared.answer.Answer.the-variants.{Status, Opened}
 
 -- The address is one of so many from `start` on.
 abbrev pub isIn : ℕ → ℕ → ℕ → Bool
@@ -41,13 +45,37 @@ pub data StagingFrame (m : Machine) (e : Event) (left : List ℕ) : Type 0 where
   asItWas : left ≡ m .staging → StagingFrame m e left
   oneWord : kindOf (e .kind) ≡ Use WordFromHost → isWrite (controlOf (m .drive .transfer .control)) ≡ true → left ≡ set (m .staging) (m .drive .transfer .moved) (wordOf e) → StagingFrame m e left
 
--- What an event leaves pending on a port: every bit that was, but for that port's own read status, by kind 9 or by the last word of 44, and for Reset.
-pub data PendingFrame (m : Machine) (e : Event) (port : ℕ) (left : Pending) : Type 0 where
-  kept : StaysSet (pendingOn (m .drive) port .octet1) (left .octet1) → StaysSet (pendingOn (m .drive) port .octet2) (left .octet2) → PendingFrame m e port left
-  byStatus : kindOf (e .kind) ≡ Use ReadStatus → port ≡ e .port → left ≡ nothingPending → PendingFrame m e port left
+-- M-102: "an event of kind 3, 7 or 8 (but not M-100's code that reads status)".
+abbrev pub clearsFirst : Kind → Event → Bool
+clearsFirst (Use DataControl) e = not (eqb (e .a0) readStatus)
+clearsFirst (Use Position) e = true
+clearsFirst (Use Target) e = true
+clearsFirst (Use WordFromHost) e = false
+clearsFirst (Use TakeWord) e = false
+clearsFirst (Use End) e = false
+clearsFirst (Use ReadStatus) e = false
+clearsFirst Select e = false
+clearsFirst Deselect e = false
+clearsFirst Reset e = false
+clearsFirst Unknown e = false
+
+-- What it leaves pending on its port, by its answer, where that is neither a refusal nor C: it "first clears that port's octet 2, then sets its own bit
+-- if it is bad".
+pub data RequestLeaves : Answer → Pending → Type 0 where
+  ended : RequestLeaves (Status normal) nothingPending
+  opened : {words : ℕ} {place : Place} → RequestLeaves (Opened words place) nothingPending
+  bad : {bit : ℕ} → OneBit bit → RequestLeaves (Status operationException) (pendingOf 0 bit)
+
+-- What an event that gets this answer leaves pending on a port: every bit that was, but for that port's own requests, which find octet 1 zero and clear
+-- octet 2, for its own read status, by kind 9 or by the last word of 44, and for Reset.
+pub data PendingFrame (m : Machine) (e : Event) (port : ℕ) (answer : Answer) (left : Pending) : Type 0 where
+  kept : StaysSet (pendingOn (m .drive) port .octet1) (left .octet1) → StaysSet (pendingOn (m .drive) port .octet2) (left .octet2) → PendingFrame m e port answer left
+  byRequest : clearsFirst (kindOf (e .kind)) e ≡ true → port ≡ e .port → pendingOn (m .drive) port .octet1 ≡ 0 → RequestLeaves answer left
+      → PendingFrame m e port answer left
+  byStatus : kindOf (e .kind) ≡ Use ReadStatus → port ≡ e .port → left ≡ nothingPending → PendingFrame m e port answer left
   byLastWord : kindOf (e .kind) ≡ Use TakeWord → m .drive .transfer .control ≡ readStatus → m .drive .transfer .moved + 1 ≡ 4 → port ≡ e .port
-      → left ≡ nothingPending → PendingFrame m e port left
-  byReset : kindOf (e .kind) ≡ Reset → left ≡ pendingOf resetComplete 0 → PendingFrame m e port left
+      → left ≡ nothingPending → PendingFrame m e port answer left
+  byReset : kindOf (e .kind) ≡ Reset → left ≡ pendingOf resetComplete 0 → PendingFrame m e port answer left
 
 -- What is pending is two octets, as in every drive that is made of octets.
 abbrev pub AreOctets : Pending → Type 0
@@ -59,5 +87,6 @@ pub record Frame : Type 0 where
   -- "Word k of a write, counted from 0 in that transfer, is staged at index k, and no other staging word changes."
   pub staging : (m : Machine) (e : Event) → StagingFrame m e ((after m e) .staging)
   -- "Read status answers 0 with the octets and clears that port's; nothing else but Reset clears them." "The code that reads status .. clears at its
-  -- last word."
-  pub pending : (m : Machine) (e : Event) (port : ℕ) → port ≤ 1 → AreOctets (pendingOn (m .drive) port) → PendingFrame m e port (pendingOn ((after m e) .drive) port)
+  -- last word." M-102: for octet 2 the "nothing else" falls.
+  pub pending : (m : Machine) (e : Event) (port : ℕ) → port ≤ 1 → AreOctets (pendingOn (m .drive) port)
+      → PendingFrame m e port (answerTo m e) (pendingOn ((after m e) .drive) port)

@@ -30,6 +30,8 @@ pub mod Demand3Examples
 pub mod NeverDead
 pub mod CommandCases
 pub mod Commands
+pub mod Ignored
+pub mod IgnoredCases
 pub mod WrongAnswers
 pub mod WrongRuns
 -- what the private functions of `events` go by: nothing that a reader of the rules needs

@@ -5,7 +5,7 @@ use Rattle.laws.specs.Pick.{pick}
 use Rattle.parts.specs.Setup.{isPlace, isTarget, noTarget}
 use Rattle.parts.specs.Command.{readStatus}
 use Rattle.parts.specs.Control.{controlOf, isAtTarget, wordsToCome}
-use Rattle.parts.specs.Pending.{invalidBusControl, invalidParameter, unsupportedBusControl, busControlContext, nothingPending, faulted, octet0}
+use Rattle.parts.specs.Pending.{invalidBusControl, invalidParameter, unsupportedBusControl, busControlContext, pendingOf, nothingPending, faulted, octet0}
 use Rattle.drive.specs.Answer.{normal, operationException, unsolicitedException}
 use Rattle.drive.specs.State.{withPlace, withTarget, withTransfer, pendingOn, postedOn, told}
 use Rattle.parts.specs.Tests.{transferring}
@@ -24,9 +24,15 @@ use Rattle.drive.specs.declared.answer.Answer.the-variants as answer
 unfoldable pub badRequest : Drive → ℕ → ℕ → Outcome
 badRequest d port bit = told (Status operationException) (postedOn d port (faulted (pendingOn d port) bit))
 
--- "in order: any pending bit in response octet 1 gives C and changes nothing; then" the request.
-abbrev pub unlessUnsolicited : Drive → ℕ → Outcome → Outcome
-unlessUnsolicited d port request = pick (eqb (pendingOn d port .octet1) 0) request (told (Status unsolicitedException) d)
+-- M-102: "first clears that port's octet 2". 004: "If the captured status is ignored it will be cleared upon receipt of the next bus control."
+unfoldable pub octet2Cleared : Drive → ℕ → Drive
+octet2Cleared d port = postedOn d port (pendingOf (pendingOn d port .octet1) 0)
+
+-- "in order: any pending bit in response octet 1 gives C and changes nothing; then" octet 2 is cleared, and the request is one to the drive that this
+-- leaves: if it is bad, its own bit is the only one.
+abbrev pub unlessUnsolicited : Drive → ℕ → (Drive → Outcome) → Outcome
+unlessUnsolicited d port request =
+    pick (eqb (pendingOn d port .octet1) 0) (request (octet2Cleared d port)) (told (Status unsolicitedException) d)
 
 -- "The answer that opens a transfer tells the number of words to come and the place. No words to come: it ends at once, with status 0 alone."
 unfoldable pub opened : Drive → ℕ → Outcome
@@ -49,18 +55,18 @@ controlled Reserved d port c = badRequest d port invalidBusControl
 controlled Unsupported d port c = badRequest d port unsupportedBusControl
 controlled Invalid d port c = badRequest d port invalidBusControl
 
--- "The code that reads status is never answered C".
+-- "The code that reads status is never answered C", and clears nothing here: "(but not M-100's code that reads status)".
 unfoldable pub dataControl : Drive → ℕ → ℕ → Outcome
-dataControl d port c = pick (eqb c readStatus) (opened d c) (unlessUnsolicited d port (controlled (controlOf c) d port c))
+dataControl d port c = pick (eqb c readStatus) (opened d c) (unlessUnsolicited d port (λ at. controlled (controlOf c) at port c))
 
 -- "A place or target outside the drive: bit 6. .. Otherwise kinds 7 and 8 give 0".
 unfoldable pub positioned : Drive → ℕ → Place → Outcome
 positioned d port p =
-    unlessUnsolicited d port (pick (isPlace (d .setup) p) (told (Status normal) (withPlace d p)) (badRequest d port invalidParameter))
+    unlessUnsolicited d port (λ at. pick (isPlace (at .setup) p) (told (Status normal) (withPlace at p)) (badRequest at port invalidParameter))
 
 unfoldable pub targeted : Drive → ℕ → ℕ → Outcome
 targeted d port target =
-    unlessUnsolicited d port (pick (isTarget (d .setup) target) (told (Status normal) (withTarget d target)) (badRequest d port invalidParameter))
+    unlessUnsolicited d port (λ at. pick (isTarget (at .setup) target) (told (Status normal) (withTarget at target)) (badRequest at port invalidParameter))
 
 -- ---- kind 9
 
