@@ -106,7 +106,7 @@ request-noted Outcomes.position told going h = refl
 request-noted Outcomes.target told going h = refl
 
 -- nothing is open where they are let pass
-request-idle : {work : Work} {e : Event} (d : Drive) → Outcomes.Request e work → row7 work d ≡ false → isOneOpen d ≡ false
+pub request-idle : {work : Work} {e : Event} (d : Drive) → Outcomes.Request e work → row7 work d ≡ false → isOneOpen d ≡ false
 request-idle d (Outcomes.control n) t = t
 request-idle d Outcomes.position t = t
 request-idle d Outcomes.target t = t

@@ -70,7 +70,7 @@ either-port true p = refl
 either-port false p = refl
 
 -- the code that reads status is no request that could be bad
-not-for-status : {e : Event} → Outcomes.Request e DataControl → eqb (e .a0) readStatus ≡ true → ⊥
+pub not-for-status : {e : Event} → Outcomes.Request e DataControl → eqb (e .a0) readStatus ≡ true → ⊥
 not-for-status (Outcomes.control n) y = true≢false (sym y ∙ n)
 
 -- a request leaves its own bit if it is bad, and the other port's as it was

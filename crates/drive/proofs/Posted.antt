@@ -33,10 +33,13 @@ pub on-either : (P : Pending → Type 0) (d : Drive) (port : ℕ) → OnBoth P d
 unfolding pendingOn
 on-either P d port o = either P _ (o .0) (o .1)
 
+pub posted-on : (P : Pending → Type 0) (d : Drive) (port : ℕ) (p : Pending) → OnBoth P d → P p → OnBoth P (postedOn d port p)
+unfolding postedOn
+posted-on P d port p o h = (either P _ h (o .0), either P _ (o .1) h)
+
 module _ (P : Pending → Type 0) (q : Postable P) where
   posted : (d : Drive) (port : ℕ) (p : Pending) → OnBoth P d → P p → OnBoth P (postedOn d port p)
-  unfolding postedOn
-  posted d port p o h = (either P _ h (o .0), either P _ (o .1) h)
+  posted = posted-on P
 
   sought : {d at : Drive} {c : ℕ} → Outcomes.Sought d c at → OnBoth P d → OnBoth P at
   unfolding atItsTarget
