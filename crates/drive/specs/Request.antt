@@ -60,13 +60,17 @@ unfoldable pub dataControl : Drive → ℕ → ℕ → Outcome
 dataControl d port c = pick (eqb c readStatus) (opened d c) (unlessUnsolicited d port (λ at. controlled (controlOf c) at port c))
 
 -- "A place or target outside the drive: bit 6. .. Otherwise kinds 7 and 8 give 0".
+abbrev pub placedAt : ℕ → Place → Drive → Outcome
+placedAt port p d = pick (isPlace (d .setup) p) (told (Status normal) (withPlace d p)) (badRequest d port invalidParameter)
+
+abbrev pub aimedAt : ℕ → ℕ → Drive → Outcome
+aimedAt port target d = pick (isTarget (d .setup) target) (told (Status normal) (withTarget d target)) (badRequest d port invalidParameter)
+
 unfoldable pub positioned : Drive → ℕ → Place → Outcome
-positioned d port p =
-    unlessUnsolicited d port (λ at. pick (isPlace (at .setup) p) (told (Status normal) (withPlace at p)) (badRequest at port invalidParameter))
+positioned d port p = unlessUnsolicited d port (placedAt port p)
 
 unfoldable pub targeted : Drive → ℕ → ℕ → Outcome
-targeted d port target =
-    unlessUnsolicited d port (λ at. pick (isTarget (at .setup) target) (told (Status normal) (withTarget at target)) (badRequest at port invalidParameter))
+targeted d port target = unlessUnsolicited d port (aimedAt port target)
 
 -- ---- kind 9
 

@@ -1,46 +1,68 @@
--- Kinds 3, 7 and 8 on words: what is pending in octet 1 comes before the request, and a request may follow a move.
+-- Kinds 3, 7 and 8 on words: what is pending in octet 1 comes before the request, which finds octet 2 cleared; and a request may follow a move.
 -- Assumes nothing.
 use Prim.Native.Nat.{ℕ}
 use mathlib.Core.Path.{_≡_, refl, sym, _∙_}
-use mathlib.Core.Bool.{Bool, true, false, not}
+use native.Mathlib.Omega.{arith}
+use mathlib.Core.Bool.{Bool, true, false}
 use mathlib.Core.List.{List}
-use borrow.Author.Tests.{ne-eqb, not-true, not-false}
-use lib.Dec.{eqb}
+use borrow.Author.Tests.{ne-eqb}
 use Rattle.laws.specs.Pick.{pick}
 use Rattle.parts.specs.Setup.{noTarget}
 use Rattle.parts.specs.Control.{controlOf}
 use Rattle.parts.specs.declared.control.Control.{Control}
-use Rattle.drive.specs.State.{pendingOn}
+use Rattle.drive.specs.State.{postedOn}
 use Rattle.drive.specs.Drive.{atItsTarget, closed}
 use Rattle.drive.specs.Answer.{unsolicitedException}
-use Rattle.drive.specs.Request.{unlessUnsolicited, opened, controlled}
+use Rattle.drive.specs.Request.{octet2Cleared, unlessUnsolicited, opened, controlled}
 use Rattle.drive.specs.declared.answer.Answer.{Answer}
 use Rattle.drive.specs.declared.answer.Outcome.{Outcome}
 use Rattle.drive.specs.declared.answer.Answer.the-variants.{Status}
 use Rattle.drive.specs.declared.drive.Drive.{Drive}
 use Rattle.drive.proofs.Sound.{Sound, sound, unsound}
-use Rattle.drive.proofs.SoundPlace.{at-target-kept}
+use Rattle.drive.proofs.SoundPlace.{at-target-kept, cleared-kept}
+use Rattle.drive.proofs.Posted.{posted-on}
 use Rattle.drive.proofs.SoundHolding.{closed-kept}
 use Rattle.events.specs.State.{driveIn, movedTo}
-use Rattle.events.specs.Fit.{Fit, Did}
-use Rattle.events.proofs.Octets.{Octets}
+use Rattle.events.specs.Fit.{Fit, Did, TakenUp}
+use Rattle.events.proofs.Octets.{Octet2, Octets}
 use Rattle.events.proofs.Back.{did-then, drive-again, long-again, octets-in}
 use Rattle.events.proofs.Done.{did-nothing}
-
-pub did-unsolicited : (state : List ℕ) (port : ℕ) (request : Outcome) (r : Bool) → Fit state → r ≡ not (eqb (pendingOn (driveIn state) port .octet1) 0) → r ≡ true
-    → Did state (unlessUnsolicited (driveIn state) port request) (Status unsolicitedException) state
-unfolding pick
-did-unsolicited state port request r f e t = rw (not-true (eqb (pendingOn (driveIn state) port .octet1) 0) (sym e ∙ t)) (did-nothing (Status unsolicitedException) f)
-
-pub did-request : (state : List ℕ) (port : ℕ) (request : Outcome) (r : Bool) {answer : Answer} {state′ : List ℕ}
-    → r ≡ not (eqb (pendingOn (driveIn state) port .octet1) 0) → r ≡ false → Did state request answer state′
-    → Did state (unlessUnsolicited (driveIn state) port request) answer state′
-unfolding pick
-did-request state port request r e t d = rw (not-false (eqb (pendingOn (driveIn state) port .octet1) 0) (sym e ∙ t)) d
 
 -- words moved to a sound drive with the same set-up are those of a sound state
 moved-fit : {state state′ : List ℕ} (d : Drive) → Fit state → Octets d → d .setup ≡ driveIn state .setup → Sound d → state′ ≡ movedTo state d → Fit state′
 moved-fit {state} d f o s k e = record { long = rw e (long-again state d (f .long)); sound = rw (e, drive-again state d (f .long) o s) (unsound d k) }
+
+-- a request that octet 1 stops changes nothing
+pub did-stopped : (state : List ℕ) (port : ℕ) (request : Drive → Outcome) (r : Bool) {state′ : List ℕ} → Fit state → TakenUp state port r state′ → r ≡ false
+    → Did state (unlessUnsolicited (driveIn state) port request) (Status unsolicitedException) state′
+unfolding pick
+did-stopped state port request r f t z =
+    rw (sym (t .heard) ∙ z, rw z at (t .state)) (did-nothing (Status unsolicitedException) f)
+
+-- and one that goes on finds octet 2 cleared
+cleared : {state state′ : List ℕ} {port : ℕ} {r : Bool} → TakenUp state port r state′ → r ≡ true → state′ ≡ movedTo state (octet2Cleared (driveIn state) port)
+unfolding pick
+cleared t z = rw z at (t .state)
+
+cleared-octets : (state : List ℕ) (port : ℕ) → Octets (octet2Cleared (driveIn state) port)
+unfolding octet2Cleared
+cleared-octets state port = posted-on Octet2 (driveIn state) port _ (octets-in state) (omega arith)
+
+cleared-setup : (d : Drive) (port : ℕ) → octet2Cleared d port .setup ≡ d .setup
+unfolding octet2Cleared postedOn
+cleared-setup d port = refl
+
+pub heard-fit : {state state′ : List ℕ} {port : ℕ} {r : Bool} → Fit state → TakenUp state port r state′ → r ≡ true → Fit state′
+heard-fit {state} {port = port} f t z =
+    let d = driveIn state in
+    moved-fit (octet2Cleared d port) f (cleared-octets state port) (cleared-setup d port) (cleared-kept port (sound d (f .sound))) (cleared t z)
+
+pub did-heard : (state : List ℕ) (port : ℕ) (request : Drive → Outcome) (r : Bool) {answer : Answer} {state′ state″ : List ℕ} → Fit state → TakenUp state port r state′
+    → r ≡ true → Did state′ (request (driveIn state′)) answer state″ → Did state (unlessUnsolicited (driveIn state) port request) answer state″
+unfolding pick
+did-heard state port request r f t z d =
+    rw (sym (t .heard) ∙ z)
+    (did-then (octet2Cleared (driveIn state) port) request (f .long) (cleared-octets state port) (cleared-setup (driveIn state) port) (cleared t z) d)
 
 pub at-target-fit : {state state′ : List ℕ} → Fit state → (driveIn state .target ≡ noTarget → ⊥) → state′ ≡ movedTo state (atItsTarget (driveIn state)) → Fit state′
 unfolding atItsTarget

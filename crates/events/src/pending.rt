@@ -5,22 +5,22 @@ use crate::state;
 use drive::Answer;
 use parts::Fault;
 ghost use Prim.Native.Nat.{_≤_};
-ghost use mathlib.Core.Path.{_≡_};
-ghost use mathlib.Core.Bool.{not};
-ghost use lib.Dec.{eqb};
 ghost use Rattle.parts.specs.Pending.{bitOf};
-ghost use Rattle.drive.specs.State.{pendingOn};
 ghost use Rattle.drive.specs.Request.{badRequest, statusRead};
 ghost use Rattle.events.specs.State.{driveIn};
-ghost use Rattle.events.specs.Fit.{Fit, Did};
+ghost use Rattle.events.specs.Fit.{Fit, Did, TakenUp};
 
-// A bit of octet 1.
-pub(crate) fn is_unsolicited(state: &[u16], port: u8) -> bool
+// Whether a request goes on: a bit of octet 1 stops it. If it does, octet 2 is cleared first, and then nothing is pending.
+pub(crate) fn take_up(state: &mut [u16], port: u8) -> bool
     requires { ⌜ Fit (now state) × (port ≤ 1) ⌝ }
-    ensures { λ r. ⌜ r ≡ not (eqb (pendingOn (driveIn (now (state .entry))) port .octet1) 0) ⌝ }
+    ensures { λ r. ⌜ TakenUp (now (state .entry)) port r (now (state .exit)) ⌝ }
 {
     let at = layout::PENDING_0 + port as usize;
-    state[at] / 256 != 0
+    if state[at] / 256 != 0 {
+        return false;
+    }
+    state[at] = 0;
+    true
 }
 
 // A bad request, and its bit of octet 2.

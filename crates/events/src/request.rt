@@ -14,11 +14,11 @@ ghost use Prim.Native.Nat.{_≤_};
 ghost use mathlib.Core.Path.{_≡_};
 ghost use mathlib.Core.Bool.{true, false, _||_};
 ghost use Rattle.parts.specs.Control.{controlOf, takesWords, givesWords, isData};
-ghost use Rattle.drive.specs.Request.{opened, opening, dataControl, positioned, targeted};
+ghost use Rattle.drive.specs.Request.{opened, opening, controlled, dataControl, positioned, targeted};
 ghost use Rattle.events.specs.State.{driveIn};
 ghost use Rattle.events.specs.Fit.{Fit, Did};
 
-// The code that reads status is never answered C.
+// The code that reads status is never answered C, and clears nothing yet.
 pub(crate) fn ask(state: &mut [u16], port: u8, control: u16) -> Answer
     requires { ⌜ Fit (now state) × (port ≤ 1) ⌝ }
     ensures { λ r. ⌜ Did (now (state .entry)) (dataControl (driveIn (now (state .entry))) port control) r (now (state .exit)) ⌝ }
@@ -26,9 +26,17 @@ pub(crate) fn ask(state: &mut [u16], port: u8, control: u16) -> Answer
     if control == command::READ_STATUS {
         return open_code(state, control);
     }
-    if pending::is_unsolicited(&state[..], port) {
+    if !pending::take_up(state, port) {
         return Answer::Status(answer::UNSOLICITED_EXCEPTION);
     }
+    carry_out(state, port, control)
+}
+
+// What the control asks for.
+fn carry_out(state: &mut [u16], port: u8, control: u16) -> Answer
+    requires { ⌜ Fit (now state) × (port ≤ 1) ⌝ }
+    ensures { λ r. ⌜ Did (now (state .entry)) (controlled (controlOf control) (driveIn (now (state .entry))) port control) r (now (state .exit)) ⌝ }
+{
     let kind = parts::control_of(control);
     match kind {
         Control::Write | Control::Read => open_there(state, port, control),
@@ -88,7 +96,7 @@ pub(crate) fn move_to(state: &mut [u16], port: u8, place: Place) -> Answer
     requires { ⌜ Fit (now state) × (port ≤ 1) ⌝ }
     ensures { λ r. ⌜ Did (now (state .entry)) (positioned (driveIn (now (state .entry))) port place) r (now (state .exit)) ⌝ }
 {
-    if pending::is_unsolicited(&state[..], port) {
+    if !pending::take_up(state, port) {
         return Answer::Status(answer::UNSOLICITED_EXCEPTION);
     }
     let setup = state::setup_in(&state[..]);
@@ -103,7 +111,7 @@ pub(crate) fn aim_at(state: &mut [u16], port: u8, target: u16) -> Answer
     requires { ⌜ Fit (now state) × (port ≤ 1) ⌝ }
     ensures { λ r. ⌜ Did (now (state .entry)) (targeted (driveIn (now (state .entry))) port target) r (now (state .exit)) ⌝ }
 {
-    if pending::is_unsolicited(&state[..], port) {
+    if !pending::take_up(state, port) {
         return Answer::Status(answer::UNSOLICITED_EXCEPTION);
     }
     let setup = state::setup_in(&state[..]);

@@ -2,15 +2,16 @@
 -- Assumes nothing.
 use Rattle.events.proofs.Done.{did-first, did-second, known}
 use Rattle.events.proofs.Changes.{target-put}
-use Rattle.drive.specs.Request.{targeted}
+use Rattle.drive.specs.Request.{aimedAt, targeted}
 use mathlib.Core.Path.{refl}
-use Rattle.events.proofs.Asking.{did-request, did-unsolicited}
+use borrow.Author.Tests.{not-true, not-false}
+use Rattle.events.proofs.Asking.{heard-fit, did-heard, did-stopped}
 use borrow.Author.Needs.{needs}
 use Rattle.events.proofs.request.aim_at.Statement.{statement}
 use Rattle.events.proofs.request.aim_at.Tie as tie
 
-is-unsolicited-requires : tie.Need-is-unsolicited-requires
-is-unsolicited-requires c κs = search needs
+take-up-requires : tie.Need-take-up-requires
+take-up-requires c κs = search needs
 
 same-length : tie.Need-same-length
 same-length c = search needs
@@ -18,9 +19,9 @@ same-length c = search needs
 returns : tie.Need-returns
 unfolding targeted
 returns c =
-    let after-is-unsolicited : tie.After-is-unsolicited = search in
+    let after-take-up : tie.After-take-up = search in
     let start : tie.Start = search in
-    did-unsolicited _ _ _ _ (start .pre .0) (after-is-unsolicited .is-unsolicited .ensures) (c .if1 .taken)
+    did-stopped _ _ (aimedAt (start .args .port) (start .args .target)) _ (start .pre .0) (after-take-up .take-up .ensures) (not-true _ (c .if1 .taken))
 
 setup-in-requires : tie.Need-setup-in-requires
 setup-in-requires c κs = search needs
@@ -40,14 +41,17 @@ returns-2 c =
     let after-is-target : tie.After-is-target = search in
     let after-setup-in : tie.After-setup-in = search in
     let else1 : tie.Else1 = search in
-    let after-is-unsolicited : tie.After-is-unsolicited = search in
+    let after-take-up : tie.After-take-up = search in
     let start : tie.Start = search in
-    did-request _ _ _ _ (after-is-unsolicited .is-unsolicited .ensures) (else1 .if1 .left) (did-first _ _ _ _ (rw (after-setup-in .setup-in .ensures) at (after-is-target .is-target .ensures)) (c .if2 .taken) (record { answer = refl; state = target-put _ _ (start .pre .0 .long) (known (start .pre .0)) }))
+    let f = heard-fit (start .pre .0) (after-take-up .take-up .ensures) (not-false _ (else1 .if1 .left)) in
+    did-heard _ _ (aimedAt (start .args .port) (start .args .target)) _ (start .pre .0) (after-take-up .take-up .ensures) (not-false _ (else1 .if1 .left)) (did-first _ _ _ _ (rw (after-setup-in .setup-in .ensures) at (after-is-target .is-target .ensures)) (c .if2 .taken) (record { answer = refl; state = target-put _ _ (f .long) (known f) }))
 
 fault-requires : tie.Need-fault-requires
 fault-requires c κs =
+    let else1 : tie.Else1 = search in
+    let after-take-up : tie.After-take-up = search in
     let start : tie.Start = search in
-    (start .pre .0, start .pre .1)
+    (heard-fit (start .pre .0) (after-take-up .take-up .ensures) (not-false _ (else1 .if1 .left)), start .pre .1)
 
 same-length-3 : tie.Need-same-length-3
 same-length-3 c = search needs
@@ -60,14 +64,15 @@ returns-3 c =
     let after-is-target : tie.After-is-target = search in
     let after-setup-in : tie.After-setup-in = search in
     let else1 : tie.Else1 = search in
-    let after-is-unsolicited : tie.After-is-unsolicited = search in
-    did-request _ _ _ _ (after-is-unsolicited .is-unsolicited .ensures) (else1 .if1 .left) (did-second _ _ _ _ (rw (after-setup-in .setup-in .ensures) at (after-is-target .is-target .ensures)) (else2 .if2 .left) (after-fault .fault .ensures))
+    let after-take-up : tie.After-take-up = search in
+    let start : tie.Start = search in
+    did-heard _ _ (aimedAt (start .args .port) (start .args .target)) _ (start .pre .0) (after-take-up .take-up .ensures) (not-false _ (else1 .if1 .left)) (did-second _ _ _ _ (rw (after-setup-in .setup-in .ensures) at (after-is-target .is-target .ensures)) (else2 .if2 .left) (after-fault .fault .ensures))
 
 pub aim-at-spec : {M : Type 1} → statement M
 aim-at-spec =
     tie.close
     (tie.spec
-    is-unsolicited-requires
+    take-up-requires
     same-length
     returns
     setup-in-requires

@@ -1,89 +1,16 @@
 -- `ask` meets its contract.
 -- Assumes nothing.
-use Prim.Native.Nat.{ℕ, _<_}
-use mathlib.Core.Path.{_≡_, refl, sym, _∙_}
-use mathlib.Core.Bool.{true, false, _||_}
-use mathlib.Core.List.{List}
-use mathlib.Core.Logic.{_⊎_, inl, inr}
-use native.Mathlib.Omega.{arith}
-use borrow.Author.Tests.{eq-eqb, ne-eqb}
-use denote.Enum.Declared.{tagOf}
-use Rattle.parts.proofs.control.Control.{the-type}
-use Rattle.parts.proofs.ByBits.{write-is-data, read-is-data, command-low, response-low}
-use Rattle.parts.specs.Command.{readStatus}
-use Rattle.parts.specs.Control.{controlOf, takesWords, givesWords, isData}
-use Rattle.parts.specs.declared.control.Control.{Control}
-use Rattle.parts.specs.declared.control.Control.the-variants.{Write, Read, Command, Response, StepHead, Reserved, Unsupported, Invalid}
+use mathlib.Core.Path.{refl, sym}
+use borrow.Author.Tests.{eq-eqb, ne-eqb, not-true, not-false}
+use Rattle.parts.proofs.ByBits.{response-low}
+use Rattle.parts.specs.Control.{controlOf}
 use Rattle.drive.proofs.Outcomes.{status-responds}
-use Rattle.drive.specs.Request.{unlessUnsolicited, controlled, dataControl, opened, opening}
-use Rattle.drive.specs.declared.answer.Answer.{Answer}
-use Rattle.events.specs.State.{driveIn}
-use Rattle.events.specs.Fit.{Did}
-use Rattle.events.proofs.Asking.{did-controlled, did-request, did-unsolicited}
+use Rattle.drive.specs.Request.{controlled, dataControl}
+use Rattle.events.proofs.Asking.{heard-fit, did-heard, did-stopped}
 use Rattle.events.proofs.Done.{did-first, did-second}
 use borrow.Author.Needs.{needs}
 use Rattle.events.proofs.request.ask.Statement.{statement}
 use Rattle.events.proofs.request.ask.Tie as tie
-
--- the arms of two kinds, by the tag of the kind that was told
-low : (tag : ℕ) → (tag ≡ 0) ⊎ (tag ≡ 1) → tag < 2
-low tag (inl e) = omega arith
-low tag (inr e) = omega arith
-
-next : (tag : ℕ) → (tag ≡ 2) ⊎ (tag ≡ 3) → (1 < tag) × (tag < 4)
-next tag (inl e) = (omega arith, omega arith)
-next tag (inr e) = (omega arith, omega arith)
-
-did-opening : (state : List ℕ) (port control : ℕ) (kind : Control) {answer : Answer} {state′ : List ℕ} → tagOf the-type kind < 2
-    → kind ≡ controlOf control → Did state (opening (driveIn state) port control) answer state′ → Did state (controlled (controlOf control) (driveIn state) port control) answer state′
-did-opening state port control Write h e d = did-controlled state port control Write e d
-did-opening state port control Read h e d = did-controlled state port control Read e d
-did-opening state port control Command h e d = absurd (omega (arith, h))
-did-opening state port control Response h e d = absurd (omega (arith, h))
-did-opening state port control StepHead h e d = absurd (omega (arith, h))
-did-opening state port control Reserved h e d = absurd (omega (arith, h))
-did-opening state port control Unsupported h e d = absurd (omega (arith, h))
-did-opening state port control Invalid h e d = absurd (omega (arith, h))
-
-did-opened : (state : List ℕ) (port control : ℕ) (kind : Control) {answer : Answer} {state′ : List ℕ} → (1 < tagOf the-type kind) × (tagOf the-type kind < 4)
-    → kind ≡ controlOf control → Did state (opened (driveIn state) control) answer state′ → Did state (controlled (controlOf control) (driveIn state) port control) answer state′
-did-opened state port control Command h e d = did-controlled state port control Command e d
-did-opened state port control Response h e d = did-controlled state port control Response e d
-did-opened state port control Write h e d = absurd (omega (arith, h .0))
-did-opened state port control Read h e d = absurd (omega (arith, h .0))
-did-opened state port control StepHead h e d = absurd (omega (arith, h .1))
-did-opened state port control Reserved h e d = absurd (omega (arith, h .1))
-did-opened state port control Unsupported h e d = absurd (omega (arith, h .1))
-did-opened state port control Invalid h e d = absurd (omega (arith, h .1))
-
--- and what the control then is
-data-kind : (c : ℕ) (kind : Control) → tagOf the-type kind < 2 → kind ≡ controlOf c → isData c ≡ true
-data-kind c Write h e = write-is-data c (rw (← e))
-data-kind c Read h e = read-is-data c (rw (← e))
-data-kind c Command h e = absurd (omega (arith, h))
-data-kind c Response h e = absurd (omega (arith, h))
-data-kind c StepHead h e = absurd (omega (arith, h))
-data-kind c Reserved h e = absurd (omega (arith, h))
-data-kind c Unsupported h e = absurd (omega (arith, h))
-data-kind c Invalid h e = absurd (omega (arith, h))
-
-code-kind : (c : ℕ) (kind : Control) → (1 < tagOf the-type kind) × (tagOf the-type kind < 4) → kind ≡ controlOf c
-    → (isData c ≡ false) × ((takesWords (controlOf c) || givesWords (controlOf c)) ≡ true)
-code-kind c Command h e = (command-low c (sym e), rw (← e))
-code-kind c Response h e = (response-low c (sym e), rw (← e))
-code-kind c Write h e = absurd (omega (arith, h .0))
-code-kind c Read h e = absurd (omega (arith, h .0))
-code-kind c StepHead h e = absurd (omega (arith, h .1))
-code-kind c Reserved h e = absurd (omega (arith, h .1))
-code-kind c Unsupported h e = absurd (omega (arith, h .1))
-code-kind c Invalid h e = absurd (omega (arith, h .1))
-
--- the code that reads status is asked for first
-did-other : (state : List ℕ) (port control : ℕ) {answer : Answer} {state′ : List ℕ} → (control ≡ readStatus → ⊥)
-    → Did state (unlessUnsolicited (driveIn state) port (controlled (controlOf control) (driveIn state) port control)) answer state′
-    → Did state (dataControl (driveIn state) port control) answer state′
-unfolding dataControl
-did-other state port control n d = did-second _ _ _ _ (sym (ne-eqb control readStatus n)) refl d
 
 open-code-requires : tie.Need-open-code-requires
 open-code-requires c κs =
@@ -102,150 +29,40 @@ returns c =
     let status : tie.Then1 = search in
     did-first _ _ _ _ (sym (eq-eqb _ _ (status .if1 .taken))) refl (opened′ .open-code .ensures)
 
-is-unsolicited-requires : tie.Need-is-unsolicited-requires
-is-unsolicited-requires c κs = search needs
+take-up-requires : tie.Need-take-up-requires
+take-up-requires c κs = search needs
 
 same-length-2 : tie.Need-same-length-2
 same-length-2 c = search needs
 
 returns-2 : tie.Need-returns-2
+unfolding dataControl
 returns-2 c =
-    let pending : tie.After-is-unsolicited = search in
+    let pending : tie.After-take-up = search in
     let other : tie.Else1 = search in
     let start : tie.Start = search in
-    did-other _ _ _ (other .if1 .left) (did-unsolicited _ _ _ _ (start .pre .0) (pending .is-unsolicited .ensures) (c .if2 .taken))
+    did-second _ _ _ _ (sym (ne-eqb _ _ (other .if1 .left))) refl (did-stopped _ _ (λ at. controlled (controlOf (start .args .control)) at (start .args .port) (start .args .control)) _ (start .pre .0) (pending .take-up .ensures) (not-true _ (c .if2 .taken)))
 
-control-of-requires : tie.Need-control-of-requires
-control-of-requires c κs = search needs
-
-open-there-requires : tie.Need-open-there-requires
-open-there-requires c κs =
-    let at : tie.At-match-keys1 = search in
-    let kind : tie.After-control-of = search in
+carry-out-requires : tie.Need-carry-out-requires
+carry-out-requires c κs =
+    let quiet : tie.Else2 = search in
+    let pending : tie.After-take-up = search in
     let start : tie.Start = search in
-    (start .pre .0, start .pre .1, data-kind (start .args .control) (kind .control-of .result) (low _ (at .match .keys1)) (kind .control-of .ensures .answer))
-
-open-code-requires-2 : tie.Need-open-code-requires-2
-open-code-requires-2 c κs =
-    let at : tie.At-match-keys2 = search in
-    let kind : tie.After-control-of = search in
-    let start : tie.Start = search in
-    let told = code-kind (start .args .control) (kind .control-of .result) (next _ (at .match .keys2)) (kind .control-of .ensures .answer) in
-    (start .pre .0, told .0, told .1)
-
-enum-told : tie.Need-enum-told
-enum-told c = search needs
-
-step-head-requires : tie.Need-step-head-requires
-step-head-requires c κs = search needs
-
-enum-told-2 : tie.Need-enum-told-2
-enum-told-2 c = search needs
-
-fault-requires : tie.Need-fault-requires
-fault-requires c κs =
-    let start : tie.Start = search in
-    (start .pre .0, start .pre .1)
-
-enum-told-3 : tie.Need-enum-told-3
-enum-told-3 c = search needs
-
-fault-requires-2 : tie.Need-fault-requires-2
-fault-requires-2 c κs =
-    let start : tie.Start = search in
-    (start .pre .0, start .pre .1)
-
-enum-told-4 : tie.Need-enum-told-4
-enum-told-4 c = search needs
-
-fault-requires-3 : tie.Need-fault-requires-3
-fault-requires-3 c κs =
-    let start : tie.Start = search in
-    (start .pre .0, start .pre .1)
+    (heard-fit (start .pre .0) (pending .take-up .ensures) (not-false _ (quiet .if2 .left)), start .pre .1)
 
 same-length-3 : tie.Need-same-length-3
 same-length-3 c = search needs
 
 returns-3 : tie.Need-returns-3
+unfolding dataControl
 returns-3 c =
-    let there : tie.After-open-there = search in
-    let at : tie.At-match-keys1 = search in
-    let kind : tie.After-control-of = search in
+    let done : tie.After-carry-out = search in
     let quiet : tie.Else2 = search in
-    let pending : tie.After-is-unsolicited = search in
+    let pending : tie.After-take-up = search in
     let other : tie.Else1 = search in
-    did-other _ _ _ (other .if1 .left) (did-request _ _ _ _ (pending .is-unsolicited .ensures) (quiet .if2 .left)
-    (did-opening _ _ _ (kind .control-of .result) (low _ (at .match .keys1)) (kind .control-of .ensures .answer) (there .open-there .ensures)))
-
-same-length-4 : tie.Need-same-length-4
-same-length-4 c = search needs
-
-returns-4 : tie.Need-returns-4
-returns-4 c =
-    let here : tie.After-open-code2 = search in
-    let at : tie.At-match-keys2 = search in
-    let kind : tie.After-control-of = search in
-    let quiet : tie.Else2 = search in
-    let pending : tie.After-is-unsolicited = search in
-    let other : tie.Else1 = search in
-    did-other _ _ _ (other .if1 .left) (did-request _ _ _ _ (pending .is-unsolicited .ensures) (quiet .if2 .left)
-    (did-opened _ _ _ (kind .control-of .result) (next _ (at .match .keys2)) (kind .control-of .ensures .answer) (here .open-code2 .ensures)))
-
-same-length-5 : tie.Need-same-length-5
-same-length-5 c = search needs
-
-returns-5 : tie.Need-returns-5
-returns-5 c =
-    let stepped : tie.After-step-head = search in
-    let told : tie.After-enum-told = search in
-    let kind : tie.After-control-of = search in
-    let quiet : tie.Else2 = search in
-    let pending : tie.After-is-unsolicited = search in
-    let other : tie.Else1 = search in
-    did-other _ _ _ (other .if1 .left) (did-request _ _ _ _ (pending .is-unsolicited .ensures) (quiet .if2 .left)
-    (did-controlled _ _ _ StepHead (sym (told .enum-told .given .1) ∙ kind .control-of .ensures .answer) (record { answer = refl; state = stepped .step-head .ensures })))
-
-same-length-6 : tie.Need-same-length-6
-same-length-6 c = search needs
-
-returns-6 : tie.Need-returns-6
-returns-6 c =
-    let bad : tie.After-fault = search in
-    let told : tie.After-enum-told2 = search in
-    let kind : tie.After-control-of = search in
-    let quiet : tie.Else2 = search in
-    let pending : tie.After-is-unsolicited = search in
-    let other : tie.Else1 = search in
-    did-other _ _ _ (other .if1 .left) (did-request _ _ _ _ (pending .is-unsolicited .ensures) (quiet .if2 .left)
-    (did-controlled _ _ _ Reserved (sym (told .enum-told2 .given .1) ∙ kind .control-of .ensures .answer) (bad .fault .ensures)))
-
-same-length-7 : tie.Need-same-length-7
-same-length-7 c = search needs
-
-returns-7 : tie.Need-returns-7
-returns-7 c =
-    let bad : tie.After-fault2 = search in
-    let told : tie.After-enum-told3 = search in
-    let kind : tie.After-control-of = search in
-    let quiet : tie.Else2 = search in
-    let pending : tie.After-is-unsolicited = search in
-    let other : tie.Else1 = search in
-    did-other _ _ _ (other .if1 .left) (did-request _ _ _ _ (pending .is-unsolicited .ensures) (quiet .if2 .left)
-    (did-controlled _ _ _ Unsupported (sym (told .enum-told3 .given .1) ∙ kind .control-of .ensures .answer) (bad .fault2 .ensures)))
-
-same-length-8 : tie.Need-same-length-8
-same-length-8 c = search needs
-
-returns-8 : tie.Need-returns-8
-returns-8 c =
-    let bad : tie.After-fault3 = search in
-    let told : tie.After-enum-told4 = search in
-    let kind : tie.After-control-of = search in
-    let quiet : tie.Else2 = search in
-    let pending : tie.After-is-unsolicited = search in
-    let other : tie.Else1 = search in
-    did-other _ _ _ (other .if1 .left) (did-request _ _ _ _ (pending .is-unsolicited .ensures) (quiet .if2 .left)
-    (did-controlled _ _ _ Invalid (sym (told .enum-told4 .given .1) ∙ kind .control-of .ensures .answer) (bad .fault3 .ensures)))
+    let start : tie.Start = search in
+    did-second _ _ _ _ (sym (ne-eqb _ _ (other .if1 .left))) refl
+    (did-heard _ _ (λ at. controlled (controlOf (start .args .control)) at (start .args .port) (start .args .control)) _ (start .pre .0) (pending .take-up .ensures) (not-false _ (quiet .if2 .left)) (done .carry-out .ensures))
 
 pub ask-spec : {M : Type 1} → statement M
 ask-spec =
@@ -254,29 +71,9 @@ ask-spec =
     open-code-requires
     same-length
     returns
-    is-unsolicited-requires
+    take-up-requires
     same-length-2
     returns-2
-    control-of-requires
-    open-there-requires
-    open-code-requires-2
-    enum-told
-    step-head-requires
-    enum-told-2
-    fault-requires
-    enum-told-3
-    fault-requires-2
-    enum-told-4
-    fault-requires-3
+    carry-out-requires
     same-length-3
-    returns-3
-    same-length-4
-    returns-4
-    same-length-5
-    returns-5
-    same-length-6
-    returns-6
-    same-length-7
-    returns-7
-    same-length-8
-    returns-8)
+    returns-3)

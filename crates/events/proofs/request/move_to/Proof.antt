@@ -1,15 +1,16 @@
 -- `move_to` meets its contract.
 -- Assumes nothing.
 use Rattle.events.proofs.Done.{did-first, did-second}
-use Rattle.drive.specs.Request.{positioned}
+use Rattle.drive.specs.Request.{placedAt, positioned}
 use mathlib.Core.Path.{refl}
-use Rattle.events.proofs.Asking.{did-request, did-unsolicited}
+use borrow.Author.Tests.{not-true, not-false}
+use Rattle.events.proofs.Asking.{heard-fit, did-heard, did-stopped}
 use borrow.Author.Needs.{needs}
 use Rattle.events.proofs.request.move_to.Statement.{statement}
 use Rattle.events.proofs.request.move_to.Tie as tie
 
-is-unsolicited-requires : tie.Need-is-unsolicited-requires
-is-unsolicited-requires c κs = search needs
+take-up-requires : tie.Need-take-up-requires
+take-up-requires c κs = search needs
 
 same-length : tie.Need-same-length
 same-length c = search needs
@@ -17,9 +18,9 @@ same-length c = search needs
 returns : tie.Need-returns
 unfolding positioned
 returns c =
-    let after-is-unsolicited : tie.After-is-unsolicited = search in
+    let after-take-up : tie.After-take-up = search in
     let start : tie.Start = search in
-    did-unsolicited _ _ _ _ (start .pre .0) (after-is-unsolicited .is-unsolicited .ensures) (c .if1 .taken)
+    did-stopped _ _ (placedAt (start .args .port) (start .args .place)) _ (start .pre .0) (after-take-up .take-up .ensures) (not-true _ (c .if1 .taken))
 
 setup-in-requires : tie.Need-setup-in-requires
 setup-in-requires c κs = search needs
@@ -28,7 +29,11 @@ is-place-requires : tie.Need-is-place-requires
 is-place-requires c κs = search needs
 
 put-place-requires : tie.Need-put-place-requires
-put-place-requires c κs = search needs
+put-place-requires c κs =
+    let else1 : tie.Else1 = search in
+    let after-take-up : tie.After-take-up = search in
+    let start : tie.Start = search in
+    heard-fit (start .pre .0) (after-take-up .take-up .ensures) (not-false _ (else1 .if1 .left))
 
 same-length-2 : tie.Need-same-length-2
 same-length-2 c = search needs
@@ -41,13 +46,16 @@ returns-2 c =
     let after-is-place : tie.After-is-place = search in
     let after-setup-in : tie.After-setup-in = search in
     let else1 : tie.Else1 = search in
-    let after-is-unsolicited : tie.After-is-unsolicited = search in
-    did-request _ _ _ _ (after-is-unsolicited .is-unsolicited .ensures) (else1 .if1 .left) (did-first _ _ _ _ (rw (after-setup-in .setup-in .ensures) at (after-is-place .is-place .ensures)) (then2 .if2 .taken) (record { answer = refl; state = (after-put-place .put-place .ensures) }))
+    let after-take-up : tie.After-take-up = search in
+    let start : tie.Start = search in
+    did-heard _ _ (placedAt (start .args .port) (start .args .place)) _ (start .pre .0) (after-take-up .take-up .ensures) (not-false _ (else1 .if1 .left)) (did-first _ _ _ _ (rw (after-setup-in .setup-in .ensures) at (after-is-place .is-place .ensures)) (then2 .if2 .taken) (record { answer = refl; state = (after-put-place .put-place .ensures) }))
 
 fault-requires : tie.Need-fault-requires
 fault-requires c κs =
+    let else1 : tie.Else1 = search in
+    let after-take-up : tie.After-take-up = search in
     let start : tie.Start = search in
-    (start .pre .0, start .pre .1)
+    (heard-fit (start .pre .0) (after-take-up .take-up .ensures) (not-false _ (else1 .if1 .left)), start .pre .1)
 
 same-length-3 : tie.Need-same-length-3
 same-length-3 c = search needs
@@ -60,14 +68,15 @@ returns-3 c =
     let after-is-place : tie.After-is-place = search in
     let after-setup-in : tie.After-setup-in = search in
     let else1 : tie.Else1 = search in
-    let after-is-unsolicited : tie.After-is-unsolicited = search in
-    did-request _ _ _ _ (after-is-unsolicited .is-unsolicited .ensures) (else1 .if1 .left) (did-second _ _ _ _ (rw (after-setup-in .setup-in .ensures) at (after-is-place .is-place .ensures)) (else2 .if2 .left) (after-fault .fault .ensures))
+    let after-take-up : tie.After-take-up = search in
+    let start : tie.Start = search in
+    did-heard _ _ (placedAt (start .args .port) (start .args .place)) _ (start .pre .0) (after-take-up .take-up .ensures) (not-false _ (else1 .if1 .left)) (did-second _ _ _ _ (rw (after-setup-in .setup-in .ensures) at (after-is-place .is-place .ensures)) (else2 .if2 .left) (after-fault .fault .ensures))
 
 pub move-to-spec : {M : Type 1} → statement M
 move-to-spec =
     tie.close
     (tie.spec
-    is-unsolicited-requires
+    take-up-requires
     same-length
     returns
     setup-in-requires
