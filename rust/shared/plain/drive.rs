@@ -197,8 +197,8 @@ impl Drive<'_> {
     #[inline(always)]
     fn position(&mut self, port: Port, place: Place) -> Outcome {
         self.require_rest(port)?;
-        if self.has_unsolicited(port) {
-            return Ok(Answer::Status(Status::UnsolicitedException));
+        if let Some(stopped) = self.begin_request(port) {
+            return Ok(stopped);
         }
         if !self.setup.contains(place) {
             return Ok(self.exception(port, INVALID_PARAMETER));
@@ -210,8 +210,8 @@ impl Drive<'_> {
     #[inline(always)]
     fn target(&mut self, port: Port, target: u16) -> Outcome {
         self.require_rest(port)?;
-        if self.has_unsolicited(port) {
-            return Ok(Answer::Status(Status::UnsolicitedException));
+        if let Some(stopped) = self.begin_request(port) {
+            return Ok(stopped);
         }
         if target != NO_TARGET && target >= *self.setup.sectors {
             return Ok(self.exception(port, INVALID_PARAMETER));
@@ -252,11 +252,19 @@ impl Drive<'_> {
         }
     }
 
+    /// What kinds 3, 7 and 8 begin with: C where something unsolicited is pending. Else an exception
+    /// that was ignored ends here (request M-102), so that octet 2 tells of this request alone.
     #[inline(always)]
-    pub(super) fn has_unsolicited(&self, port: Port) -> bool {
-        self.pending[port as usize] & UNSOLICITED != 0
+    pub(super) fn begin_request(&mut self, port: Port) -> Option<Answer> {
+        let pending = &mut self.pending[port as usize];
+        if *pending & UNSOLICITED != 0 {
+            return Some(Answer::Status(Status::UnsolicitedException));
+        }
+        *pending = 0;
+        None
     }
 
+    /// Adds the bit: a command's last word, unlike a request, clears nothing before it.
     #[inline(always)]
     pub(super) fn exception(&mut self, port: Port, bit: u16) -> Answer {
         self.pending[port as usize] |= bit;

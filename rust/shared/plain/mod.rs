@@ -1,5 +1,5 @@
-//! Document 01 with requests M-100 and M-108 once more, in plain safe Rust and independent of the
-//! proved code: what the tests compare the archive with, and what the speed program measures it
+//! Document 01 with requests M-100, M-102 and M-108 once more, in plain safe Rust and independent of
+//! the proved code: what the tests compare the archive with, and what the speed program measures it
 //! against.
 //!
 //! The helpers are inlined because a drive that is handed to a function left out of line must be

@@ -12,9 +12,12 @@ impl Drive<'_> {
     #[inline(always)]
     pub(super) fn control(&mut self, port: Port, control: Control) -> Outcome {
         self.require_rest(port)?;
-        // The code that reads the status is how a host learns what is pending.
-        if self.has_unsolicited(port) && control != Control::READ_STATUS {
-            return Ok(Answer::Status(Status::UnsolicitedException));
+        // How a host learns what is pending: nothing stops it, and its opening clears nothing.
+        if control == Control::READ_STATUS {
+            return Ok(self.open(control, control.code_words()));
+        }
+        if let Some(stopped) = self.begin_request(port) {
+            return Ok(stopped);
         }
         match control.meaning() {
             Meaning::Write | Meaning::Read => Ok(self.open_data(port, control)),
