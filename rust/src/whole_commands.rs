@@ -15,7 +15,8 @@ pub enum NotDone {
     /// [`Board::read_status`] tells and clears that.
     ///
     /// [`Status::OperationException`]: it opened, its last word asked for a place or a target
-    /// outside the drive, and it is over. The next status response says so.
+    /// outside the drive, and it is over. The status response says so until another request of
+    /// the port is judged, such as the opening of a command.
     Answered(Status),
 }
 
