@@ -259,10 +259,22 @@ fn bad_requests_say_why() {
         (0, position(2, 0, 0), bad),
         (0, ReadStatus, response([0x20, 0x00, 0x40])),
         (0, DataControl(0x83), bad),
+        (0, ReadStatus, response([0x20, 0x00, 0x20])),
         (0, Target(Some(3)), bad),
-        (0, ReadStatus, response([0x20, 0x00, 0x60])),
+        (0, ReadStatus, response([0x20, 0x00, 0x40])),
     ];
     bench_case(&steps, |board| assert_eq!(board.target(), None));
+}
+
+#[test]
+fn an_exception_that_is_ignored_is_cleared_by_the_next_request() {
+    let steps = [
+        (0, Select(0x30), GRANTED),
+        (0, DataControl(0xD0), status(Status::OperationException)),
+        (0, DataControl(0xC4), status(Status::Normal)),
+        (0, ReadStatus, response([0, 0, 0])),
+    ];
+    bench_case(&steps, |board| assert_eq!(board.place().sector, 1));
 }
 
 #[test]

@@ -75,6 +75,16 @@ fn a_place_outside_the_drive_is_told_and_nothing_is_done() {
 }
 
 #[test]
+fn what_was_not_done_is_told_until_another_command_opens() {
+    on_selected_bench(|board| {
+        assert_eq!(board.load_cylinder(0, 2), OUTSIDE);
+        assert_eq!(board.pending(0), Some([0, 0x40]));
+        assert_eq!(board.load_cylinder(0, 1), Ok(()));
+        assert_eq!(board.read_status(0), Ok([0; 8]));
+    });
+}
+
+#[test]
 fn what_is_pending_stops_all_but_reading_it() {
     on_selected_bench(|board| {
         board.event(1, Event::Reset).expect("always accepted");

@@ -1,6 +1,6 @@
 //! Reserve, Release and the other commands and responses (request M-100): the worked cases of the
 //! reading, each at the plain drive and at the archive, and its tables of all codes, all functions
-//! and all holds.
+//! and all holds. Beside them the worked cases of ignored exceptions (request M-102).
 
 mod numbers;
 mod script;
@@ -19,7 +19,7 @@ use tables::{entry, CODES, FUNCTIONS};
 #[path = "../../shared/mod.rs"]
 mod shared;
 
-const CASES: &str = include_str!("cases.md");
+const CASES: &str = concat!(include_str!("cases.md"), include_str!("ignored.md"));
 
 /// A test for each side: what the function asserts of a side holds at both.
 macro_rules! at_both_sides {
@@ -46,7 +46,7 @@ at_both_sides!(
 
 fn worked_cases(side: Side) {
     let cases = cases(CASES);
-    assert_eq!(cases.len(), 19, "all cases of the page are read");
+    assert_eq!(cases.len(), 24, "all cases of the pages are read");
     for case in cases {
         worked_case(side, &case);
     }
