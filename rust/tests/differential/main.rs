@@ -5,6 +5,7 @@
 
 mod codes;
 mod headers;
+mod ignored;
 mod setups;
 mod tally;
 mod words;

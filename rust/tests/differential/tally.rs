@@ -30,6 +30,15 @@ const BEHAVIOURS: [&str; 20] = [
     "a selection cleared parameter words handed in",
     "an opening cleared parameter words handed in",
 ];
+/// What became of an exception that no status had told yet.
+const EXCEPTIONS: [&str; 6] = [
+    "a good request cleared an exception",
+    "a bad request cleared an exception and set its own",
+    "a request cleared several exceptions handed in",
+    "a request answered C left an exception",
+    "the opening of a status read by its code left an exception",
+    "a command that could not be done added to an exception handed in",
+];
 
 #[derive(Default)]
 pub struct Tally {
@@ -60,7 +69,7 @@ impl Tally {
         if returned == 0 {
             self.status(answer[1]);
             self.codes.note(before, event, answer[1]);
-            for behaviour in behaviours(before, event, answer) {
+            for behaviour in shown(before, event, answer) {
                 *self.behaviours.entry(behaviour).or_default() += 1;
             }
         }
@@ -105,7 +114,7 @@ impl Tally {
         for status in STATUSES {
             assert!(self.statuses.contains_key(&status), "no status {status:X}");
         }
-        for behaviour in BEHAVIOURS {
+        for behaviour in BEHAVIOURS.iter().chain(&EXCEPTIONS) {
             assert!(self.behaviours.contains_key(behaviour), "never {behaviour}");
         }
         for returned in [10, 11] {
@@ -120,18 +129,31 @@ impl Tally {
 }
 
 /// What an accepted event showed.
+fn shown(
+    before: &[u16; STATE_WORDS],
+    event: EventOctets,
+    answer: &[u16],
+) -> impl Iterator<Item = &'static str> {
+    let behaviours = behaviours(before, event, answer);
+    let exceptions = exceptions(before, event, answer);
+    let named = BEHAVIOURS.into_iter().zip(behaviours);
+    let named = named.chain(EXCEPTIONS.into_iter().zip(exceptions));
+    named.filter_map(|(name, is_shown)| is_shown.then_some(name))
+}
+
+/// Which of `BEHAVIOURS` it showed.
 fn behaviours(
     before: &[u16; STATE_WORDS],
     [port, kind, octet, ..]: EventOctets,
     answer: &[u16],
-) -> Vec<&'static str> {
+) -> [bool; BEHAVIOURS.len()] {
     let (owner, header, control, moved) = (before[8], before[3], before[14], before[15]);
     let (finished, opened) = (answer[1] == 0, answer[2] != ABSENT);
     let (is_data, is_code) = (control >= 0x80, (1..0x80).contains(&control));
     let taken_over = kind == 1 && owner == 1 - u16::from(port);
     let has_unsolicited = before[16 + usize::from(port)] > 0xFF;
     let has_parameters = before[18..] != [0; 3];
-    let shown = [
+    [
         kind == 4 && is_data && finished,
         kind == 4 && control & 0x8C == 0x84 && moved + 1 == header && answer[1] != 7,
         kind == 5 && is_data && finished,
@@ -152,11 +174,28 @@ fn behaviours(
         kind == 4 && is_code && answer[1] == ABSENT,
         kind == 1 && has_parameters && !is_code,
         kind == 3 && opened && has_parameters,
-    ];
-    let named = BEHAVIOURS.into_iter().zip(shown);
-    named
-        .filter_map(|(name, shown)| shown.then_some(name))
-        .collect()
+    ]
+}
+
+/// Which of `EXCEPTIONS` it showed.
+fn exceptions(
+    before: &[u16; STATE_WORDS],
+    [port, kind, octet, ..]: EventOctets,
+    answer: &[u16],
+) -> [bool; EXCEPTIONS.len()] {
+    let octet2 = before[16 + usize::from(port)] & 0xFF;
+    let status = answer[1];
+    let is_status = kind == 3 && octet == 0x44;
+    let is_request = matches!(kind, 3 | 7 | 8) && octet2 != 0;
+    let is_judged = is_request && !is_status && status != 0xC;
+    [
+        is_judged && status != 8,
+        is_judged && status == 8,
+        is_judged && octet2.count_ones() > 1,
+        is_request && status == 0xC,
+        is_request && is_status,
+        kind == 4 && octet2 != 0 && status == 8,
+    ]
 }
 
 impl fmt::Display for Tally {
