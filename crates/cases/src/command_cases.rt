@@ -188,7 +188,7 @@ const CASES: [u64; 232] = [
     DATA_CONTROL + 0xCC_00_00_00,
     STATUS + 8,
     OPEN,
-    0x0000_0000_0050_0000,
+    0x0000_0000_0010_0000,
     ENDS,
     OWNED_BY_0 + 0x0000_0000_0000,
     // 100-16: Load Position and Read Current Position

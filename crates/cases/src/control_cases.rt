@@ -38,13 +38,12 @@ read at the target\n\
 C0, C4 and D4: no words to come\n\
 9B and DB do what 8B and CB do\n\
 D0 and controls outside 80-9F and C0-DF\n\
-80-83 and 91-93\n\
-the bits of octet 2 add up until read\n",
+80-83 and 91-93\n",
         &CASES,
     )
 }
 
-const CASES: [u64; 196] = [
+const CASES: [u64; 180] = [
     // power-up: at rest
     ENDS,
     OWNED_BY_NOBODY + 0x0000_0000_0000,
@@ -244,23 +243,6 @@ const CASES: [u64; 196] = [
     STATUS + 8,
     READ_STATUS,
     RESPONSE + 0x20_00_20,
-    ENDS,
-    OWNED_BY_0 + 0x0000_0000_0000,
-    // the bits of octet 2 add up until read
-    SELECT + 0x30_00_00_00,
-    DONE,
-    DATA_CONTROL + 0xD0_00_00_00,
-    STATUS + 8,
-    POSITION + 0x0000_02_00,
-    STATUS + 8,
-    POSITION + 0x0000_00_03,
-    STATUS + 8,
-    DATA_CONTROL + 0x80_00_00_00,
-    STATUS + 8,
-    DATA_CONTROL + 0x8C_00_00_00,
-    STATUS + 8,
-    READ_STATUS,
-    RESPONSE + 0x20_00_F0,
     ENDS,
     OWNED_BY_0 + 0x0000_0000_0000,
 ];

@@ -1,5 +1,5 @@
-// Runs the bench cases of document 01 that are not marked P, the worked cases of M-100 and further ones through the public calls,
-// and compares.
+// Runs the bench cases of document 01 that are not marked P, the worked cases of M-100 and M-102 and further ones through the
+// public calls, and compares.
 mod bench;
 mod by_place;
 mod calls;
@@ -11,6 +11,7 @@ mod event;
 mod event_refusal_cases;
 mod handed_cases;
 mod holding_cases;
+mod ignored_cases;
 mod line_cases;
 mod octets;
 mod power;
@@ -35,7 +36,8 @@ fn main() {
     let reserves = reserve_cases::run(holdings);
     let commands = command_cases::run(reserves);
     let responses = response_cases::run(commands);
-    let codes = code_cases::run(responses);
+    let ignored = ignored_cases::run(responses);
+    let codes = code_cases::run(ignored);
     let event_refusals = event_refusal_cases::run(codes);
     let setups = setup_cases::run(event_refusals);
     let states = state_cases::run(setups);

@@ -176,7 +176,7 @@ const CASES: [u64; 178] = [
     ENDS,
     OWNED_BY_0 + 0x0000_0000_0000,
     // 100-8: functions not listed, and functions that act on more
-    // Bit 6 and bit 5; the bits add up until read.
+    // Bit 6 and bit 5; the next opening clears it.
     SELECT + 0x30_00_00_00,
     DONE,
     DATA_CONTROL + 0x01_00_00_00,
@@ -190,9 +190,9 @@ const CASES: [u64; 178] = [
     WORD_FROM_HOST + 0x2222_0000,
     STATUS + 8,
     OPEN,
-    0x0000_0000_0060_0000,
+    0x0000_0000_0020_0000,
     READ_STATUS,
-    RESPONSE + 0x20_00_60,
+    RESPONSE + 0x20_00_20,
     DATA_CONTROL + 0x01_00_00_00,
     OPENED + 0x01_00_00_00,
     WORD_FROM_HOST + 0x1010_0000,

@@ -32,6 +32,7 @@ pub mod Computing
 pub mod CommandCases
 pub mod Commands
 pub mod CommandRuns
+pub mod OneFault
 pub mod Ignored
 pub mod IgnoredCases
 pub mod WrongAnswers

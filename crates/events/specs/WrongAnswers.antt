@@ -7,7 +7,7 @@ use Rattle.parts.specs.Tests.{transferring}
 use Rattle.parts.specs.declared.setup.Setup.{Setup}
 use Rattle.parts.specs.declared.event.Event.{Event}
 use Rattle.parts.specs.declared.holding.Hold.the-variants.{None, Strong}
-use Rattle.drive.specs.State.{atPlace, withPlace, withTransfer, withPending, told}
+use Rattle.drive.specs.State.{atPlace, withPlace, withTarget, withTransfer, withPending, told}
 use Rattle.drive.specs.Power.{atRest, setupOf}
 use Rattle.drive.specs.Event.{Handled}
 use Rattle.drive.specs.AnswerWords.{answerWords}
@@ -16,7 +16,7 @@ use Rattle.drive.specs.NeverDead.{sent, wordSent}
 use Rattle.drive.specs.WrongAnswers.{selectedBy}
 use Rattle.drive.specs.declared.drive.Drive.{Drive}
 use Rattle.drive.specs.declared.answer.Answer.{Answer}
-use Rattle.drive.specs.declared.answer.Answer.the-variants.{Refused, Done, Status, Word}
+use Rattle.drive.specs.declared.answer.Answer.the-variants.{Refused, Done, Status, Opened, Word}
 use Rattle.events.specs.State.{stateWords}
 use Rattle.events.specs.Power.{PoweredUpOnWords}
 use Rattle.events.specs.Event.{EventOnWords}
@@ -40,6 +40,14 @@ selection port = 0 ∷ 0 ∷ port ∷ 1 ∷ 0x30 ∷ 0 ∷ 0 ∷ 0 ∷ []
 -- Port 0 is selected, and so many words of a transfer have passed.
 abbrev moving : ℕ → ℕ → Drive
 moving control moved = withTransfer (selectedBy 0 None) (transferring control moved)
+
+-- Port 0 is selected, and this stands in octet 2 of port 0 and of port 1.
+abbrev faulty : ℕ → ℕ → Drive
+faulty first second = withPending (selectedBy 0 None) (pendingOf 0 first) (pendingOf 0 second)
+
+-- A takeover was noticed on port 0, which is selected again, and this stands in its octet 2.
+abbrev warned : ℕ → Drive
+warned octet2 = withPending (selectedBy 0 None) (pendingOf alternatePortPrioritySelect octet2) nothingPending
 
 -- A transfer is over, at the next sector.
 abbrev over : Drive
@@ -90,6 +98,20 @@ pub record WrongAnswers : Type 0 where
       (Status 0) over (sector 7 0xCC 0 0) (sector 7 0xCC 0 0) → ⊥
   -- A read of field 1 begins with the header's word.
   pub readAFieldTooEarly : Handles (moving 0xC1 0) (sent 0 5 0 0) (sector 7 1 2 3) zeros (Word 7) (moving 0xC1 1) (sector 7 1 2 3) zeros → ⊥
+  -- A request clears the other port's octet 2 as well.
+  pub otherPortCleared : Handles (faulty 0x80 0x80) (sent 0 8 0 1) zeros zeros (Status 0) (withTarget (faulty 0 0) 1) zeros zeros → ⊥
+  -- A request that is answered C clears octet 2.
+  pub clearsWithC : Handles (warned 0x80) (sent 0 8 0 1) zeros zeros (Status 0xC) (warned 0) zeros zeros → ⊥
+  -- A refused one does: a write is open.
+  pub refusedYetClears : Handles (withTransfer (faulty 0x80 0) (transferring 0x85 2)) (sent 0 8 0 1) zeros zeros
+      (Refused 7) (withTransfer (faulty 0 0) (transferring 0x85 2)) zeros zeros → ⊥
+  -- A bad request adds its bit to the one that was ignored.
+  pub bitsAddUp : Handles (faulty 0x80 0) (sent 0 8 0 3) zeros zeros (Status 8) (faulty 0xC0 0) zeros zeros → ⊥
+  -- The code that reads status clears at its opening.
+  pub clearedUnread : Handles (faulty 0x80 0) (sent 0 3 0x44 0) zeros zeros
+      (Opened 4 (atPlace 0 0 0)) (withTransfer (faulty 0 0) (transferring 0x44 0)) zeros zeros → ⊥
+  -- A command's bad last word clears the bit that stands: it only sets its own.
+  pub lastWordClears : Handles (withTransfer (faulty 0x80 0) (transferring 0x05 0)) (wordSent 0 2) zeros zeros (Status 8) (faulty 0x40 0) zeros zeros → ⊥
   -- ---- `power_up_words`
   -- Address and field 2 changed over.
   pub addressForFieldTwo : PowersUp bench (replicate 21 0) 0 (stateWords (atRest (setupOf 2 2 3 1 2 3 1))) → ⊥
