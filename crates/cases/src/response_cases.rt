@@ -210,7 +210,7 @@ const CASES: [u64; 192] = [
     STANDS,
     0x0001_0001_0002_FFFF,
     OPEN,
-    0x0000_0000_0040_0000,
+    0x0000_0000_0000_0000,
     ENDS,
     OWNED_BY_0 + 0x0001_0001_0002,
     // C before every code but Read Status
