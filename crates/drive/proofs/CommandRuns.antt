@@ -140,8 +140,11 @@ module _ (m : Machine) (port : ℕ) (q : Idle m port) where
       aim-told : targeted (withPlace (heard .drive) p) port target ≡ told (Status normal) (withTarget (withPlace (heard .drive) p) target)
       unfolding targeted pick
       aim-told =
-          rw (eq-eqb (pendingOn (withPlace (heard .drive) p) port .octet1) 0 (ap (λ (x : Pending). x .octet1) left-pending ∙ quiet),
-          nothing-to-clear (withPlace (heard .drive) p) port (ap (λ (x : Pending). x .octet2) left-pending), still-aimed)
+          rw (
+            eq-eqb (pendingOn (withPlace (heard .drive) p) port .octet1) 0 (ap (λ (x : Pending). x .octet1) left-pending ∙ quiet),
+            nothing-to-clear (withPlace (heard .drive) p) port (ap (λ (x : Pending). x .octet2) left-pending),
+            still-aimed,
+          )
 
       aims : Does (withDrive m (withPlace (heard .drive) p)) (sent port 8 (target / 256) (target % 256))
           (quietly m (told (Status normal) (withTarget (withPlace (heard .drive) p) target)))

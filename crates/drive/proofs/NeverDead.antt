@@ -260,10 +260,10 @@ whole-run m port p (word ∷ later) q =
     let r = is-ready m port (q .real) (q .sound) in
     let clear = already-clear m port (q .real) (q .sound) in
     let position : Does (withDrive m (ready m port)) (positionSent port p) (quietly m (told (Status normal) (there m port p))) =
-        rw (clear (ready m port .place)) at (position-does (q .real) (status .sound) (r (ready m port .place)) p (q .inside)) in
+    rw (clear (ready m port .place)) at (position-does (q .real) (status .sound) (r (ready m port .place)) p (q .inside)) in
     let control : Does (withDrive m (there m port p)) (sent port 3 wholeSector 0)
-        (quietly m (told (Opened (sectorWords (m .drive .setup)) p) (withTransfer (there m port p) (transferring wholeSector 0)))) =
-        rw (clear p) at (control-does (q .real) (position .sound) (r p)) in
+    (quietly m (told (Opened (sectorWords (m .drive .setup)) p) (withTransfer (there m port p) (transferring wholeSector 0)))) =
+    rw (clear p) at (control-does (q .real) (position .sound) (r p)) in
     let count : sectorWords (m .drive .setup) - 1 ≡ length later = omega (arith, q .whole) in
     rw count
     (follows (reset-does m port (q .real) (q .sound))

@@ -4,8 +4,7 @@ use Prim.Native.Nat.{ℕ, _+_, _<_, _≤_}
 use mathlib.Core.Path.{_≡_, refl, sym, ap, _∙_}
 use mathlib.Core.Bool.{Bool, true, false, not, true≢false}
 use mathlib.Core.Logic.{_⊎_, inl, inr}
-use native.Mathlib.Omega.{arith}
-use borrow.Author.Tests.{eqb-true, eqb-false, ltb-false}
+use borrow.Author.Tests.{eqb-true, ltb-false}
 use lib.Dec.{eqb}
 use Rattle.laws.specs.Pick.{pick}
 use Rattle.laws.proofs.Pick.{either, cases}
@@ -164,7 +163,7 @@ module _ (m : Machine) (e : Event) (port : ℕ) (real : port ≤ 1) (octets : Ar
       by-port (inl p) =
           byRequest (rw z (Outcomes.request-clears q)) p (rw p none)
           (rw p (asked-left (posted-there (m .drive) (e .port) _ ∙ ap (λ (n : ℕ). pendingOf n 0) none) x))
-      by-port (inr p) = 
+      by-port (inr p) =
           same (asked-elsewhere port (λ r new. posted-elsewhere _ (e .port) port new p) x ∙ posted-elsewhere (m .drive) (e .port) port _ p)
 
   quiet-left : {work : Work} {o : Outcome} → kindOf (e .kind) ≡ Use work → e .port ≤ 1 → Outcomes.Quiet (m .drive) e (m .sectors) work o → Framed o

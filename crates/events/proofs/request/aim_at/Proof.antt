@@ -47,11 +47,7 @@ returns-2 c =
     did-heard _ _ (aimedAt (start .args .port) (start .args .target)) _ (start .pre .0) (after-take-up .take-up .ensures) (not-false _ (else1 .if1 .left)) (did-first _ _ _ _ (rw (after-setup-in .setup-in .ensures) at (after-is-target .is-target .ensures)) (c .if2 .taken) (record { answer = refl; state = target-put _ _ (f .long) (known f) }))
 
 fault-requires : tie.Need-fault-requires
-fault-requires c κs =
-    let else1 : tie.Else1 = search in
-    let after-take-up : tie.After-take-up = search in
-    let start : tie.Start = search in
-    (heard-fit (start .pre .0) (after-take-up .take-up .ensures) (not-false _ (else1 .if1 .left)), start .pre .1)
+fault-requires c κs = search (heard-fit, not-false)
 
 same-length-3 : tie.Need-same-length-3
 same-length-3 c = search needs

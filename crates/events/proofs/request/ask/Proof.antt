@@ -44,11 +44,7 @@ returns-2 c =
     did-second _ _ _ _ (sym (ne-eqb _ _ (other .if1 .left))) refl (did-stopped _ _ (λ at. controlled (controlOf (start .args .control)) at (start .args .port) (start .args .control)) _ (start .pre .0) (pending .take-up .ensures) (not-true _ (c .if2 .taken)))
 
 carry-out-requires : tie.Need-carry-out-requires
-carry-out-requires c κs =
-    let quiet : tie.Else2 = search in
-    let pending : tie.After-take-up = search in
-    let start : tie.Start = search in
-    (heard-fit (start .pre .0) (pending .take-up .ensures) (not-false _ (quiet .if2 .left)), start .pre .1)
+carry-out-requires c κs = search (heard-fit, not-false)
 
 same-length-3 : tie.Need-same-length-3
 same-length-3 c = search needs

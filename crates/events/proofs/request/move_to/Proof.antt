@@ -29,11 +29,7 @@ is-place-requires : tie.Need-is-place-requires
 is-place-requires c κs = search needs
 
 put-place-requires : tie.Need-put-place-requires
-put-place-requires c κs =
-    let else1 : tie.Else1 = search in
-    let after-take-up : tie.After-take-up = search in
-    let start : tie.Start = search in
-    heard-fit (start .pre .0) (after-take-up .take-up .ensures) (not-false _ (else1 .if1 .left))
+put-place-requires c κs = search (heard-fit, not-false)
 
 same-length-2 : tie.Need-same-length-2
 same-length-2 c = search needs
@@ -51,11 +47,7 @@ returns-2 c =
     did-heard _ _ (placedAt (start .args .port) (start .args .place)) _ (start .pre .0) (after-take-up .take-up .ensures) (not-false _ (else1 .if1 .left)) (did-first _ _ _ _ (rw (after-setup-in .setup-in .ensures) at (after-is-place .is-place .ensures)) (then2 .if2 .taken) (record { answer = refl; state = (after-put-place .put-place .ensures) }))
 
 fault-requires : tie.Need-fault-requires
-fault-requires c κs =
-    let else1 : tie.Else1 = search in
-    let after-take-up : tie.After-take-up = search in
-    let start : tie.Start = search in
-    (heard-fit (start .pre .0) (after-take-up .take-up .ensures) (not-false _ (else1 .if1 .left)), start .pre .1)
+fault-requires c κs = search (heard-fit, not-false)
 
 same-length-3 : tie.Need-same-length-3
 same-length-3 c = search needs
