@@ -1,11 +1,12 @@
-/* Pantoglide 2.1: the proved drive behind a C interface.
+/* Pantoglide 2.2: the proved drive behind a C interface.
  *
  * Two hosts share a drive, one on each of two IPI-2 ports, 0 and 1. The firmware hands each thing
  * that a host does to pg_event, with the words of the drive; the call does what the drive would do
  * and tells what to answer. This header is all that a caller needs to read. The rules are those of
  * the paper that the project calls document 01, with commands and responses as request M-100 adds
- * them and the maker's defect map as M-108 does. All take them from three papers on IPI: 001 (a
- * drive's manual), 003 (the physical level) and 004 (IPI-2). Octets are in hex.
+ * them, exceptions that a host ignores as M-102 mends them, and the maker's defect map as M-108 adds
+ * it. All take them from three papers on IPI: 001 (a drive's manual), 003 (the physical level) and
+ * 004 (IPI-2). Octets are in hex.
  *
  *
  * WHAT IT NEEDS
@@ -69,7 +70,7 @@ extern "C" {
 /* The version of this header and of the archive it belongs to. The major number grows where a
  * program that was written for the last one may need a change; CHANGELOG.md says which. */
 #define PG_VERSION_MAJOR 2
-#define PG_VERSION_MINOR 1
+#define PG_VERSION_MINOR 2
 
 /* ---- The drive ---------------------------------------------------------------------------- */
 
@@ -325,10 +326,12 @@ enum {
 /* The drive status octets (004, 8.3.9). The drive never sends busy: refusal 6 stands for it.
  *
  * Kinds 3, 7 and 8 are answered with C, and do nothing, while a bit of response octet 1 is pending
- * on their port, but for PG_CODE_READ_STATUS; else with 8 if they ask what cannot be done, which
- * sets a bit of octet 2. The last word of a command, kind 4, is answered with 8 in the same way and
- * never with C. Kinds 1, 2 and 10, the opening of a transfer and a word before the last have no
- * status. All else has 0, but for status 7 of a verify. */
+ * on their port. Else they first clear octet 2 of their port: an exception that the host has ignored
+ * ends there. Then, if they ask what cannot be done, they are answered with 8, and set a bit of octet
+ * 2. PG_CODE_READ_STATUS is never answered with C, and its opening clears nothing. The last word of a
+ * command, kind 4, is answered with 8 in the same way, but never with C, and it clears nothing before
+ * it sets its bit; the command's opening has done that. Kinds 1, 2 and 10, the opening of a transfer
+ * and a word before the last have no status. All else has 0, but for status 7 of a verify. */
 enum {
     PG_STATUS_NORMAL = 0x00,
     PG_STATUS_BUSY = 0x01,
@@ -339,8 +342,11 @@ enum {
 
 /* The status response (001, figure 3-3): 8 octets, of which octets 3 to 7 are 0. PG_READ_STATUS
  * answers them and clears what was pending on its port, and so do the four words of
- * PG_CODE_READ_STATUS, of which the last one clears. Nothing else clears that but PG_RESET, which
- * leaves Reset Complete alone on both ports. Octet 0 follows from the others.
+ * PG_CODE_READ_STATUS, of which the last one clears. Nothing else clears octet 1 but PG_RESET, which
+ * leaves Reset Complete alone on both ports and octet 2 zero. Octet 2 is also cleared by its port's
+ * next event of kind 3, 7 or 8 that is neither refused nor answered with C, PG_CODE_READ_STATUS
+ * excepted; so it tells of the last request alone. From power-up it never has two bits; a state that
+ * is handed in may have several. Octet 0 follows from the others.
  *
  *     octet  bit   001's name                        set by
  *     0      40    UNSOLICITED EXCEPTION             octet 1 is not 0

@@ -6,6 +6,7 @@
 mod figures;
 mod maps;
 mod sides;
+mod stream;
 mod traces;
 mod workloads;
 

@@ -5,14 +5,19 @@ use crate::shared::plain::{self, ANSWER_WORDS, RECORD_OCTETS, STATE_WORDS};
 use crate::shared::random::Random;
 use crate::shared::streams::{likely_event, record, EventOctets};
 use crate::sides::Call;
+use crate::stream::Stream;
 use crate::traces;
 use pantoglide::command::{
     Function, LOAD_DRIVE_FUNCTION, LOAD_POSITION, READ_CURRENT_POSITION, READ_STATUS,
 };
+use pantoglide::control::STEP_HEAD;
 
 /// The number of cylinders of the big drives.
 const MANY_CYLINDERS: u16 = 4096;
-const ADDRESS: u16 = 3;
+pub const ADDRESS: u16 = 3;
+const RESERVED_CONTROL: u8 = 0xD0;
+const UNSUPPORTED_CONTROL: u8 = 0x83;
+const READ_NO_WORDS: u8 = 0xC4;
 
 pub struct Workload {
     pub name: &'static str,
@@ -31,12 +36,6 @@ pub struct Words {
     pub state: Vec<u16>,
     pub sectors: Vec<u16>,
     pub staging: Vec<u16>,
-}
-
-struct Stream {
-    random: Random,
-    words: Words,
-    records: Vec<[u8; RECORD_OCTETS]>,
 }
 
 /// All workloads of a call, in the order of its table.
@@ -71,6 +70,8 @@ fn events() -> Vec<Workload> {
             "em 8-word headers, 4,096 cylinders",
             long_header_drive(MANY_CYLINDERS),
         ),
+        requests("n  requests", 2),
+        requests("en requests, 4,096 cylinders", MANY_CYLINDERS),
     ]
 }
 
@@ -155,6 +156,22 @@ fn commands(name: &'static str, cylinders: u16) -> Workload {
     stream.named(name)
 }
 
+/// Good and bad requests of a host that never reads its status.
+fn requests(name: &'static str, cylinders: u16) -> Workload {
+    let mut stream = Stream::selected(bench_drive(cylinders));
+    for _ in 0..500 {
+        stream.push(3, [RESERVED_CONTROL, 0, 0, 0]);
+        stream.push(3, [READ_NO_WORDS, 0, 0, 0]);
+        stream.push(7, [0xFF, 0, 0, 0]);
+        stream.position();
+        stream.push(8, [0, 0xFF, 0, 0]);
+        stream.push(8, [0, 1, 0, 0]);
+        stream.push(3, [UNSUPPORTED_CONTROL, 0, 0, 0]);
+        stream.push(3, [STEP_HEAD, 0, 0, 0]);
+    }
+    stream.deselected(name)
+}
+
 /// A trace of settings, with a drive that it leaves alone.
 fn settings(name: &'static str, settings: Vec<u8>) -> Workload {
     Workload {
@@ -228,75 +245,5 @@ impl Words {
             &mut answer,
         );
         event
-    }
-}
-
-impl Stream {
-    fn new(words: Words) -> Stream {
-        Stream {
-            random: Random::new(0x5EED),
-            words,
-            records: Vec::new(),
-        }
-    }
-
-    /// A stream of port 0's that begins with its selection.
-    fn selected(words: Words) -> Stream {
-        let mut stream = Stream::new(words);
-        stream.push(1, [(ADDRESS << 4) as u8, 0, 0, 0]);
-        stream
-    }
-
-    fn deselected(mut self, name: &'static str) -> Workload {
-        self.push(2, [0; 4]);
-        self.named(name)
-    }
-
-    fn named(self, name: &'static str) -> Workload {
-        let Stream { words, records, .. } = self;
-        Workload {
-            name,
-            words,
-            records,
-            settings: Vec::new(),
-            map: None,
-        }
-    }
-
-    fn push(&mut self, kind: u8, [a0, a1, a2, a3]: [u8; 4]) {
-        self.records.push(record(0, [0, kind, a0, a1, a2, a3]));
-    }
-
-    /// Cylinder, head and sector of a random place in the drive.
-    fn random_place(&mut self) -> [u16; 3] {
-        [0, 1, 2].map(|at| self.random.below(self.words.state[at].into()) as u16)
-    }
-
-    fn position(&mut self) {
-        let [cylinder, head, sector] = self.random_place();
-        let [high, low] = cylinder.to_be_bytes();
-        self.push(7, [high, low, head as u8, sector as u8]);
-    }
-
-    fn command(&mut self, code: u8, words: &[u16]) {
-        self.push(3, [code, 0, 0, 0]);
-        for word in words {
-            let [high, low] = word.to_be_bytes();
-            self.push(4, [high, low, 0, 0]);
-        }
-    }
-
-    fn response(&mut self, code: u8, words: usize) {
-        self.push(3, [code, 0, 0, 0]);
-        for _ in 0..words {
-            self.push(5, [0; 4]);
-        }
-    }
-
-    fn words_from_host(&mut self, count: usize) {
-        for _ in 0..count {
-            let [high, low] = self.random.word().to_be_bytes();
-            self.push(4, [high, low, 0, 0]);
-        }
     }
 }
