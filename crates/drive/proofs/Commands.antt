@@ -34,6 +34,7 @@ use Rattle.drive.specs.Run.{Machine, machine, answerTo, after}
 use Rattle.drive.specs.Sessions.{Is}
 use Rattle.drive.specs.CutShort.{Cuts, byEnd, byTakeover, byReset}
 use Rattle.drive.specs.Commands.{holdAfter, holdLeft, HoldsByCommand, KeptOut, CommandsKeepOut, asOpened, cutAlone, CommandCutShort}
+use Rattle.drive.specs.Frame as frame
 use Rattle.drive.specs.declared.drive.Drive.{Drive}
 use Rattle.drive.specs.declared.answer.Answer.{Answer}
 use Rattle.drive.specs.declared.answer.Outcome.{Outcome}
@@ -100,9 +101,9 @@ module _ (d : Drive) (e : Event) (sectors staging : List ℕ) (p : Passable d se
 
   asked-holds : {at : Drive} {work : Work} {o : Outcome} → at .holding ≡ d .holding → Outcomes.Asked at e work o → o .drive .holding ≡ withHold (d .holding) (holdLeft work d e)
   unfolding postedOn headStepped atItsTarget ended
-  asked-holds h (Outcomes.bad (Outcomes.control n) b) = h
-  asked-holds h (Outcomes.bad Outcomes.position b) = h
-  asked-holds h (Outcomes.bad Outcomes.target b) = h
+  asked-holds h (Outcomes.bad (frame.control n) b) = h
+  asked-holds h (Outcomes.bad frame.position b) = h
+  asked-holds h (Outcomes.bad frame.target b) = h
   asked-holds h (Outcomes.stepped k) = h
   asked-holds h (Outcomes.nothingToCome (Outcomes.inPlace a) w) = h
   asked-holds h (Outcomes.nothingToCome (Outcomes.atTarget a z) w) = h
@@ -113,9 +114,9 @@ module _ (d : Drive) (e : Event) (sectors staging : List ℕ) (p : Passable d se
 
   quiet-holds : {work : Work} {o : Outcome} → row7 work d ≡ false → Outcomes.Quiet d e sectors work o → o .drive .holding ≡ withHold (d .holding) (holdLeft work d e)
   unfolding postedOn octet2Cleared ended
-  quiet-holds t (Outcomes.unsolicited (Outcomes.control n)) = refl
-  quiet-holds t (Outcomes.unsolicited Outcomes.position) = refl
-  quiet-holds t (Outcomes.unsolicited Outcomes.target) = refl
+  quiet-holds t (Outcomes.unsolicited (frame.control n)) = refl
+  quiet-holds t (Outcomes.unsolicited frame.position) = refl
+  quiet-holds t (Outcomes.unsolicited frame.target) = refl
   quiet-holds t (Outcomes.asked (Outcomes.afresh c z) x) = asked-holds refl x
   quiet-holds t (Outcomes.asked (Outcomes.asItWas z) x) = asked-holds refl x
   quiet-holds t (Outcomes.takenLast high) = refl
@@ -267,7 +268,7 @@ in-place {c = c} low w (Outcomes.atTarget a z) = absurd (true≢false (sym a ∙
 
 as-opened : {d at : Drive} {e : Event} → Outcomes.Heard d e DataControl at → at ≡ asOpened e d
 unfolding pick
-as-opened (Outcomes.afresh (Outcomes.control n) z) = rw n
+as-opened (Outcomes.afresh (frame.control n) z) = rw n
 as-opened (Outcomes.asItWas z) = rw z
 
 pub command-cut-short : CommandCutShort

@@ -125,7 +125,7 @@ over-on : {n j : ℕ} {sectors : List ℕ} (m : Machine) (e : Event) → isWrite
 over-on {n} {j} {sectors} m e w s t = by-outcome (Outcomes.work-done (m .drive) e (m .sectors) (m .staging) WordFromHost)
   where
     by-outcome : {r : Result} → Outcomes.WorkDone (m .drive) e (m .sectors) (m .staging) WordFromHost r → Unfinished n j sectors (left r)
-    by-outcome (Outcomes.quiet (Outcomes.asked h (Outcomes.bad q b))) = absurd (false≢true (Outcomes.request-clears q))
+    by-outcome (Outcomes.quiet (Outcomes.asked h (Outcomes.bad q b))) = elim q [ ]
     by-outcome (Outcomes.quiet (Outcomes.exchanged low x)) = over (exchange-closed low x) s
     by-outcome (Outcomes.miscompared high) = never-sent (m .drive) w high t
     by-outcome (Outcomes.completed high z) = never-sent (m .drive) w high t

@@ -19,6 +19,7 @@ use Rattle.drive.specs.Power as power
 use Rattle.drive.specs.EveryAnswer as every
 use Rattle.drive.specs.EveryAnswer.{requestStatuses, Accepted, Listed, refusalNumbers, EveryAnswer}
 use Rattle.drive.specs.Exactly.{Exactly}
+use Rattle.drive.specs.Frame as frame
 use Rattle.drive.specs.declared.drive.Drive.{Drive}
 use Rattle.drive.specs.declared.answer.Outcome.{Outcome}
 use Rattle.drive.specs.declared.answer.Answer.{Answer}
@@ -28,10 +29,10 @@ use Rattle.drive.proofs.Outcomes
 
 -- ---- what each kind answers
 
-request-answers : {work : Work} {e : Event} {status : ℕ} → Outcomes.Request e work → oneOf requestStatuses status ≡ true → Accepted (Use work) (Status status)
-request-answers (Outcomes.control n) h = every.controlled h
-request-answers Outcomes.position h = every.positioned h
-request-answers Outcomes.target h = every.targeted h
+request-answers : {work : Work} {e : Event} {status : ℕ} → frame.Request e (Use work) → oneOf requestStatuses status ≡ true → Accepted (Use work) (Status status)
+request-answers (frame.control n) h = every.controlled h
+request-answers frame.position h = every.positioned h
+request-answers frame.target h = every.targeted h
 
 exchange-answers : {d : Drive} {e : Event} {work : Work} {o : Outcome} → Outcomes.Exchanged d e work o → Accepted (Use work) (o .answer)
 exchange-answers (Outcomes.kept z) = every.more

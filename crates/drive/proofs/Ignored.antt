@@ -4,20 +4,20 @@ use Prim.Native.Nat.{ℕ}
 use mathlib.Core.Path.{_≡_, refl, sym, ap, _∙_}
 use mathlib.Core.Bool.{Bool, true, false, false≢true, true≢false}
 use mathlib.Core.List.{List}
-use borrow.Author.Tests.{eqb-true, not-true}
+use borrow.Author.Tests.{eqb-true}
 use lib.Dec.{eqb}
-use Rattle.parts.specs.Command.{readStatus}
 use Rattle.parts.specs.Pending.{pendingOf}
-use Rattle.parts.specs.Kind.{Kind, Select, Deselect, Use, Reset, Unknown, Work, DataControl, WordFromHost, TakeWord, End, Position, Target, ReadStatus, kindOf}
+use Rattle.parts.specs.Kind.{Kind, Select, Deselect, Use, Reset, Unknown, Work, DataControl, Position, Target, kindOf}
 use Rattle.parts.specs.declared.event.Event.{Event}
 use Rattle.drive.specs.State.{pendingOn, Result}
 use Rattle.drive.specs.Request.{octet2Cleared}
 use Rattle.drive.specs.Answer.{unsolicitedException}
 use Rattle.drive.specs.Accepted.{isRefused}
-use Rattle.drive.specs.Frame.{clearsFirst, RequestLeaves}
+use Rattle.drive.specs.Frame.{RequestLeaves}
 use Rattle.drive.specs.Power.{atRest}
 use Rattle.drive.specs.Run.{Machine, machine, answerTo, after, final}
 use Rattle.drive.specs.Ignored.{Ignored}
+use Rattle.drive.specs.Frame as frame
 use Rattle.drive.specs.declared.drive.Drive.{Drive}
 use Rattle.drive.specs.declared.answer.Answer.{Answer}
 use Rattle.drive.specs.declared.answer.Answer.the-variants.{Refused, Done, Status, Opened, Word, LastWord, Response}
@@ -32,49 +32,35 @@ use Rattle.drive.proofs.Outcomes
 use Rattle.drive.proofs.OneFault.{Few, one-from-rest}
 
 -- words, takes and End are no requests
-exchange-clears : {d : Drive} {e : Event} {work : Work} {o : Outcome} → Outcomes.Exchanged d e work o → clearsFirst (Use work) e ≡ false
-exchange-clears (Outcomes.kept z) = refl
-exchange-clears (Outcomes.obeys h) = refl
-exchange-clears (Outcomes.disobeys b) = refl
-exchange-clears (Outcomes.tells z) = refl
-exchange-clears (Outcomes.tellsLast z) = refl
-exchange-clears Outcomes.cut = refl
+no-exchange : {d : Drive} {e : Event} {work : Work} {o : Outcome} → frame.Request e (Use work) → Outcomes.Exchanged d e work o → ⊥
+no-exchange (frame.control n) x = elim x [ ]
+no-exchange frame.position x = elim x [ ]
+no-exchange frame.target x = elim x [ ]
 
-quiet-clears : {d : Drive} {e : Event} {sectors : List ℕ} {work : Work} {o : Outcome} → Outcomes.Request e work → Outcomes.Quiet d e sectors work o
+quiet-clears : {d : Drive} {e : Event} {sectors : List ℕ} {work : Work} {o : Outcome} → frame.Request e (Use work) → Outcomes.Quiet d e sectors work o
     → (o .answer ≡ Status unsolicitedException → ⊥) → RequestLeaves (o .answer) (pendingOn (o .drive) (e .port))
 unfolding octet2Cleared
 quiet-clears q (Outcomes.unsolicited r) n = absurd (n refl)
 quiet-clears {d} {e} q (Outcomes.asked (Outcomes.afresh r y) x) n =
     asked-left (posted-there d (e .port) _ ∙ ap (λ (octet : ℕ). pendingOf octet 0) (eqb-true _ 0 y)) x
 quiet-clears q (Outcomes.asked (Outcomes.asItWas y) x) n = absurd (not-for-status q y)
-quiet-clears q (Outcomes.exchanged low x) n = absurd (true≢false (sym (Outcomes.request-clears q) ∙ exchange-clears x))
+quiet-clears q (Outcomes.exchanged low x) n = absurd (no-exchange q x)
 
-request-of : (work : Work) (e : Event) → clearsFirst (Use work) e ≡ true → Outcomes.Request e work
-request-of DataControl e c = Outcomes.control (not-true (eqb (e .a0) readStatus) c)
-request-of Position e c = Outcomes.position
-request-of Target e c = Outcomes.target
-request-of WordFromHost e c = absurd (false≢true c)
-request-of TakeWord e c = absurd (false≢true c)
-request-of End e c = absurd (false≢true c)
-request-of ReadStatus e c = absurd (false≢true c)
-
-work-clears : {d : Drive} {e : Event} {sectors staging : List ℕ} {work : Work} {r : Result} → Outcomes.Request e work → Outcomes.WorkDone d e sectors staging work r
+work-clears : {d : Drive} {e : Event} {sectors staging : List ℕ} {work : Work} {r : Result} → frame.Request e (Use work) → Outcomes.WorkDone d e sectors staging work r
     → (r .outcome .answer ≡ Status unsolicitedException → ⊥) → RequestLeaves (r .outcome .answer) (pendingOn (r .outcome .drive) (e .port))
 work-clears q (Outcomes.quiet x) n = quiet-clears q x n
 
-kind-clears : (k : Kind) (m : Machine) (e : Event) → clearsFirst k e ≡ true → ((doneBy k m e) .outcome .answer ≡ Status unsolicitedException → ⊥)
+kind-clears : (m : Machine) (e : Event) {k : Kind} → frame.Request e k → ((doneBy k m e) .outcome .answer ≡ Status unsolicitedException → ⊥)
     → RequestLeaves ((doneBy k m e) .outcome .answer) (pendingOn ((doneBy k m e) .outcome .drive) (e .port))
-kind-clears Select m e c n = absurd (false≢true c)
-kind-clears Deselect m e c n = absurd (false≢true c)
-kind-clears Reset m e c n = absurd (false≢true c)
-kind-clears Unknown m e c n = absurd (false≢true c)
-kind-clears (Use work) m e c n = work-clears (request-of work e c) (Outcomes.work-done (m .drive) e (m .sectors) (m .staging) work) n
+kind-clears m e (frame.control c) n = work-clears (frame.control c) (Outcomes.work-done (m .drive) e (m .sectors) (m .staging) DataControl) n
+kind-clears m e frame.position n = work-clears frame.position (Outcomes.work-done (m .drive) e (m .sectors) (m .staging) Position) n
+kind-clears m e frame.target n = work-clears frame.target (Outcomes.work-done (m .drive) e (m .sectors) (m .staging) Target) n
 
-clears-first : (m : Machine) (e : Event) → clearsFirst (kindOf (e .kind)) e ≡ true → isRefused (answerTo m e) ≡ false
+clears-first : (m : Machine) (e : Event) → frame.Request e (kindOf (e .kind)) → isRefused (answerTo m e) ≡ false
     → (answerTo m e ≡ Status unsolicitedException → ⊥) → RequestLeaves (answerTo m e) (pendingOn ((after m e) .drive) (e .port))
-clears-first m e c =
+clears-first m e q =
     by-cases (λ answer next. isRefused answer ≡ false → (answer ≡ Status unsolicitedException → ⊥) → RequestLeaves answer (pendingOn (next .drive) (e .port))) m e
-    (λ n z a s. absurd (true≢false a)) (λ k z p a s. kind-clears k m e (rw z at c) s)
+    (λ n z a s. absurd (true≢false a)) (λ k z p a s. kind-clears m e (rw z at q) s)
 
 -- C, which only a request that is stopped is answered
 isC : Answer → Bool

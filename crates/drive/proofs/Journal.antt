@@ -36,6 +36,7 @@ use Rattle.parts.specs.declared.command.Function.{Function}
 use Rattle.parts.specs.declared.control.Control.{Control}
 use Rattle.parts.specs.declared.transfer.Transfer.{Transfer}
 use Rattle.parts.specs.declared.setup.Setup.{Setup}
+use Rattle.drive.specs.Frame as frame
 use Rattle.drive.specs.declared.drive.Drive.{Drive}
 use Rattle.parts.specs.declared.event.Event.{Event}
 use Rattle.drive.specs.declared.answer.Answer.{Answer}
@@ -100,16 +101,16 @@ low-not-write t low = writes-take (t .control) ∙ rw low (and-false (isTaking t
 -- ---- kinds 3 to 9
 
 -- kinds 3, 7 and 8 that were stopped or bad leave the page as it was
-request-noted : {work : Work} {e : Event} → Outcomes.Request e work → (told : Paper) (going : Option Write) → told .place ≡ none → noted (Use work) e told going ≡ page going []
-request-noted (Outcomes.control n) told going h = rw h
-request-noted Outcomes.position told going h = refl
-request-noted Outcomes.target told going h = refl
+request-noted : {work : Work} {e : Event} → frame.Request e (Use work) → (told : Paper) (going : Option Write) → told .place ≡ none → noted (Use work) e told going ≡ page going []
+request-noted (frame.control n) told going h = rw h
+request-noted frame.position told going h = refl
+request-noted frame.target told going h = refl
 
 -- nothing is open where they are let pass
-pub request-idle : {work : Work} {e : Event} (d : Drive) → Outcomes.Request e work → row7 work d ≡ false → isOneOpen d ≡ false
-request-idle d (Outcomes.control n) t = t
-request-idle d Outcomes.position t = t
-request-idle d Outcomes.target t = t
+pub request-idle : {work : Work} {e : Event} (d : Drive) → frame.Request e (Use work) → row7 work d ≡ false → isOneOpen d ≡ false
+request-idle d (frame.control n) t = t
+request-idle d frame.position t = t
+request-idle d frame.target t = t
 
 -- where no write is open before and after
 still-none : (d d′ : Drive) (staging : List ℕ) → isWriteOpen (d .transfer) ≡ false → isWriteOpen (d′ .transfer) ≡ false

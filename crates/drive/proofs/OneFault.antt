@@ -25,6 +25,7 @@ use Rattle.drive.specs.Refusal.{row7, isOneOpen}
 use Rattle.drive.specs.Power.{atRest}
 use Rattle.drive.specs.Run.{Machine, machine, after, final}
 use Rattle.drive.specs.Ignored.{OneAtMost, none, one}
+use Rattle.drive.specs.Frame as frame
 use Rattle.drive.specs.declared.drive.Drive.{Drive}
 use Rattle.drive.specs.declared.answer.Outcome.{Outcome}
 use Rattle.drive.proofs.Laws.{by-cases, doneBy, AllPassed, its-own}
@@ -78,14 +79,14 @@ not-44 c t = by-test (eqb c readStatus) refl
     by-test false z = refl
 
 module _ {d : Drive} {e : Event} (f : OnBoth Few d) (idle : isOneOpen d ≡ false) (own : d .holding .selected ≡ e .port) where
-  asked-one : {work : Work} {o : Outcome} → (Outcomes.Request e work → pendingOn d (e .port) .octet2 ≡ 0) → Outcomes.Asked d e work o → OneFault (o .drive)
+  asked-one : {work : Work} {o : Outcome} → (frame.Request e (Use work) → pendingOn d (e .port) .octet2 ≡ 0) → Outcomes.Asked d e work o → OneFault (o .drive)
   unfolding pendingOn postedOn headStepped atItsTarget ended
   asked-one z (Outcomes.bad q b) = unless-coming (posted-on Few d (e .port) _ f (one-set (pendingOn d (e .port)) (z q) b)) (idle-taking d idle)
   asked-one z (Outcomes.stepped k) = unless-coming f (idle-taking d idle)
   asked-one z (Outcomes.nothingToCome (Outcomes.inPlace a) w) = unless-coming f none-taking
   asked-one z (Outcomes.nothingToCome (Outcomes.atTarget a t) w) = unless-coming f none-taking
-  asked-one z (Outcomes.opens (Outcomes.inPlace a) w y) = record { few = f; coming = λ t. rw own (z (Outcomes.control (not-44 (e .a0) t))) }
-  asked-one z (Outcomes.opens (Outcomes.atTarget a s) w y) = record { few = f; coming = λ t. rw own (z (Outcomes.control (not-44 (e .a0) t))) }
+  asked-one z (Outcomes.opens (Outcomes.inPlace a) w y) = record { few = f; coming = λ t. rw own (z (frame.control (not-44 (e .a0) t))) }
+  asked-one z (Outcomes.opens (Outcomes.atTarget a s) w y) = record { few = f; coming = λ t. rw own (z (frame.control (not-44 (e .a0) t))) }
   asked-one z (Outcomes.placed p) = unless-coming f (idle-taking d idle)
   asked-one z (Outcomes.aimed t) = unless-coming f (idle-taking d idle)
 

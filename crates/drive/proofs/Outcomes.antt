@@ -24,7 +24,7 @@ use Rattle.drive.specs.Transfer.{committed, staged, wordStaged, wordTake
 use Rattle.drive.specs.Command.{withParameter, placeSought, targetSought, seeking, functioned, obeyed, parameterSent, wordsTold, statusCleared, responseTaken, wordFromHost, wordToHost, endedEarly}
 use Rattle.parts.specs.Kind.{Use, Work, DataControl, WordFromHost, TakeWord, End, Position, Target, ReadStatus, wordOf, placeOf}
 use Rattle.drive.specs.Event.{act}
-use Rattle.drive.specs.Frame.{clearsFirst}
+use Rattle.drive.specs.Frame.{Request, control, position, target}
 use Rattle.parts.specs.declared.control.Control.{Control}
 use Rattle.parts.specs.declared.control.Control.the-variants.{StepHead}
 use Rattle.parts.specs.declared.control.Control.the-variants as control-of
@@ -83,17 +83,6 @@ pub data Exchanged (d : Drive) (e : Event) : Work → Outcome → Type 0 where
 
 -- ---- all of them
 
--- kinds 3, 7 and 8 but for the code that reads status: what an unsolicited exception stops, what clears octet 2 and what can be bad
-pub data Request (e : Event) : Work → Type 0 where
-  control : eqb (e .a0) readStatus ≡ false → Request e DataControl
-  position : Request e Position
-  target : Request e Target
-
-pub request-clears : {e : Event} {work : Work} → Request e work → clearsFirst (Use work) e ≡ true
-request-clears (control n) = rw n
-request-clears position = refl
-request-clears target = refl
-
 -- the drive as a transfer opens on it: where it was, or at its target
 pub data Sought (d : Drive) (c : ℕ) : Drive → Type 0 where
   inPlace : isAtTarget c ≡ false → Sought d c d
@@ -101,12 +90,12 @@ pub data Sought (d : Drive) (c : ℕ) : Drive → Type 0 where
 
 -- the drive that a request is one to: octet 2 of its port is cleared, but not by the code that reads status
 pub data Heard (d : Drive) (e : Event) : Work → Drive → Type 0 where
-  afresh : {work : Work} → Request e work → eqb (pendingOn d (e .port) .octet1) 0 ≡ true → Heard d e work (octet2Cleared d (e .port))
+  afresh : {work : Work} → Request e (Use work) → eqb (pendingOn d (e .port) .octet1) 0 ≡ true → Heard d e work (octet2Cleared d (e .port))
   asItWas : eqb (e .a0) readStatus ≡ true → Heard d e DataControl d
 
 -- what a request does to the drive that it is one to
 pub data Asked (d : Drive) (e : Event) : Work → Outcome → Type 0 where
-  bad : {work : Work} {bit : ℕ} → Request e work → OneBit bit
+  bad : {work : Work} {bit : ℕ} → Request e (Use work) → OneBit bit
       → Asked d e work (told (Status operationException) (postedOn d (e .port) (faulted (pendingOn d (e .port)) bit)))
   stepped : controlOf (e .a0) ≡ StepHead → Asked d e DataControl (told (Status normal) (headStepped d))
   nothingToCome : {at : Drive} → Sought d (e .a0) at → (isWrite (controlOf (e .a0)) || isRead (controlOf (e .a0))) ≡ true
@@ -122,7 +111,7 @@ wordAt d sectors = getD (wordsRead (d .setup) (d .transfer .control) (sectorAt (
 
 -- what leaves the lent words as they were
 pub data Quiet (d : Drive) (e : Event) (sectors : List ℕ) : Work → Outcome → Type 0 where
-  unsolicited : {work : Work} → Request e work → Quiet d e sectors work (told (Status unsolicitedException) d)
+  unsolicited : {work : Work} → Request e (Use work) → Quiet d e sectors work (told (Status unsolicitedException) d)
   asked : {at : Drive} {work : Work} {o : Outcome} → Heard d e work at → Asked at e work o → Quiet d e sectors work o
   takenLast : isData (d .transfer .control) ≡ true → Quiet d e sectors TakeWord (told (LastWord (wordAt d sectors)) (ended d))
   taken : isData (d .transfer .control) ≡ true → eqb (d .transfer .moved + 1) (wordsToCome (d .setup) (d .transfer .control)) ≡ false
@@ -185,7 +174,7 @@ module _ (d : Drive) (e : Event) where
   control-done n control-of.Invalid q = bad (control n) bit7
 
 module _ (d : Drive) (e : Event) (sectors staging : List ℕ) where
-  unless-stopped : {work : Work} {request : Drive → Outcome} → Request e work → ((at : Drive) → Asked at e work (request at))
+  unless-stopped : {work : Work} {request : Drive → Outcome} → Request e (Use work) → ((at : Drive) → Asked at e work (request at))
       → Quiet d e sectors work (unlessUnsolicited d (e .port) request)
   unless-stopped {work} q done = cases (Quiet d e sectors work) _ (λ z. asked (afresh q z) (done (octet2Cleared d (e .port)))) (λ z. unsolicited q)
 

@@ -69,8 +69,8 @@ either-port true p = refl
 either-port false p = refl
 
 -- the code that reads status is no request that could be bad
-pub not-for-status : {e : Event} → Outcomes.Request e DataControl → eqb (e .a0) readStatus ≡ true → ⊥
-not-for-status (Outcomes.control n) y = true≢false (sym y ∙ n)
+pub not-for-status : {e : Event} → frame.Request e (Use DataControl) → eqb (e .a0) readStatus ≡ true → ⊥
+not-for-status (frame.control n) y = true≢false (sym y ∙ n)
 
 -- a request leaves its own bit if it is bad, and the other port's as it was
 alone : {bit : ℕ} → OneBit bit → faulted nothingPending bit ≡ pendingOf 0 bit
@@ -93,7 +93,7 @@ asked-left h (Outcomes.placed p) = rw h frame.ended
 asked-left h (Outcomes.aimed t) = rw h frame.ended
 
 asked-elsewhere : {d : Drive} {e : Event} {work : Work} {o : Outcome} (port : ℕ)
-    → (Outcomes.Request e work → (new : Pending) → pendingOn (postedOn d (e .port) new) port ≡ pendingOn d port) → Outcomes.Asked d e work o
+    → (frame.Request e (Use work) → (new : Pending) → pendingOn (postedOn d (e .port) new) port ≡ pendingOn d port) → Outcomes.Asked d e work o
     → pendingOn (o .drive) port ≡ pendingOn d port
 unfolding pendingOn headStepped atItsTarget ended
 asked-elsewhere port z (Outcomes.bad q b) = z q _
@@ -151,7 +151,7 @@ module _ (m : Machine) (e : Event) (port : ℕ) (real : port ≤ 1) (octets : Ar
   exchange-left z own Outcomes.cut = gained (nothing-new _)
 
   -- a request that was taken up: its own port's is what it leaves, the other's is as it was
-  asked-framed : {work : Work} {o : Outcome} → kindOf (e .kind) ≡ Use work → e .port ≤ 1 → Outcomes.Request e work → eqb (pendingOn (m .drive) (e .port) .octet1) 0 ≡ true
+  asked-framed : {work : Work} {o : Outcome} → kindOf (e .kind) ≡ Use work → e .port ≤ 1 → frame.Request e (Use work) → eqb (pendingOn (m .drive) (e .port) .octet1) 0 ≡ true
       → Outcomes.Asked (octet2Cleared (m .drive) (e .port)) e work o → Framed o
   unfolding octet2Cleared
   asked-framed {o = o} z own q y x = by-port (same-or-other port (e .port) real own)
@@ -161,7 +161,7 @@ module _ (m : Machine) (e : Event) (port : ℕ) (real : port ≤ 1) (octets : Ar
 
       by-port : (port ≡ e .port) ⊎ (eqb port 0 ≡ not (eqb (e .port) 0)) → Framed o
       by-port (inl p) =
-          byRequest (rw z (Outcomes.request-clears q)) p (rw p none)
+          byRequest (rw z q) p (rw p none)
           (rw p (asked-left (posted-there (m .drive) (e .port) _ ∙ ap (λ (n : ℕ). pendingOf n 0) none) x))
       by-port (inr p) =
           same (asked-elsewhere port (λ r new. posted-elsewhere _ (e .port) port new p) x ∙ posted-elsewhere (m .drive) (e .port) port _ p)

@@ -21,6 +21,7 @@ use Rattle.drive.specs.Answer.{Paper, paper}
 use Rattle.drive.specs.Accepted.{isRefused}
 use Rattle.drive.specs.Run.{Machine, answerTo, after, answers, final}
 use Rattle.drive.specs.Standing.{Standing, standing, withTransfer, sought, isNormal, recalibrated, atOnce, onNextSector, stands, standsAfter, standingFrom}
+use Rattle.drive.specs.Frame as frame
 use Rattle.drive.specs.declared.drive.Drive.{Drive}
 use Rattle.drive.specs.declared.answer.Answer.{Answer}
 use Rattle.drive.specs.declared.answer.Outcome.{Outcome}
@@ -55,12 +56,12 @@ sought-setup (Outcomes.inPlace a) = refl
 sought-setup (Outcomes.atTarget a z) = refl
 
 -- kinds 3, 7 and 8 that were stopped or bad stay where they were
-request-stands : {work : Work} {e : Event} → Outcomes.Request e work → (s : Setup) (told : Paper) (w : Standing) → told .place ≡ none → isNormal (told .status) ≡ false
+request-stands : {work : Work} {e : Event} → frame.Request e (Use work) → (s : Setup) (told : Paper) (w : Standing) → told .place ≡ none → isNormal (told .status) ≡ false
     → stands (Use work) s e told w ≡ w
 unfolding pick
-request-stands (Outcomes.control c) s told w h n = rw (h, n)
-request-stands Outcomes.position s told w h n = rw n
-request-stands Outcomes.target s told w h n = rw n
+request-stands (frame.control c) s told w h n = rw (h, n)
+request-stands frame.position s told w h n = rw n
+request-stands frame.target s told w h n = rw n
 
 function-stands : {d at : Drive} {f : Function} → Outcomes.FunctionDone d f at → standing (recalibrated f (d .place)) (d .target) (d .transfer) ≡ standingOf at
 unfolding reserved unreserved priorityReserved

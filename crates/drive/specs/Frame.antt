@@ -1,7 +1,7 @@
 -- `frame`: a commit changes the named written fields of one sector and no other word; staging changes at one index; what is pending stays so but for what clears it.
 use Prim.Native.Nat.{ℕ, _+_, _-_, _<_, _≤_}
 use mathlib.Core.Path.{_≡_}
-use mathlib.Core.Bool.{Bool, true, false, not, _&&_}
+use mathlib.Core.Bool.{Bool, true, false, _&&_}
 use mathlib.Core.List.{List}
 use lib.Dec.{eqb, leb, ltb}
 use lib.ListN.{length, getD, set}
@@ -9,7 +9,7 @@ use Rattle.laws.specs.Pick.{pick}
 use Rattle.parts.specs.Command.{readStatus}
 use Rattle.parts.specs.Control.{controlOf, isWrite, movesHeader, namesField1, namesField2, part}
 use Rattle.parts.specs.Pending.{nothingPending, pendingOf, resetComplete, OneBit, StaysSet}
-use Rattle.parts.specs.Kind.{Kind, Select, Deselect, Use, Reset, Unknown, DataControl, WordFromHost, TakeWord, End, Position, Target, ReadStatus, kindOf, wordOf}
+use Rattle.parts.specs.Kind.{Kind, Use, Reset, DataControl, WordFromHost, TakeWord, Position, Target, ReadStatus, kindOf, wordOf}
 use Rattle.drive.specs.Answer.{normal, operationException}
 use Rattle.drive.specs.State.{pendingOn}
 use Rattle.drive.specs.Transfer.{committed}
@@ -46,18 +46,10 @@ pub data StagingFrame (m : Machine) (e : Event) (left : List ℕ) : Type 0 where
   oneWord : kindOf (e .kind) ≡ Use WordFromHost → isWrite (controlOf (m .drive .transfer .control)) ≡ true → left ≡ set (m .staging) (m .drive .transfer .moved) (wordOf e) → StagingFrame m e left
 
 -- M-102: "an event of kind 3, 7 or 8 (but not M-100's code that reads status)".
-abbrev pub clearsFirst : Kind → Event → Bool
-clearsFirst (Use DataControl) e = not (eqb (e .a0) readStatus)
-clearsFirst (Use Position) e = true
-clearsFirst (Use Target) e = true
-clearsFirst (Use WordFromHost) e = false
-clearsFirst (Use TakeWord) e = false
-clearsFirst (Use End) e = false
-clearsFirst (Use ReadStatus) e = false
-clearsFirst Select e = false
-clearsFirst Deselect e = false
-clearsFirst Reset e = false
-clearsFirst Unknown e = false
+pub data Request (e : Event) : Kind → Type 0 where
+  control : eqb (e .a0) readStatus ≡ false → Request e (Use DataControl)
+  position : Request e (Use Position)
+  target : Request e (Use Target)
 
 -- What it leaves pending on its port, by its answer, where that is neither a refusal nor C: it "first clears that port's octet 2, then sets its own bit
 -- if it is bad".
@@ -70,7 +62,7 @@ pub data RequestLeaves : Answer → Pending → Type 0 where
 -- octet 2, for its own read status, by kind 9 or by the last word of 44, and for Reset.
 pub data PendingFrame (m : Machine) (e : Event) (port : ℕ) (answer : Answer) (left : Pending) : Type 0 where
   kept : StaysSet (pendingOn (m .drive) port .octet1) (left .octet1) → StaysSet (pendingOn (m .drive) port .octet2) (left .octet2) → PendingFrame m e port answer left
-  byRequest : clearsFirst (kindOf (e .kind)) e ≡ true → port ≡ e .port → pendingOn (m .drive) port .octet1 ≡ 0 → RequestLeaves answer left
+  byRequest : Request e (kindOf (e .kind)) → port ≡ e .port → pendingOn (m .drive) port .octet1 ≡ 0 → RequestLeaves answer left
       → PendingFrame m e port answer left
   byStatus : kindOf (e .kind) ≡ Use ReadStatus → port ≡ e .port → left ≡ nothingPending → PendingFrame m e port answer left
   byLastWord : kindOf (e .kind) ≡ Use TakeWord → m .drive .transfer .control ≡ readStatus → m .drive .transfer .moved + 1 ≡ 4 → port ≡ e .port

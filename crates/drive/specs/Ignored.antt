@@ -1,7 +1,7 @@
 -- M-102, ignored operation exceptions: what a request leaves pending on its port, and that from power-up no port ever has two bits of octet 2.
 use Prim.Native.Nat.{ℕ, _%_}
 use mathlib.Core.Path.{_≡_}
-use mathlib.Core.Bool.{true, false}
+use mathlib.Core.Bool.{false}
 use mathlib.Core.List.{List}
 use Rattle.parts.specs.Pending.{OneBit, pendingOf}
 use Rattle.parts.specs.Kind.{kindOf}
@@ -13,7 +13,7 @@ use Rattle.drive.specs.Refusal.{row11}
 use Rattle.drive.specs.Power.{atRest}
 use Rattle.drive.specs.Accepted.{isRefused}
 use Rattle.drive.specs.Run.{Machine, machine, answerTo, after, final}
-use Rattle.drive.specs.Frame.{clearsFirst, RequestLeaves}
+use Rattle.drive.specs.Frame.{Request, RequestLeaves}
 use Rattle.drive.specs.declared.drive.Drive.{Drive}
 use Rattle.drive.specs.declared.answer.Answer.the-variants.{Status}
 
@@ -25,7 +25,7 @@ pub data OneAtMost : ℕ → Type 0 where
 pub record Ignored : Type 0 where
   -- "an event of kind 3, 7 or 8 (but not M-100's code that reads status) that is not refused and not answered C first clears that port's octet 2, then
   -- sets its own bit if it is bad."
-  pub clears-first : (m : Machine) (e : Event) → clearsFirst (kindOf (e .kind)) e ≡ true → isRefused (answerTo m e) ≡ false
+  pub clears-first : (m : Machine) (e : Event) → Request e (kindOf (e .kind)) → isRefused (answerTo m e) ≡ false
       → (answerTo m e ≡ Status unsolicitedException → ⊥) → RequestLeaves (answerTo m e) (pendingOn ((after m e) .drive) (e .port))
   -- One that is answered C changes nothing; nor does a refused one (`refused-changes-nothing`).
   pub stopped : (m : Machine) (e : Event) → answerTo m e ≡ Status unsolicitedException → after m e ≡ m
