@@ -6,6 +6,7 @@ use crate::row::END;
 use crate::row::ENDS;
 use crate::row::EXPECTS;
 use crate::row::LAST_WORD;
+use crate::row::OPEN;
 use crate::row::OPENED;
 use crate::row::OWNED_BY_0;
 use crate::row::OWNED_BY_NOBODY;
@@ -38,12 +39,13 @@ read at the target\n\
 C0, C4 and D4: no words to come\n\
 9B and DB do what 8B and CB do\n\
 D0 and controls outside 80-9F and C0-DF\n\
-80-83 and 91-93\n",
+80-83 and 91-93\n\
+a head or a sector outside; each bad request leaves its own bit\n",
         &CASES,
     )
 }
 
-const CASES: [u64; 180] = [
+const CASES: [u64; 204] = [
     // power-up: at rest
     ENDS,
     OWNED_BY_NOBODY + 0x0000_0000_0000,
@@ -243,6 +245,31 @@ const CASES: [u64; 180] = [
     STATUS + 8,
     READ_STATUS,
     RESPONSE + 0x20_00_20,
+    ENDS,
+    OWNED_BY_0 + 0x0000_0000_0000,
+    // a head or a sector outside; each bad request leaves its own bit
+    SELECT + 0x30_00_00_00,
+    DONE,
+    DATA_CONTROL + 0xD0_00_00_00,
+    STATUS + 8,
+    OPEN,
+    0x0000_0000_0080_0000,
+    POSITION + 0x0000_02_00,
+    STATUS + 8,
+    OPEN,
+    0x0000_0000_0040_0000,
+    DATA_CONTROL + 0x80_00_00_00,
+    STATUS + 8,
+    OPEN,
+    0x0000_0000_0020_0000,
+    POSITION + 0x0000_00_03,
+    STATUS + 8,
+    OPEN,
+    0x0000_0000_0040_0000,
+    DATA_CONTROL + 0x8C_00_00_00,
+    STATUS + 8,
+    READ_STATUS,
+    RESPONSE + 0x20_00_10,
     ENDS,
     OWNED_BY_0 + 0x0000_0000_0000,
 ];

@@ -176,7 +176,7 @@ const CASES: [u64; 178] = [
     ENDS,
     OWNED_BY_0 + 0x0000_0000_0000,
     // 100-8: functions not listed, and functions that act on more
-    // Bit 6 and bit 5; the next opening clears it.
+    // Bit 6 and bit 5; each is gone at the next opening.
     SELECT + 0x30_00_00_00,
     DONE,
     DATA_CONTROL + 0x01_00_00_00,

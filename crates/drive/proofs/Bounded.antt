@@ -28,10 +28,9 @@ use Rattle.drive.specs.Request.{octet2Cleared}
 use Rattle.drive.specs.Answer.{paper, refusalIn}
 use Rattle.drive.specs.AnswerWords.{answerWords, wordsOfAnswers, answerIn, answersIn}
 use Rattle.drive.specs.Refusal.{rows, refusalOf}
-use Rattle.drive.specs.Frame.{AreOctets}
 use Rattle.drive.specs.Able.{Passable}
 use Rattle.drive.specs.Run.{Machine, answerTo, after, answers, final}
-use Rattle.drive.specs.Bounded.{statuses, responseTo, Bounded, PendingOctets, AllBounded, AnswersBounded}
+use Rattle.drive.specs.Bounded.{AreOctets, statuses, responseTo, Bounded, PendingOctets, AllBounded, AnswersBounded}
 use Rattle.drive.specs.declared.drive.Drive.{Drive}
 use Rattle.drive.specs.declared.answer.Answer.{Answer}
 use Rattle.drive.specs.declared.answer.Answer.the-variants.{Refused, Done, Status, Opened, Word, LastWord, Response}
@@ -77,7 +76,7 @@ asked-bounded p (Outcomes.aimed h) = refl
 quiet-bounded : {d : Drive} {e : Event} {sectors staging : List ℕ} {work : Work} {o : Outcome} → Passable d sectors staging
     → (AreOctets (d .pending0) × AreOctets (d .pending1)) → Outcomes.Quiet d e sectors work o → Bounded (d .setup) (o .answer)
 unfolding octet2Cleared postedOn
-quiet-bounded p f (Outcomes.unsolicited q) = refl
+quiet-bounded p f (Outcomes.unsolicited q z) = refl
 quiet-bounded p f (Outcomes.asked (Outcomes.afresh c z) x) = asked-bounded (heard-passable p (Outcomes.afresh c z)) x
 quiet-bounded p f (Outcomes.asked (Outcomes.asItWas z) x) = asked-bounded p x
 quiet-bounded p f (Outcomes.takenLast high) = tt

@@ -1,4 +1,4 @@
--- What is posted on a port, and the drive that a request is one to.
+-- What is posted on a port, and the drive that a request finds.
 -- Assumes nothing.
 use Prim.Native.Nat.{ℕ, _≤_}
 use mathlib.Core.Path.{_≡_, refl, sym, ap, _∙_}

@@ -114,9 +114,9 @@ module _ (d : Drive) (e : Event) (sectors staging : List ℕ) (p : Passable d se
 
   quiet-holds : {work : Work} {o : Outcome} → row7 work d ≡ false → Outcomes.Quiet d e sectors work o → o .drive .holding ≡ withHold (d .holding) (holdLeft work d e)
   unfolding postedOn octet2Cleared ended
-  quiet-holds t (Outcomes.unsolicited (frame.control n)) = refl
-  quiet-holds t (Outcomes.unsolicited frame.position) = refl
-  quiet-holds t (Outcomes.unsolicited frame.target) = refl
+  quiet-holds t (Outcomes.unsolicited (frame.control n) z) = refl
+  quiet-holds t (Outcomes.unsolicited frame.position z) = refl
+  quiet-holds t (Outcomes.unsolicited frame.target z) = refl
   quiet-holds t (Outcomes.asked (Outcomes.afresh c z) x) = asked-holds refl x
   quiet-holds t (Outcomes.asked (Outcomes.asItWas z) x) = asked-holds refl x
   quiet-holds t (Outcomes.takenLast high) = refl
@@ -164,7 +164,7 @@ asked-in-place {e = e} low (Outcomes.opens (Outcomes.atTarget a y) o z) = absurd
 control-stays : {d : Drive} {e : Event} {sectors : List ℕ} {o : Outcome} → isData (e .a0) ≡ false → Outcomes.Quiet d e sectors DataControl o
     → o .drive .place .sector ≡ d .place .sector
 unfolding postedOn octet2Cleared
-control-stays low (Outcomes.unsolicited q) = refl
+control-stays low (Outcomes.unsolicited q z) = refl
 control-stays low (Outcomes.asked (Outcomes.afresh c z) x) = asked-in-place low x
 control-stays low (Outcomes.asked (Outcomes.asItWas z) x) = asked-in-place low x
 

@@ -186,7 +186,7 @@ asked-closed c (Outcomes.aimed h) n = c
 quiet-closed : {d : Drive} {e : Event} {sectors : List ℕ} {work : Work} {o : Outcome} → isWriteOpen (d .transfer) ≡ false → Outcomes.Quiet d e sectors work o
     → opensWrite e (o .answer) ≡ false → isWriteOpen (o .drive .transfer) ≡ false
 unfolding postedOn octet2Cleared ended
-quiet-closed c (Outcomes.unsolicited q) n = c
+quiet-closed c (Outcomes.unsolicited q z) n = c
 quiet-closed c (Outcomes.asked (Outcomes.afresh f z) x) n = asked-closed c x n
 quiet-closed c (Outcomes.asked (Outcomes.asItWas z) x) n = asked-closed c x n
 quiet-closed c (Outcomes.takenLast high) n = no-write

@@ -29,7 +29,7 @@ use Rattle.drive.proofs.Outcomes
 
 -- ---- what each kind answers
 
-request-answers : {work : Work} {e : Event} {status : ℕ} → frame.Request e (Use work) → oneOf requestStatuses status ≡ true → Accepted (Use work) (Status status)
+request-answers : {work : Work} {e : Event} {status : ℕ} → frame.ClearsFirst e (Use work) → oneOf requestStatuses status ≡ true → Accepted (Use work) (Status status)
 request-answers (frame.control n) h = every.controlled h
 request-answers frame.position h = every.positioned h
 request-answers frame.target h = every.targeted h
@@ -51,7 +51,7 @@ asked-answers (Outcomes.placed h) = every.positioned refl
 asked-answers (Outcomes.aimed h) = every.targeted refl
 
 quiet-answers : {d : Drive} {e : Event} {sectors : List ℕ} {work : Work} {o : Outcome} → Outcomes.Quiet d e sectors work o → Accepted (Use work) (o .answer)
-quiet-answers (Outcomes.unsolicited q) = request-answers q refl
+quiet-answers (Outcomes.unsolicited q z) = request-answers q refl
 quiet-answers (Outcomes.asked h x) = asked-answers x
 quiet-answers (Outcomes.takenLast high) = every.lastTaken
 quiet-answers (Outcomes.taken high z) = every.taken

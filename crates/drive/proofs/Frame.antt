@@ -21,7 +21,7 @@ use Rattle.drive.specs.State.{Result, pendingOn}
 use Rattle.drive.specs.Transfer.{committed}
 use Rattle.drive.specs.Refusal.{row7}
 use Rattle.drive.specs.Able.{Room}
-use Rattle.drive.specs.Frame.{isIn, wordWritten, CommitFrame, StagingFrame, asItWas, oneWord, PendingFrame, kept, Frame}
+use Rattle.drive.specs.Frame.{isIn, wordWritten, CommitFrame, StagingFrame, asItWas, oneWord, PendingFrame, asBefore, Frame}
 use Rattle.drive.specs.Run.{Machine}
 use Rattle.parts.specs.declared.setup.Setup.{Setup}
 use Rattle.parts.specs.declared.event.Event.{Event}
@@ -116,6 +116,6 @@ frame =
     record {
       commit = commit-frame;
       staging = λ m e. by-cases (λ answer next. StagingFrame m e (next .staging)) m e (λ n z. asItWas refl) (λ k z p. staging-by k m e z p);
-      pending = λ m e port real octets.
-          by-cases (λ answer next. PendingFrame m e port answer (pendingOn (next .drive) port)) m e (λ n z. kept (λ bit o s. s) (λ bit o s. s)) (λ k z p. pending-by m e port real octets k z p);
+      pending = λ m e port real.
+          by-cases (λ answer next. PendingFrame m e port answer (pendingOn (next .drive) port)) m e (λ n z. asBefore refl) (λ k z p. pending-by m e port real k z p);
     }

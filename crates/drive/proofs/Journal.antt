@@ -101,13 +101,13 @@ low-not-write t low = writes-take (t .control) ∙ rw low (and-false (isTaking t
 -- ---- kinds 3 to 9
 
 -- kinds 3, 7 and 8 that were stopped or bad leave the page as it was
-request-noted : {work : Work} {e : Event} → frame.Request e (Use work) → (told : Paper) (going : Option Write) → told .place ≡ none → noted (Use work) e told going ≡ page going []
+request-noted : {work : Work} {e : Event} → frame.ClearsFirst e (Use work) → (told : Paper) (going : Option Write) → told .place ≡ none → noted (Use work) e told going ≡ page going []
 request-noted (frame.control n) told going h = rw h
 request-noted frame.position told going h = refl
 request-noted frame.target told going h = refl
 
 -- nothing is open where they are let pass
-pub request-idle : {work : Work} {e : Event} (d : Drive) → frame.Request e (Use work) → row7 work d ≡ false → isOneOpen d ≡ false
+pub request-idle : {work : Work} {e : Event} (d : Drive) → frame.ClearsFirst e (Use work) → row7 work d ≡ false → isOneOpen d ≡ false
 request-idle d (frame.control n) t = t
 request-idle d frame.position t = t
 request-idle d frame.target t = t
@@ -170,7 +170,7 @@ asked-noted {d} staging t (Outcomes.aimed h) = refl
 quiet-noted : {d : Drive} {e : Event} {sectors : List ℕ} {work : Work} {o : Outcome} (staging : List ℕ) → row7 work d ≡ false → Outcomes.Quiet d e sectors work o
     → noted (Use work) e (paper (o .answer)) (goingOn d staging) ≡ page (goingOn (o .drive) staging) []
 unfolding paper goingOn postedOn octet2Cleared ended
-quiet-noted {d} staging t (Outcomes.unsolicited q) = request-noted q _ (goingOn d staging) refl
+quiet-noted {d} staging t (Outcomes.unsolicited q z) = request-noted q _ (goingOn d staging) refl
 quiet-noted {d} staging t (Outcomes.asked (Outcomes.afresh q z) x) = asked-noted staging (request-idle d q t) x
 quiet-noted staging t (Outcomes.asked (Outcomes.asItWas z) x) = asked-noted staging t x
 quiet-noted {d} staging t (Outcomes.takenLast high) = still-none d (ended d) staging (being-read d t) no-write

@@ -133,7 +133,7 @@ asked-stays (Outcomes.aimed t) = as-it-was refl refl refl
 
 quiet-stays : {d : Drive} {e : Event} {sectors : List ℕ} {work : Work} {o : Outcome} → Outcomes.Quiet d e sectors work o → Stays d o
 unfolding postedOn octet2Cleared ended
-quiet-stays (Outcomes.unsolicited q) = as-it-was refl refl refl
+quiet-stays (Outcomes.unsolicited q z) = as-it-was refl refl refl
 quiet-stays (Outcomes.asked (Outcomes.afresh c z) x) = let s = asked-stays x in record { setup = s .setup; selected = s .selected; owner = s .owner; answered = s .answered }
 quiet-stays (Outcomes.asked (Outcomes.asItWas z) x) = asked-stays x
 quiet-stays (Outcomes.takenLast high) = as-it-was refl refl refl

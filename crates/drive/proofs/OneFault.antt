@@ -79,7 +79,7 @@ not-44 c t = by-test (eqb c readStatus) refl
     by-test false z = refl
 
 module _ {d : Drive} {e : Event} (f : OnBoth Few d) (idle : isOneOpen d ≡ false) (own : d .holding .selected ≡ e .port) where
-  asked-one : {work : Work} {o : Outcome} → (frame.Request e (Use work) → pendingOn d (e .port) .octet2 ≡ 0) → Outcomes.Asked d e work o → OneFault (o .drive)
+  asked-one : {work : Work} {o : Outcome} → (frame.ClearsFirst e (Use work) → pendingOn d (e .port) .octet2 ≡ 0) → Outcomes.Asked d e work o → OneFault (o .drive)
   unfolding pendingOn postedOn headStepped atItsTarget ended
   asked-one z (Outcomes.bad q b) = unless-coming (posted-on Few d (e .port) _ f (one-set (pendingOn d (e .port)) (z q) b)) (idle-taking d idle)
   asked-one z (Outcomes.stepped k) = unless-coming f (idle-taking d idle)
@@ -120,7 +120,7 @@ module _ {d : Drive} (e : Event) (i : OneFault d) (own : d .holding .selected �
 
   quiet-one : {sectors : List ℕ} {work : Work} {o : Outcome} → row7 work d ≡ false → Outcomes.Quiet d e sectors work o → OneFault (o .drive)
   unfolding ended pendingOn
-  quiet-one t (Outcomes.unsolicited q) = i
+  quiet-one t (Outcomes.unsolicited q z) = i
   quiet-one t (Outcomes.asked h x) = heard-one t h x
   quiet-one t (Outcomes.takenLast high) = unless-coming (i .few) none-taking
   quiet-one t (Outcomes.taken high z) = record { few = i .few; coming = i .coming }

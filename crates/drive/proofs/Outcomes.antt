@@ -19,12 +19,12 @@ use Rattle.drive.specs.Answer.{paper, normal, headerMiscompare, operatio
 use Rattle.drive.specs.State.{atPlace, withPlace, withTarget, withTransfer, pendingOn, postedOn, told, Result, result}
 use Rattle.parts.specs.Tests.{transferring, movedOn}
 use Rattle.drive.specs.Drive.{reserved, unreserved, priorityReserved, headStepped, atItsTarget, closed, ended}
-use Rattle.drive.specs.Request.{octet2Cleared, unlessUnsolicited, badRequest, controlled, dataControl, opened, opening, positioned, targeted, statusRead}
+use Rattle.drive.specs.Request.{octet2Cleared, takenUp, badRequest, controlled, dataControl, opened, opening, positioned, targeted, statusRead}
 use Rattle.drive.specs.Transfer.{committed, staged, wordStaged, wordTaken}
 use Rattle.drive.specs.Command.{withParameter, placeSought, targetSought, seeking, functioned, obeyed, parameterSent, wordsTold, statusCleared, responseTaken, wordFromHost, wordToHost, endedEarly}
 use Rattle.parts.specs.Kind.{Use, Work, DataControl, WordFromHost, TakeWord, End, Position, Target, ReadStatus, wordOf, placeOf}
 use Rattle.drive.specs.Event.{act}
-use Rattle.drive.specs.Frame.{Request, control, position, target}
+use Rattle.drive.specs.Frame.{ClearsFirst, control, position, target}
 use Rattle.parts.specs.declared.control.Control.{Control}
 use Rattle.parts.specs.declared.control.Control.the-variants.{StepHead}
 use Rattle.parts.specs.declared.control.Control.the-variants as control-of
@@ -88,14 +88,14 @@ pub data Sought (d : Drive) (c : ℕ) : Drive → Type 0 where
   inPlace : isAtTarget c ≡ false → Sought d c d
   atTarget : isAtTarget c ≡ true → eqb (d .target) noTarget ≡ false → Sought d c (atItsTarget d)
 
--- the drive that a request is one to: octet 2 of its port is cleared, but not by the code that reads status
+-- the drive that a request finds: octet 2 of its port is cleared, but not by the code that reads status
 pub data Heard (d : Drive) (e : Event) : Work → Drive → Type 0 where
-  afresh : {work : Work} → Request e (Use work) → eqb (pendingOn d (e .port) .octet1) 0 ≡ true → Heard d e work (octet2Cleared d (e .port))
+  afresh : {work : Work} → ClearsFirst e (Use work) → eqb (pendingOn d (e .port) .octet1) 0 ≡ true → Heard d e work (octet2Cleared d (e .port))
   asItWas : eqb (e .a0) readStatus ≡ true → Heard d e DataControl d
 
--- what a request does to the drive that it is one to
+-- what a request does to the drive that it finds
 pub data Asked (d : Drive) (e : Event) : Work → Outcome → Type 0 where
-  bad : {work : Work} {bit : ℕ} → Request e (Use work) → OneBit bit
+  bad : {work : Work} {bit : ℕ} → ClearsFirst e (Use work) → OneBit bit
       → Asked d e work (told (Status operationException) (postedOn d (e .port) (faulted (pendingOn d (e .port)) bit)))
   stepped : controlOf (e .a0) ≡ StepHead → Asked d e DataControl (told (Status normal) (headStepped d))
   nothingToCome : {at : Drive} → Sought d (e .a0) at → (isWrite (controlOf (e .a0)) || isRead (controlOf (e .a0))) ≡ true
@@ -111,7 +111,7 @@ wordAt d sectors = getD (wordsRead (d .setup) (d .transfer .control) (sectorAt (
 
 -- what leaves the lent words as they were
 pub data Quiet (d : Drive) (e : Event) (sectors : List ℕ) : Work → Outcome → Type 0 where
-  unsolicited : {work : Work} → Request e (Use work) → Quiet d e sectors work (told (Status unsolicitedException) d)
+  unsolicited : {work : Work} → ClearsFirst e (Use work) → eqb (pendingOn d (e .port) .octet1) 0 ≡ false → Quiet d e sectors work (told (Status unsolicitedException) d)
   asked : {at : Drive} {work : Work} {o : Outcome} → Heard d e work at → Asked at e work o → Quiet d e sectors work o
   takenLast : isData (d .transfer .control) ≡ true → Quiet d e sectors TakeWord (told (LastWord (wordAt d sectors)) (ended d))
   taken : isData (d .transfer .control) ≡ true → eqb (d .transfer .moved + 1) (wordsToCome (d .setup) (d .transfer .control)) ≡ false
@@ -174,9 +174,9 @@ module _ (d : Drive) (e : Event) where
   control-done n control-of.Invalid q = bad (control n) bit7
 
 module _ (d : Drive) (e : Event) (sectors staging : List ℕ) where
-  unless-stopped : {work : Work} {request : Drive → Outcome} → Request e (Use work) → ((at : Drive) → Asked at e work (request at))
-      → Quiet d e sectors work (unlessUnsolicited d (e .port) request)
-  unless-stopped {work} q done = cases (Quiet d e sectors work) _ (λ z. asked (afresh q z) (done (octet2Cleared d (e .port)))) (λ z. unsolicited q)
+  unless-stopped : {work : Work} {request : Drive → Outcome} → ClearsFirst e (Use work) → ((at : Drive) → Asked at e work (request at))
+      → Quiet d e sectors work (takenUp d (e .port) request)
+  unless-stopped {work} q done = cases (Quiet d e sectors work) _ (λ z. asked (afresh q z) (done (octet2Cleared d (e .port)))) (unsolicited q)
 
   function-done : (f : Function) → functionIn (wordOf e) ≡ f → eqb (d .transfer .control) loadDriveFunction ≡ true
       → Exchanged d e WordFromHost (functioned f (closed d) (e .port))
@@ -247,7 +247,7 @@ asked-told h (aimed t) = nothing refl refl refl
 
 quiet-told : {d : Drive} {e : Event} {sectors : List ℕ} {work : Work} {o : Outcome} → Quiet d e sectors work o → Told d e sectors work o
 unfolding paper
-quiet-told (unsolicited q) = nothing refl refl refl
+quiet-told (unsolicited q z) = nothing refl refl refl
 quiet-told (asked h x) = asked-told h x
 quiet-told (takenLast high) = aWord high refl refl refl
 quiet-told (taken high z) = aWord high refl refl refl

@@ -80,7 +80,7 @@ module _ (P : Pending → Type 0) (q : Postable P) where
 
   quiet-keeps : {d : Drive} {e : Event} {sectors : List ℕ} {work : Work} {o : Outcome} → OnBoth P d → Outcomes.Quiet d e sectors work o → OnBoth P (o .drive)
   unfolding ended
-  quiet-keeps o (Outcomes.unsolicited r) = o
+  quiet-keeps o (Outcomes.unsolicited r z) = o
   quiet-keeps o (Outcomes.asked h x) = asked-keeps (heard-keeps o h) x
   quiet-keeps o (Outcomes.takenLast high) = o
   quiet-keeps o (Outcomes.taken high z) = o

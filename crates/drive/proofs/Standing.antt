@@ -56,7 +56,7 @@ sought-setup (Outcomes.inPlace a) = refl
 sought-setup (Outcomes.atTarget a z) = refl
 
 -- kinds 3, 7 and 8 that were stopped or bad stay where they were
-request-stands : {work : Work} {e : Event} → frame.Request e (Use work) → (s : Setup) (told : Paper) (w : Standing) → told .place ≡ none → isNormal (told .status) ≡ false
+request-stands : {work : Work} {e : Event} → frame.ClearsFirst e (Use work) → (s : Setup) (told : Paper) (w : Standing) → told .place ≡ none → isNormal (told .status) ≡ false
     → stands (Use work) s e told w ≡ w
 unfolding pick
 request-stands (frame.control c) s told w h n = rw (h, n)
@@ -100,7 +100,7 @@ asked-stands (Outcomes.aimed h) = refl
 quiet-stands : {d : Drive} {e : Event} {sectors : List ℕ} {work : Work} {o : Outcome} → Outcomes.Quiet d e sectors work o
     → stands (Use work) (d .setup) e (paper (o .answer)) (standingOf d) ≡ standingOf (o .drive)
 unfolding paper pick postedOn octet2Cleared ended
-quiet-stands {d} (Outcomes.unsolicited q) = request-stands q (d .setup) _ (standingOf d) refl refl
+quiet-stands {d} (Outcomes.unsolicited q z) = request-stands q (d .setup) _ (standingOf d) refl refl
 quiet-stands (Outcomes.asked (Outcomes.afresh c z) x) = asked-stands x
 quiet-stands (Outcomes.asked (Outcomes.asItWas z) x) = asked-stands x
 quiet-stands (Outcomes.takenLast high) = rw high

@@ -75,7 +75,7 @@ exchange-sound {d} {e} p n t (Outcomes.tellsLast z) =
     let s = closed-kept (sound d (p .sound)) in either Sound _ (posted-kept (e .port) nothingPending s nothing-stray) s
 exchange-sound {d} p n t Outcomes.cut = closed-kept (sound d (p .sound))
 
--- the drive that a request is one to is as sound
+-- the drive that a request finds is as sound
 pub heard-passable : {d at : Drive} {e : Event} {sectors staging : List ℕ} {work : Work} → Passable d sectors staging → Outcomes.Heard d e work at
     → Passable at sectors staging
 unfolding octet2Cleared postedOn
@@ -96,7 +96,7 @@ asked-sound s n (Outcomes.aimed h) = target-kept s h
 quiet-sound : {d : Drive} {e : Event} {sectors staging : List ℕ} {work : Work} {o : Outcome} → Passable d sectors staging → eqb (d .holding .selected) nobody ≡ false
     → row7 work d ≡ false → Outcomes.Quiet d e sectors work o → Sound (o .drive)
 unfolding postedOn octet2Cleared
-quiet-sound {d} p n t (Outcomes.unsolicited q) = sound d (p .sound)
+quiet-sound {d} p n t (Outcomes.unsolicited q z) = sound d (p .sound)
 quiet-sound {d} {e} p n t (Outcomes.asked (Outcomes.afresh c z) x) = asked-sound (cleared-kept (e .port) (sound d (p .sound))) n x
 quiet-sound {d} p n t (Outcomes.asked (Outcomes.asItWas z) x) = asked-sound (sound d (p .sound)) n x
 quiet-sound {d} p n t (Outcomes.takenLast high) = ended-kept (sound d (p .sound))

@@ -1,5 +1,5 @@
 -- What a drive answers is within bounds, so that 13 words of 16 bits tell it and it can be read back from them.
-use Prim.Native.Nat.{ℕ, _≤_}
+use Prim.Native.Nat.{ℕ, _<_, _≤_}
 use mathlib.Core.Path.{_≡_}
 use mathlib.Core.Logic.{_⊎_}
 use mathlib.Core.Bool.{true, false}
@@ -18,7 +18,6 @@ use Rattle.drive.specs.State.{pendingOn}
 use Rattle.drive.specs.Answer.{paper, refusalIn}
 use Rattle.drive.specs.AnswerWords.{answerWords, wordsOfAnswers, answerIn, answersIn}
 use Rattle.drive.specs.EveryAnswer.{refusalNumbers}
-use Rattle.drive.specs.Frame.{AreOctets}
 use Rattle.drive.specs.Run.{Machine, answerTo, after, answers}
 use Rattle.drive.specs.declared.answer.Answer.{Answer}
 use Rattle.drive.specs.declared.answer.Answer.the-variants.{Refused, Done, Status, Opened, Word, LastWord, Response}
@@ -26,6 +25,10 @@ use Rattle.drive.specs.declared.answer.Answer.the-variants.{Refused, Don
 -- "0 normal, 1 busy, 7 header miscompare, 8 operation exception, C unsolicited exception. The base never sends busy".
 abbrev pub statuses : List ℕ
 statuses = 0 ∷ 7 ∷ 8 ∷ 0xC ∷ []
+
+-- What is pending is two octets, as in every drive that is made of octets.
+abbrev pub AreOctets : Pending → Type 0
+AreOctets p = (p .octet1 < 256) × (p .octet2 < 256)
 
 -- Two octets, no "pending bit the base never sets", and the octet 0 that they make.
 pub record ResponseOf (first second third : ℕ) : Type 0 where

@@ -53,6 +53,9 @@ take port = event port 5 0 0
 abbrev pub status : ℕ → Event
 status port = event port 9 0 0
 
+abbrev pub end : ℕ → Event
+end port = event port 6 0 0
+
 abbrev zeros : List ℕ
 zeros = replicate 4 0
 

@@ -11,7 +11,7 @@ use Rattle.parts.specs.declared.event.Event.{Event}
 use Rattle.drive.specs.State.{atPlace, withHolding, withPlace, withTarget, withTransfer, withPending}
 use Rattle.drive.specs.Power.{atRest}
 use Rattle.drive.specs.Run.{machine, answers, final}
-use Rattle.drive.specs.Cases.{bench, benchWith, event, select, deselect, control, word, take}
+use Rattle.drive.specs.Cases.{bench, benchWith, event, select, deselect, control, word, take, end}
 use Rattle.drive.specs.declared.drive.Drive.{Drive}
 use Rattle.drive.specs.declared.answer.Answer.{Answer}
 use Rattle.drive.specs.declared.answer.Answer.the-variants.{Refused, Done, Status, Opened, Word, LastWord}
@@ -28,9 +28,6 @@ zeros count = replicate count 0
 pub record Holds (c : CommandCase) : Type 0 where
   pub answered : answers (benchWith (zeros 4)) (c .events) ≡ c .answers
   pub ended : final (benchWith (zeros 4)) (c .events) ≡ machine (c .end) (zeros 48) (zeros 4)
-
-abbrev end : ℕ → Event
-end port = event port 6 0 0
 
 abbrev reset : ℕ → Event
 reset port = event port 10 0 0

@@ -82,7 +82,7 @@ pub record CommandsKeepOut : Type 0 where
 
 -- ---- `command-cut-short`
 
--- What is left of the drive as a code opened on it: M-102, the opening "first clears that port's octet 2", but not that of 44.
+-- The drive that the opening of a code leaves, but for what it opens: octet 2 of its port is cleared (M-102), but not by 44.
 abbrev pub asOpened : Event → Drive → Drive
 asOpened e d = pick (eqb (e .a0) readStatus) d (octet2Cleared d (e .port))
 

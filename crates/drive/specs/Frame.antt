@@ -1,5 +1,5 @@
--- `frame`: a commit changes the named written fields of one sector and no other word; staging changes at one index; what is pending stays so but for what clears it.
-use Prim.Native.Nat.{ℕ, _+_, _-_, _<_, _≤_}
+-- `frame`: a commit changes the named written fields of one sector and no other word; staging changes at one index; what is pending changes as listed here.
+use Prim.Native.Nat.{ℕ, _+_, _-_, _≤_}
 use mathlib.Core.Path.{_≡_}
 use mathlib.Core.Bool.{Bool, true, false, _&&_}
 use mathlib.Core.List.{List}
@@ -8,8 +8,9 @@ use lib.ListN.{length, getD, set}
 use Rattle.laws.specs.Pick.{pick}
 use Rattle.parts.specs.Command.{readStatus}
 use Rattle.parts.specs.Control.{controlOf, isWrite, movesHeader, namesField1, namesField2, part}
-use Rattle.parts.specs.Pending.{nothingPending, pendingOf, resetComplete, OneBit, StaysSet}
-use Rattle.parts.specs.Kind.{Kind, Use, Reset, DataControl, WordFromHost, TakeWord, Position, Target, ReadStatus, kindOf, wordOf}
+use Rattle.parts.specs.Holding.{isOwnedByOther}
+use Rattle.parts.specs.Pending.{nothingPending, pendingOf, resetComplete, OneBit, noticed, faulted}
+use Rattle.parts.specs.Kind.{Kind, Select, Use, Reset, DataControl, WordFromHost, TakeWord, Position, Target, ReadStatus, kindOf, wordOf}
 use Rattle.drive.specs.Answer.{normal, operationException}
 use Rattle.drive.specs.State.{pendingOn}
 use Rattle.drive.specs.Transfer.{committed}
@@ -46,32 +47,33 @@ pub data StagingFrame (m : Machine) (e : Event) (left : List ℕ) : Type 0 where
   oneWord : kindOf (e .kind) ≡ Use WordFromHost → isWrite (controlOf (m .drive .transfer .control)) ≡ true → left ≡ set (m .staging) (m .drive .transfer .moved) (wordOf e) → StagingFrame m e left
 
 -- M-102: "an event of kind 3, 7 or 8 (but not M-100's code that reads status)".
-pub data Request (e : Event) : Kind → Type 0 where
-  control : eqb (e .a0) readStatus ≡ false → Request e (Use DataControl)
-  position : Request e (Use Position)
-  target : Request e (Use Target)
+pub data ClearsFirst (e : Event) : Kind → Type 0 where
+  control : eqb (e .a0) readStatus ≡ false → ClearsFirst e (Use DataControl)
+  position : ClearsFirst e (Use Position)
+  target : ClearsFirst e (Use Target)
 
--- What it leaves pending on its port, by its answer, where that is neither a refusal nor C: it "first clears that port's octet 2, then sets its own bit
--- if it is bad".
+-- What such a request leaves pending on its port, by its answer, where that is neither a refusal nor C: octet 2 was cleared, and its own bit is set if it
+-- is bad.
 pub data RequestLeaves : Answer → Pending → Type 0 where
-  ended : RequestLeaves (Status normal) nothingPending
-  opened : {words : ℕ} {place : Place} → RequestLeaves (Opened words place) nothingPending
+  good : RequestLeaves (Status normal) nothingPending
+  opening : {words : ℕ} {place : Place} → RequestLeaves (Opened words place) nothingPending
   bad : {bit : ℕ} → OneBit bit → RequestLeaves (Status operationException) (pendingOf 0 bit)
 
--- What an event that gets this answer leaves pending on a port: every bit that was, but for that port's own requests, which find octet 1 zero and clear
--- octet 2, for its own read status, by kind 9 or by the last word of 44, and for Reset.
+-- What an event that gets this answer leaves pending on a port. A bit more, by the other port's takeover or by a command of its own that is bad at its last
+-- word; octet 2 cleared, by a request of its own that finds octet 1 zero; nothing, by its own read status, kind 9 or the last word of 44; Reset Complete
+-- alone, by Reset; or what was pending before.
 pub data PendingFrame (m : Machine) (e : Event) (port : ℕ) (answer : Answer) (left : Pending) : Type 0 where
-  kept : StaysSet (pendingOn (m .drive) port .octet1) (left .octet1) → StaysSet (pendingOn (m .drive) port .octet2) (left .octet2) → PendingFrame m e port answer left
-  byRequest : Request e (kindOf (e .kind)) → port ≡ e .port → pendingOn (m .drive) port .octet1 ≡ 0 → RequestLeaves answer left
+  asBefore : left ≡ pendingOn (m .drive) port → PendingFrame m e port answer left
+  byTakeover : kindOf (e .kind) ≡ Select → isOwnedByOther (m .drive .holding) (e .port) ≡ true → port ≡ m .drive .holding .owner
+      → left ≡ noticed (pendingOn (m .drive) port) → PendingFrame m e port answer left
+  byCommand : {bit : ℕ} → kindOf (e .kind) ≡ Use WordFromHost → port ≡ e .port → answer ≡ Status operationException → OneBit bit
+      → left ≡ faulted (pendingOn (m .drive) port) bit → PendingFrame m e port answer left
+  byRequest : ClearsFirst e (kindOf (e .kind)) → port ≡ e .port → pendingOn (m .drive) port .octet1 ≡ 0 → RequestLeaves answer left
       → PendingFrame m e port answer left
   byStatus : kindOf (e .kind) ≡ Use ReadStatus → port ≡ e .port → left ≡ nothingPending → PendingFrame m e port answer left
   byLastWord : kindOf (e .kind) ≡ Use TakeWord → m .drive .transfer .control ≡ readStatus → m .drive .transfer .moved + 1 ≡ 4 → port ≡ e .port
       → left ≡ nothingPending → PendingFrame m e port answer left
   byReset : kindOf (e .kind) ≡ Reset → left ≡ pendingOf resetComplete 0 → PendingFrame m e port answer left
-
--- What is pending is two octets, as in every drive that is made of octets.
-abbrev pub AreOctets : Pending → Type 0
-AreOctets p = (p .octet1 < 256) × (p .octet2 < 256)
 
 pub record Frame : Type 0 where
   -- "At the last word the named written fields go to the sector and nothing else does."
@@ -79,6 +81,6 @@ pub record Frame : Type 0 where
   -- "Word k of a write, counted from 0 in that transfer, is staged at index k, and no other staging word changes."
   pub staging : (m : Machine) (e : Event) → StagingFrame m e ((after m e) .staging)
   -- "Read status answers 0 with the octets and clears that port's; nothing else but Reset clears them." "The code that reads status .. clears at its
-  -- last word." M-102: for octet 2 the "nothing else" falls.
-  pub pending : (m : Machine) (e : Event) (port : ℕ) → port ≤ 1 → AreOctets (pendingOn (m .drive) port)
-      → PendingFrame m e port (answerTo m e) (pendingOn ((after m e) .drive) port)
+  -- last word." So it is still for octet 1. Octet 2 of a port is cleared by these, by its own requests that are taken and not answered C (M-102), and by
+  -- nothing else.
+  pub pending : (m : Machine) (e : Event) (port : ℕ) → port ≤ 1 → PendingFrame m e port (answerTo m e) (pendingOn ((after m e) .drive) port)

@@ -28,11 +28,10 @@ badRequest d port bit = told (Status operationException) (postedOn d port (fault
 unfoldable pub octet2Cleared : Drive → ℕ → Drive
 octet2Cleared d port = postedOn d port (pendingOf (pendingOn d port .octet1) 0)
 
--- "in order: any pending bit in response octet 1 gives C and changes nothing; then" octet 2 is cleared, and the request is one to the drive that this
--- leaves: if it is bad, its own bit is the only one.
-abbrev pub unlessUnsolicited : Drive → ℕ → (Drive → Outcome) → Outcome
-unlessUnsolicited d port request =
-    pick (eqb (pendingOn d port .octet1) 0) (request (octet2Cleared d port)) (told (Status unsolicitedException) d)
+-- "in order: any pending bit in response octet 1 gives C and changes nothing; then" octet 2 is cleared, and the request is judged by the drive that this
+-- leaves. So if it is bad, its own bit is the only one.
+abbrev pub takenUp : Drive → ℕ → (Drive → Outcome) → Outcome
+takenUp d port request = pick (eqb (pendingOn d port .octet1) 0) (request (octet2Cleared d port)) (told (Status unsolicitedException) d)
 
 -- "The answer that opens a transfer tells the number of words to come and the place. No words to come: it ends at once, with status 0 alone."
 unfoldable pub opened : Drive → ℕ → Outcome
@@ -55,22 +54,23 @@ controlled Reserved d port c = badRequest d port invalidBusControl
 controlled Unsupported d port c = badRequest d port unsupportedBusControl
 controlled Invalid d port c = badRequest d port invalidBusControl
 
--- "The code that reads status is never answered C", and clears nothing here: "(but not M-100's code that reads status)".
-unfoldable pub dataControl : Drive → ℕ → ℕ → Outcome
-dataControl d port c = pick (eqb c readStatus) (opened d c) (unlessUnsolicited d port (λ at. controlled (controlOf c) at port c))
-
 -- "A place or target outside the drive: bit 6. .. Otherwise kinds 7 and 8 give 0".
-abbrev pub placedAt : ℕ → Place → Drive → Outcome
-placedAt port p d = pick (isPlace (d .setup) p) (told (Status normal) (withPlace d p)) (badRequest d port invalidParameter)
+abbrev pub placed : Drive → ℕ → Place → Outcome
+placed d port p = pick (isPlace (d .setup) p) (told (Status normal) (withPlace d p)) (badRequest d port invalidParameter)
 
-abbrev pub aimedAt : ℕ → ℕ → Drive → Outcome
-aimedAt port target d = pick (isTarget (d .setup) target) (told (Status normal) (withTarget d target)) (badRequest d port invalidParameter)
+abbrev pub aimed : Drive → ℕ → ℕ → Outcome
+aimed d port target = pick (isTarget (d .setup) target) (told (Status normal) (withTarget d target)) (badRequest d port invalidParameter)
 
+-- Kind 3. "The code that reads status is never answered C", and it is not one that clears: "(but not M-100's code that reads status)".
+unfoldable pub dataControl : Drive → ℕ → ℕ → Outcome
+dataControl d port c = pick (eqb c readStatus) (opened d c) (takenUp d port (λ at. controlled (controlOf c) at port c))
+
+-- Kinds 7 and 8.
 unfoldable pub positioned : Drive → ℕ → Place → Outcome
-positioned d port p = unlessUnsolicited d port (placedAt port p)
+positioned d port p = takenUp d port (λ at. placed at port p)
 
 unfoldable pub targeted : Drive → ℕ → ℕ → Outcome
-targeted d port target = unlessUnsolicited d port (aimedAt port target)
+targeted d port target = takenUp d port (λ at. aimed at port target)
 
 -- ---- kind 9
 

@@ -13,7 +13,7 @@ use Rattle.parts.specs.declared.control.Control.{Control}
 use Rattle.drive.specs.State.{postedOn}
 use Rattle.drive.specs.Drive.{atItsTarget, closed}
 use Rattle.drive.specs.Answer.{unsolicitedException}
-use Rattle.drive.specs.Request.{octet2Cleared, unlessUnsolicited, opened, controlled}
+use Rattle.drive.specs.Request.{octet2Cleared, takenUp, opened, controlled}
 use Rattle.drive.specs.declared.answer.Answer.{Answer}
 use Rattle.drive.specs.declared.answer.Outcome.{Outcome}
 use Rattle.drive.specs.declared.answer.Answer.the-variants.{Status}
@@ -34,7 +34,7 @@ moved-fit {state} d f o s k e = record { long = rw e (long-again state d (f .lon
 
 -- a request that octet 1 stops changes nothing
 pub did-stopped : (state : List ℕ) (port : ℕ) (request : Drive → Outcome) (r : Bool) {state′ : List ℕ} → Fit state → TakenUp state port r state′ → r ≡ false
-    → Did state (unlessUnsolicited (driveIn state) port request) (Status unsolicitedException) state′
+    → Did state (takenUp (driveIn state) port request) (Status unsolicitedException) state′
 unfolding pick
 did-stopped state port request r f t z =
     rw (sym (t .heard) ∙ z, rw z at (t .state)) (did-nothing (Status unsolicitedException) f)
@@ -58,7 +58,7 @@ heard-fit {state} {port = port} f t z =
     moved-fit (octet2Cleared d port) f (cleared-octets state port) (cleared-setup d port) (cleared-kept port (sound d (f .sound))) (cleared t z)
 
 pub did-heard : (state : List ℕ) (port : ℕ) (request : Drive → Outcome) (r : Bool) {answer : Answer} {state′ state″ : List ℕ} → Fit state → TakenUp state port r state′
-    → r ≡ true → Did state′ (request (driveIn state′)) answer state″ → Did state (unlessUnsolicited (driveIn state) port request) answer state″
+    → r ≡ true → Did state′ (request (driveIn state′)) answer state″ → Did state (takenUp (driveIn state) port request) answer state″
 unfolding pick
 did-heard state port request r f t z d =
     rw (sym (t .heard) ∙ z)

@@ -15,11 +15,10 @@ use Rattle.parts.specs.declared.event.Event.{Event}
 use Rattle.drive.specs.State.{told}
 use Rattle.drive.specs.Answer.{paper}
 use Rattle.drive.specs.AnswerWords.{answerWords, acceptedIn, answerIn}
-use Rattle.drive.specs.Frame.{AreOctets}
 use Rattle.drive.specs.Refusal.{row11}
 use Rattle.drive.specs.Event.{Handled}
 use Rattle.drive.specs.Run.{answerTo, after}
-use Rattle.drive.specs.Bounded.{statuses, Bounded}
+use Rattle.drive.specs.Bounded.{AreOctets, statuses, Bounded}
 use Rattle.drive.specs.declared.drive.Drive.{Drive}
 use Rattle.drive.specs.declared.answer.Answer.{Answer}
 use Rattle.drive.specs.declared.answer.Answer.the-variants.{Refused, Done, Status, Opened, Word, LastWord, Response}

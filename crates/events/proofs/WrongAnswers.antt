@@ -21,6 +21,7 @@ wrong-answers =
       fieldOverTheHeader = λ h. told-apart 0xAA 7 refl (ap (λ words. getD words 0 0) (h .sectors));
       fieldTwoOverFieldOne = λ h. told-apart 0xCC 0 refl (ap (λ words. getD words 1 0) (h .sectors));
       readAFieldTooEarly = λ h. told-apart 7 1 refl (ap orFFFF (h .says .word));
+      oldBitLeft = λ h. told-apart 0x80 0 refl (ap (λ (d : Drive). d .pending0 .octet2) (h .drive));
       otherPortCleared = λ h. told-apart 0 0x80 refl (ap (λ (d : Drive). d .pending1 .octet2) (h .drive));
       clearsWithC = λ h. told-apart 0 0x80 refl (ap (λ (d : Drive). d .pending0 .octet2) (h .drive));
       refusedYetClears = λ h. told-apart 0 0x80 refl (ap (λ (d : Drive). d .pending0 .octet2) (h .drive));

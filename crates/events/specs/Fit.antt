@@ -29,14 +29,14 @@ pub record Did (state₀ : List ℕ) (o : Outcome) (r : Answer) (state₁ : List
   pub answer : r ≡ o .answer
   pub state : state₁ ≡ movedTo state₀ (o .drive)
 
--- Whether a request goes on, by octet 1 of its port; and the words, with octet 2 cleared if it does.
-pub record TakenUp (state₀ : List ℕ) (port : ℕ) (r : Bool) (state₁ : List ℕ) : Type 0 where
-  pub heard : r ≡ eqb (pendingOn (driveIn state₀) port .octet1) 0
-  pub state : state₁ ≡ pick r (movedTo state₀ (octet2Cleared (driveIn state₀) port)) state₀
-
--- What a kind that touches the lent words does.
+-- The same of a kind that touches the lent words.
 pub record DidIn (state₀ : List ℕ) (x : Result) (r : Answer) (state₁ sectors₁ staging₁ : List ℕ) : Type 0 where
   pub answer : r ≡ x .outcome .answer
   pub state : state₁ ≡ movedTo state₀ (x .outcome .drive)
   pub sectors : sectors₁ ≡ x .sectors
   pub staging : staging₁ ≡ x .staging
+
+-- Whether a request goes on, by octet 1 of its port; and the words, with octet 2 cleared if it does.
+pub record TakenUp (state₀ : List ℕ) (port : ℕ) (r : Bool) (state₁ : List ℕ) : Type 0 where
+  pub heard : r ≡ eqb (pendingOn (driveIn state₀) port .octet1) 0
+  pub state : state₁ ≡ pick r (movedTo state₀ (octet2Cleared (driveIn state₀) port)) state₀

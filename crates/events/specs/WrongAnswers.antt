@@ -98,11 +98,13 @@ pub record WrongAnswers : Type 0 where
       (Status 0) over (sector 7 0xCC 0 0) (sector 7 0xCC 0 0) → ⊥
   -- A read of field 1 begins with the header's word.
   pub readAFieldTooEarly : Handles (moving 0xC1 0) (sent 0 5 0 0) (sector 7 1 2 3) zeros (Word 7) (moving 0xC1 1) (sector 7 1 2 3) zeros → ⊥
+  -- A good request leaves the bit of the one before.
+  pub oldBitLeft : Handles (faulty 0x80 0) (sent 0 8 0 1) zeros zeros (Status 0) (withTarget (faulty 0x80 0) 1) zeros zeros → ⊥
   -- A request clears the other port's octet 2 as well.
   pub otherPortCleared : Handles (faulty 0x80 0x80) (sent 0 8 0 1) zeros zeros (Status 0) (withTarget (faulty 0 0) 1) zeros zeros → ⊥
   -- A request that is answered C clears octet 2.
   pub clearsWithC : Handles (warned 0x80) (sent 0 8 0 1) zeros zeros (Status 0xC) (warned 0) zeros zeros → ⊥
-  -- A refused one does: a write is open.
+  -- A request that is refused clears octet 2: a write is open.
   pub refusedYetClears : Handles (withTransfer (faulty 0x80 0) (transferring 0x85 2)) (sent 0 8 0 1) zeros zeros
       (Refused 7) (withTransfer (faulty 0 0) (transferring 0x85 2)) zeros zeros → ⊥
   -- A bad request adds its bit to the one that was ignored.

@@ -10,7 +10,7 @@ ghost use Rattle.drive.specs.Request.{badRequest, statusRead};
 ghost use Rattle.events.specs.State.{driveIn};
 ghost use Rattle.events.specs.Fit.{Fit, Did, TakenUp};
 
-// Whether a request goes on: a bit of octet 1 stops it. If it does, octet 2 is cleared first, and then nothing is pending.
+// Whether a request goes on: a bit of octet 1 stops it. One that goes on has octet 2 cleared, and then nothing is pending.
 pub(crate) fn take_up(state: &mut [u16], port: u8) -> bool
     requires { ⌜ Fit (now state) × (port ≤ 1) ⌝ }
     ensures { λ r. ⌜ TakenUp (now (state .entry)) port r (now (state .exit)) ⌝ }

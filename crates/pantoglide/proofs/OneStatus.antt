@@ -28,8 +28,7 @@ use Rattle.status.proofs.Decoding.{octet-of-status}
 use Rattle.status.proofs.RoundTrip.{encoded-octet, encoded-octets}
 use Rattle.drive.specs.Answer.{paper}
 use Rattle.drive.specs.State.{pendingOn}
-use Rattle.drive.specs.Bounded.{statuses, responseTo, Bounded, PendingOctets}
-use Rattle.drive.specs.Frame.{AreOctets}
+use Rattle.drive.specs.Bounded.{AreOctets, statuses, responseTo, Bounded, PendingOctets}
 use Rattle.drive.specs.Command.{statusTold}
 use Rattle.drive.specs.Commands.{Idle}
 use Rattle.drive.specs.Run.{Machine, answerTo}

@@ -5,7 +5,7 @@ use mathlib.Core.List.{List}
 use native.Mathlib.Omega.{arith}
 use Prim.Native.Nat.{ℕ, _≤_}
 use lib.ListN.{length}
-use Rattle.drive.specs.Frame.{AreOctets}
+use Rattle.drive.specs.Bounded.{AreOctets}
 use Rattle.drive.proofs.Posted.{OnBoth}
 use Rattle.events.specs.State.{driveIn, movingWords, stateWords}
 use Rattle.events.proofs.Back.{read-again}

@@ -2,7 +2,7 @@
 -- Assumes nothing.
 use Rattle.events.proofs.Done.{did-first, did-second, known}
 use Rattle.events.proofs.Changes.{target-put}
-use Rattle.drive.specs.Request.{aimedAt, targeted}
+use Rattle.drive.specs.Request.{aimed, targeted}
 use mathlib.Core.Path.{refl}
 use borrow.Author.Tests.{not-true, not-false}
 use Rattle.events.proofs.Asking.{heard-fit, did-heard, did-stopped}
@@ -21,7 +21,7 @@ unfolding targeted
 returns c =
     let after-take-up : tie.After-take-up = search in
     let start : tie.Start = search in
-    did-stopped _ _ (aimedAt (start .args .port) (start .args .target)) _ (start .pre .0) (after-take-up .take-up .ensures) (not-true _ (c .if1 .taken))
+    did-stopped _ _ (λ at. aimed at (start .args .port) (start .args .target)) _ (start .pre .0) (after-take-up .take-up .ensures) (not-true _ (c .if1 .taken))
 
 setup-in-requires : tie.Need-setup-in-requires
 setup-in-requires c κs = search needs
@@ -44,7 +44,7 @@ returns-2 c =
     let after-take-up : tie.After-take-up = search in
     let start : tie.Start = search in
     let f = heard-fit (start .pre .0) (after-take-up .take-up .ensures) (not-false _ (else1 .if1 .left)) in
-    did-heard _ _ (aimedAt (start .args .port) (start .args .target)) _ (start .pre .0) (after-take-up .take-up .ensures) (not-false _ (else1 .if1 .left)) (did-first _ _ _ _ (rw (after-setup-in .setup-in .ensures) at (after-is-target .is-target .ensures)) (c .if2 .taken) (record { answer = refl; state = target-put _ _ (f .long) (known f) }))
+    did-heard _ _ (λ at. aimed at (start .args .port) (start .args .target)) _ (start .pre .0) (after-take-up .take-up .ensures) (not-false _ (else1 .if1 .left)) (did-first _ _ _ _ (rw (after-setup-in .setup-in .ensures) at (after-is-target .is-target .ensures)) (c .if2 .taken) (record { answer = refl; state = target-put _ _ (f .long) (known f) }))
 
 fault-requires : tie.Need-fault-requires
 fault-requires c κs = search (heard-fit, not-false)
@@ -62,7 +62,7 @@ returns-3 c =
     let else1 : tie.Else1 = search in
     let after-take-up : tie.After-take-up = search in
     let start : tie.Start = search in
-    did-heard _ _ (aimedAt (start .args .port) (start .args .target)) _ (start .pre .0) (after-take-up .take-up .ensures) (not-false _ (else1 .if1 .left)) (did-second _ _ _ _ (rw (after-setup-in .setup-in .ensures) at (after-is-target .is-target .ensures)) (else2 .if2 .left) (after-fault .fault .ensures))
+    did-heard _ _ (λ at. aimed at (start .args .port) (start .args .target)) _ (start .pre .0) (after-take-up .take-up .ensures) (not-false _ (else1 .if1 .left)) (did-second _ _ _ _ (rw (after-setup-in .setup-in .ensures) at (after-is-target .is-target .ensures)) (else2 .if2 .left) (after-fault .fault .ensures))
 
 pub aim-at-spec : {M : Type 1} → statement M
 aim-at-spec =

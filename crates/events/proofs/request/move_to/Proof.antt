@@ -1,7 +1,7 @@
 -- `move_to` meets its contract.
 -- Assumes nothing.
 use Rattle.events.proofs.Done.{did-first, did-second}
-use Rattle.drive.specs.Request.{placedAt, positioned}
+use Rattle.drive.specs.Request.{placed, positioned}
 use mathlib.Core.Path.{refl}
 use borrow.Author.Tests.{not-true, not-false}
 use Rattle.events.proofs.Asking.{heard-fit, did-heard, did-stopped}
@@ -20,7 +20,7 @@ unfolding positioned
 returns c =
     let after-take-up : tie.After-take-up = search in
     let start : tie.Start = search in
-    did-stopped _ _ (placedAt (start .args .port) (start .args .place)) _ (start .pre .0) (after-take-up .take-up .ensures) (not-true _ (c .if1 .taken))
+    did-stopped _ _ (λ at. placed at (start .args .port) (start .args .place)) _ (start .pre .0) (after-take-up .take-up .ensures) (not-true _ (c .if1 .taken))
 
 setup-in-requires : tie.Need-setup-in-requires
 setup-in-requires c κs = search needs
@@ -44,7 +44,7 @@ returns-2 c =
     let else1 : tie.Else1 = search in
     let after-take-up : tie.After-take-up = search in
     let start : tie.Start = search in
-    did-heard _ _ (placedAt (start .args .port) (start .args .place)) _ (start .pre .0) (after-take-up .take-up .ensures) (not-false _ (else1 .if1 .left)) (did-first _ _ _ _ (rw (after-setup-in .setup-in .ensures) at (after-is-place .is-place .ensures)) (then2 .if2 .taken) (record { answer = refl; state = (after-put-place .put-place .ensures) }))
+    did-heard _ _ (λ at. placed at (start .args .port) (start .args .place)) _ (start .pre .0) (after-take-up .take-up .ensures) (not-false _ (else1 .if1 .left)) (did-first _ _ _ _ (rw (after-setup-in .setup-in .ensures) at (after-is-place .is-place .ensures)) (then2 .if2 .taken) (record { answer = refl; state = (after-put-place .put-place .ensures) }))
 
 fault-requires : tie.Need-fault-requires
 fault-requires c κs = search (heard-fit, not-false)
@@ -62,7 +62,7 @@ returns-3 c =
     let else1 : tie.Else1 = search in
     let after-take-up : tie.After-take-up = search in
     let start : tie.Start = search in
-    did-heard _ _ (placedAt (start .args .port) (start .args .place)) _ (start .pre .0) (after-take-up .take-up .ensures) (not-false _ (else1 .if1 .left)) (did-second _ _ _ _ (rw (after-setup-in .setup-in .ensures) at (after-is-place .is-place .ensures)) (else2 .if2 .left) (after-fault .fault .ensures))
+    did-heard _ _ (λ at. placed at (start .args .port) (start .args .place)) _ (start .pre .0) (after-take-up .take-up .ensures) (not-false _ (else1 .if1 .left)) (did-second _ _ _ _ (rw (after-setup-in .setup-in .ensures) at (after-is-place .is-place .ensures)) (else2 .if2 .left) (after-fault .fault .ensures))
 
 pub move-to-spec : {M : Type 1} → statement M
 move-to-spec =
