@@ -4,9 +4,9 @@
  * that a host does to pg_event, with the words of the drive; the call does what the drive would do
  * and tells what to answer. This header is all that a caller needs to read. The rules are those of
  * the paper that the project calls document 01, with commands and responses as request M-100 adds
- * them, exceptions that a host ignores as M-102 mends them, and the maker's defect map as M-108 adds
- * it. All take them from three papers on IPI: 001 (a drive's manual), 003 (the physical level) and
- * 004 (IPI-2). Octets are in hex.
+ * them, exceptions that a host ignores as M-102 mends them, and the maker's defect map as M-108
+ * adds it. All take them from three papers on IPI: 001 (a drive's manual), 003 (the physical level)
+ * and 004 (IPI-2). Octets are in hex.
  *
  *
  * WHAT IT NEEDS
@@ -242,8 +242,9 @@ enum { PG_HOLD_NONE = 0, PG_HOLD_PLAIN = 1, PG_HOLD_STRONG = 2 };
  * nothing; else it is done, with status 0. Either way it is over. While a bit of response octet 1
  * is pending, every code but 44, good or bad, is answered with C and does not open; words, takes
  * and PG_END never are. PG_END ends a command or a response early with status 0: nothing was done,
- * and nothing is cleared. A takeover and a reset end it too, and nothing was done. No code ever
- * stages a word, changes a sector word or, however it ends, makes the sector the next.
+ * and PG_END clears nothing; but the opening has cleared octet 2, unless it was 44's. A takeover
+ * and a reset end it too, with nothing done. No code ever stages a word, changes a sector word or,
+ * however it ends, makes the sector the next.
  *
  * The words of a command before its last one are kept in PG_STATE_PARAMETER_0 and on. Those three
  * words of the state are put to 0 by a granted PG_SELECT, by PG_RESET, and by every opening and
@@ -326,12 +327,12 @@ enum {
 /* The drive status octets (004, 8.3.9). The drive never sends busy: refusal 6 stands for it.
  *
  * Kinds 3, 7 and 8 are answered with C, and do nothing, while a bit of response octet 1 is pending
- * on their port. Else they first clear octet 2 of their port: an exception that the host has ignored
- * ends there. Then, if they ask what cannot be done, they are answered with 8, and set a bit of octet
- * 2. PG_CODE_READ_STATUS is never answered with C, and its opening clears nothing. The last word of a
- * command, kind 4, is answered with 8 in the same way, but never with C, and it clears nothing before
- * it sets its bit; the command's opening has done that. Kinds 1, 2 and 10, the opening of a transfer
- * and a word before the last have no status. All else has 0, but for status 7 of a verify. */
+ * on their port. Else they first clear octet 2 of their port, so that an exception that the host
+ * has ignored ends there; then, if they ask what cannot be done, they are answered with 8 and set a
+ * bit of octet 2. PG_CODE_READ_STATUS is never answered with C, and its opening clears nothing. The
+ * last word of a command, kind 4, is never answered with C; if it is bad it is answered with 8 and
+ * only sets its bit, since the opening has cleared octet 2. Kinds 1, 2 and 10, the opening of a
+ * transfer and a word before the last have no status. All else has 0, but for a verify's 7. */
 enum {
     PG_STATUS_NORMAL = 0x00,
     PG_STATUS_BUSY = 0x01,
@@ -342,11 +343,11 @@ enum {
 
 /* The status response (001, figure 3-3): 8 octets, of which octets 3 to 7 are 0. PG_READ_STATUS
  * answers them and clears what was pending on its port, and so do the four words of
- * PG_CODE_READ_STATUS, of which the last one clears. Nothing else clears octet 1 but PG_RESET, which
- * leaves Reset Complete alone on both ports and octet 2 zero. Octet 2 is also cleared by its port's
- * next event of kind 3, 7 or 8 that is neither refused nor answered with C, PG_CODE_READ_STATUS
- * excepted; so it tells of the last request alone. From power-up it never has two bits; a state that
- * is handed in may have several. Octet 0 follows from the others.
+ * PG_CODE_READ_STATUS, of which the last one clears. Nothing else clears octet 1 but PG_RESET,
+ * which leaves Reset Complete alone on both ports and octet 2 zero. Octet 2 is also cleared by its
+ * port's next event of kind 3, 7 or 8 that is neither refused nor answered with C,
+ * PG_CODE_READ_STATUS excepted; so it tells of the last request alone. From power-up it never has
+ * two bits; a state that is handed in may have several. Octet 0 follows from the others.
  *
  *     octet  bit   001's name                        set by
  *     0      40    UNSOLICITED EXCEPTION             octet 1 is not 0

@@ -11,7 +11,7 @@ pub enum Status {
     Normal = 0x00,
     /// The header that a verify sent differs from the stored one; nothing was written.
     HeaderMiscompare = 0x07,
-    /// A bad request: Read status tells which, until another request of the port is judged.
+    /// A bad request: Read status tells which, until the port's next request clears it.
     OperationException = 0x08,
     /// Something is pending on the port that Read status tells and clears; nothing was done.
     UnsolicitedException = 0x0C,

@@ -15,8 +15,8 @@ pub enum NotDone {
     /// [`Board::read_status`] tells and clears that.
     ///
     /// [`Status::OperationException`]: it opened, its last word asked for a place or a target
-    /// outside the drive, and it is over. The status response says so until another request of
-    /// the port is judged, such as the opening of a command.
+    /// outside the drive, and it is over. The status response says so until the port's next
+    /// request that is neither refused nor answered with C; to read the status is none.
     Answered(Status),
 }
 
