@@ -18,7 +18,7 @@ use Rattle.drive.specs.Frame.{ClearsFirst, control, position, target, Re
 use Rattle.drive.specs.Power.{atRest}
 use Rattle.drive.specs.Run.{Machine, machine, answerTo, after, final}
 use Rattle.drive.specs.StaysSound.{IsSound}
-use Rattle.drive.specs.Ignored.{Stopped, clearedOn, TakenUp, Ignored}
+use Rattle.drive.specs.Ignored.{Stopped, clearedOn, Judged, Ignored}
 use Rattle.drive.specs.declared.drive.Drive.{Drive}
 use Rattle.drive.specs.declared.answer.Answer.{Answer}
 use Rattle.drive.specs.declared.answer.Answer.the-variants.{Status}
@@ -115,7 +115,7 @@ module _ (m : Machine) (e : Event) where
     sameAnswer : answer ≡ answerTo (clearedOn m (e .port)) e
     sameEnd : next ≡ after (clearedOn m (e .port)) e
 
-  clears-first : ClearsFirst e (kindOf (e .kind)) → isRefused (answerTo m e) ≡ false → pendingOn (m .drive) (e .port) .octet1 ≡ 0 → TakenUp m e
+  clears-first : ClearsFirst e (kindOf (e .kind)) → isRefused (answerTo m e) ≡ false → pendingOn (m .drive) (e .port) .octet1 ≡ 0 → Judged m e
   clears-first q a h =
       let same = same-done q h in
       let all = accepted-by Told (kindOf (e .kind)) m e refl a

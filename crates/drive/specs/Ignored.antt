@@ -28,7 +28,7 @@ abbrev pub clearedOn : Machine → ℕ → Machine
 clearedOn m port = machine (octet2Cleared (m .drive) port) (m .sectors) (m .staging)
 
 -- None is pending: the request clears octet 2 and sets its own bit if it is bad; and what stood in octet 2 plays no part in its answer or in what it leaves.
-pub record TakenUp (m : Machine) (e : Event) : Type 0 where
+pub record Judged (m : Machine) (e : Event) : Type 0 where
   pub leaves : RequestLeaves (answerTo m e) (pendingOn ((after m e) .drive) (e .port))
   pub sameAnswer : answerTo m e ≡ answerTo (clearedOn m (e .port)) e
   pub sameEnd : after m e ≡ after (clearedOn m (e .port)) e
@@ -44,7 +44,7 @@ pub record Ignored : Type 0 where
   pub stopped : (m : Machine) (e : Event) → ClearsFirst e (kindOf (e .kind)) → isRefused (answerTo m e) ≡ false
       → (pendingOn (m .drive) (e .port) .octet1 ≡ 0 → ⊥) → Stopped m e
   pub clears-first : (m : Machine) (e : Event) → ClearsFirst e (kindOf (e .kind)) → isRefused (answerTo m e) ≡ false
-      → pendingOn (m .drive) (e .port) .octet1 ≡ 0 → TakenUp m e
+      → pendingOn (m .drive) (e .port) .octet1 ≡ 0 → Judged m e
   -- From power-up no port ever has two bits of octet 2, not even by a command's last word, which only sets its bit.
   pub one-fault-at-a-time : (s : Setup) (sectors staging : List ℕ) (events : List Event) (port : ℕ)
       → OneAtMost (pendingOn ((final (machine (atRest s) sectors staging) events) .drive) port .octet2)
