@@ -1,4 +1,5 @@
--- "Bench cases" P1 to P12, and the case of M-102: one table. Each is a run from power-up; a case that goes on from another has the other's events before its own.
+-- "Bench cases" P1 to P12, and the case of M-102: one table. Each is a run from power-up; a case that goes on from another has the other's events
+-- before its own.
 use Prim.Native.Nat.{ℕ, _/_, _%_}
 use mathlib.Core.Path.{_≡_}
 use mathlib.Core.List.{List, [], _∷_, _++_}

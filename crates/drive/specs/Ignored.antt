@@ -27,7 +27,8 @@ pub record Stopped (m : Machine) (e : Event) : Type 0 where
 abbrev pub clearedOn : Machine → ℕ → Machine
 clearedOn m port = machine (octet2Cleared (m .drive) port) (m .sectors) (m .staging)
 
--- None is pending: the request clears octet 2 and sets its own bit if it is bad; and what stood in octet 2 plays no part in its answer or in what it leaves.
+-- None is pending: the request clears octet 2 and sets its own bit if it is bad; and what stood in octet 2 plays no part in its answer or in what it
+-- leaves.
 pub record Judged (m : Machine) (e : Event) : Type 0 where
   pub leaves : RequestLeaves (answerTo m e) (pendingOn ((after m e) .drive) (e .port))
   pub sameAnswer : answerTo m e ≡ answerTo (clearedOn m (e .port)) e
