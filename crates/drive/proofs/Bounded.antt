@@ -43,7 +43,7 @@ use Rattle.drive.proofs.SoundPlace.{pending-stray}
 use Rattle.drive.proofs.Posted.{on-either, kept-on-both}
 use Rattle.drive.proofs.Standing.{sought-setup}
 use Rattle.drive.proofs.FromPowerUp.{sought-inside}
-use Rattle.drive.proofs.StaysSound.{same-size, heard-passable}
+use Rattle.drive.proofs.StaysSound.{same-size, cleared-passable}
 use Rattle.drive.proofs.Turns.{thirteen}
 use Rattle.drive.proofs.Outcomes
 
@@ -77,7 +77,7 @@ quiet-bounded : {d : Drive} {e : Event} {sectors staging : List ℕ} {work : Wor
     → (AreOctets (d .pending0) × AreOctets (d .pending1)) → Outcomes.Quiet d e sectors work o → Bounded (d .setup) (o .answer)
 unfolding octet2Cleared postedOn
 quiet-bounded p f (Outcomes.unsolicited q z) = refl
-quiet-bounded p f (Outcomes.asked (Outcomes.afresh c z) x) = asked-bounded (heard-passable p (Outcomes.afresh c z)) x
+quiet-bounded {e = e} p f (Outcomes.asked (Outcomes.afresh c z) x) = asked-bounded (cleared-passable (e .port) p) x
 quiet-bounded p f (Outcomes.asked (Outcomes.asItWas z) x) = asked-bounded p x
 quiet-bounded p f (Outcomes.takenLast high) = tt
 quiet-bounded p f (Outcomes.taken high z) = tt

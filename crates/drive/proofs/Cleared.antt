@@ -9,7 +9,7 @@ use borrow.Author.Tests.{eqb-true, eqb-false}
 use lib.Dec.{eqb}
 use Rattle.laws.specs.Pick.{pick}
 use Rattle.laws.proofs.Pick.{cases}
-use Rattle.parts.specs.Pending.{pendingOf}
+use Rattle.parts.specs.Pending.{pendingOf, nothingPending}
 use Rattle.parts.specs.declared.pending.Pending.{Pending}
 use Rattle.drive.specs.State.{withPending, pendingOn, postedOn}
 use Rattle.drive.specs.Request.{octet2Cleared}
@@ -46,3 +46,8 @@ nothing-to-clear d port h = by-port (eqb port 0) refl
     by-port : (first : Bool) → eqb port 0 ≡ first → octet2Cleared d port ≡ d
     by-port true f = rw f (ap (λ (n : ℕ). withPending d (pendingOf (d .pending0 .octet1) n) (d .pending1)) (sym (rw f at h)))
     by-port false f = rw f (ap (λ (n : ℕ). withPending d (d .pending0) (pendingOf (d .pending1 .octet1) n)) (sym (rw f at h)))
+
+-- and nothing is pending where octet 1 is zero and octet 2 was cleared
+pub nothing-left : (d : Drive) (port : ℕ) → pendingOn d port .octet1 ≡ 0 → pendingOn (octet2Cleared d port) port ≡ nothingPending
+unfolding octet2Cleared
+nothing-left d port h = posted-there d port _ ∙ ap (λ (octet : ℕ). pendingOf octet 0) h

@@ -14,7 +14,7 @@ use Rattle.parts.specs.Setup.{isPlace, isTarget}
 use Rattle.parts.specs.Command.{loadPosition, readStatus, codeOf, parameterWords}
 use Rattle.parts.specs.Control.{controlOf, wordsToCome}
 use Rattle.parts.specs.Kind.{DataControl, WordFromHost, TakeWord, Target, ReadStatus, kindOf}
-use Rattle.parts.specs.Pending.{pendingOf, nothingPending}
+use Rattle.parts.specs.Pending.{nothingPending}
 use Rattle.parts.specs.Tests.{parameters, noParameters, transferringWith}
 use Rattle.parts.specs.declared.setup.Place.{Place}
 use Rattle.parts.specs.declared.pending.Pending.{Pending}
@@ -29,8 +29,9 @@ use Rattle.drive.specs.StaysSound.{IsSound}
 use Rattle.drive.specs.Calls.{Ran}
 use Rattle.drive.specs.NeverDead.{sent, wordSent, positionSent}
 use Rattle.drive.specs.Commands.{Idle, takesSent, statusAsked, taken, StatusBy44, positionSentBy07, PositionBy07, Commands}
+use Rattle.drive.specs.Ignored.{clearedOn}
 use Rattle.drive.specs.declared.answer.Answer.the-variants.{Done, Status, Opened, Word, LastWord}
-use Rattle.drive.proofs.Cleared.{posted-there, nothing-to-clear}
+use Rattle.drive.proofs.Cleared.{nothing-to-clear, nothing-left}
 use Rattle.drive.proofs.NeverDead.{Does, follows, nothing-follows, work-does, quietly, withDrive, position-does}
 use Rattle.drive.proofs.Commands.{holds-by-command, commands-keep-out, command-cut-short}
 
@@ -91,9 +92,9 @@ module _ (m : Machine) (port : ℕ) (q : Idle m port) where
   -- ---- `position-by-07`
 
   module _ (quiet : pendingOn (m .drive) port .octet1 ≡ 0) where
-    -- the drive that the three are requests to
+    -- what the three find
     abbrev heard : Machine
-    heard = withDrive m (octet2Cleared (m .drive) port)
+    heard = clearedOn m port
 
     position-opens : Does m (sent port 3 loadPosition 0) (quietly m (told (Opened 4 (m .drive .place)) (within heard loadPosition 0 noParameters .drive)))
     unfolding kindOf dataControl controlOf codeOf opened wordsToCome parameterWords octet2Cleared postedOn pick
@@ -129,9 +130,9 @@ module _ (m : Machine) (port : ℕ) (q : Idle m port) where
       placed : Does m (positionSent port p) (quietly m (told (Status normal) (withPlace (heard .drive) p)))
       placed = position-does (q .real) (q .sound) (record { selected = q .mine; idle = q .idle; quiet = quiet }) p inside
 
-      left-pending : pendingOn (withPlace (heard .drive) p) port ≡ pendingOf (pendingOn (m .drive) port .octet1) 0
-      unfolding octet2Cleared pendingOn
-      left-pending = posted-there (m .drive) port _
+      none-pending : pendingOn (withPlace (heard .drive) p) port ≡ nothingPending
+      unfolding pendingOn
+      none-pending = nothing-left (m .drive) port quiet
 
       still-aimed : isTarget (heard .drive .setup) target ≡ true
       unfolding octet2Cleared postedOn
@@ -141,8 +142,8 @@ module _ (m : Machine) (port : ℕ) (q : Idle m port) where
       unfolding targeted pick
       aim-told =
           rw (
-            eq-eqb (pendingOn (withPlace (heard .drive) p) port .octet1) 0 (ap (λ (x : Pending). x .octet1) left-pending ∙ quiet),
-            nothing-to-clear (withPlace (heard .drive) p) port (ap (λ (x : Pending). x .octet2) left-pending),
+            eq-eqb (pendingOn (withPlace (heard .drive) p) port .octet1) 0 (ap (λ (x : Pending). x .octet1) none-pending),
+            nothing-to-clear (withPlace (heard .drive) p) port (ap (λ (x : Pending). x .octet2) none-pending),
             still-aimed,
           )
 

@@ -42,7 +42,7 @@ use Rattle.drive.proofs.SoundPlace.{at-target-kept}
 use Rattle.drive.proofs.Own.{able-to-read}
 use Rattle.drive.proofs.Reading.{at-header, at-field1, at-field2, read-in-place}
 use Rattle.drive.proofs.Laws.{by-cases, doneBy, AllPassed}
-use Rattle.drive.proofs.StaysSound.{heard-passable}
+use Rattle.drive.proofs.StaysSound.{cleared-passable}
 use Rattle.drive.proofs.Along.{same-size-along}
 use Rattle.drive.proofs.Journal.{none-going, no-write, as-journalled, whole-from}
 use Rattle.drive.proofs.Standing.{standingOf, sought-there, sought-setup, stands-there}
@@ -72,7 +72,7 @@ opening-sought {d} {at} {c} p q place h =
 opening-told : {d : Drive} {e : Event} {sectors staging : List ℕ} {work : Work} {o : Outcome} → Passable d sectors staging → Outcomes.Told d e sectors work o
     → (place : Place) → paper (o .answer) .place ≡ some place → OpeningTold (d .setup) (e .a0) (standingOf d) (paper (o .answer)) place
 unfolding paper octet2Cleared postedOn
-opening-told p (Outcomes.anOpening (Outcomes.afresh c z) q w) place h = opening-sought (heard-passable p (Outcomes.afresh c z)) q place h
+opening-told {e = e} p (Outcomes.anOpening (Outcomes.afresh c z) q w) place h = opening-sought (cleared-passable (e .port) p) q place h
 opening-told p (Outcomes.anOpening (Outcomes.asItWas z) q w) place h = opening-sought p q place h
 opening-told p (Outcomes.aWord high w n r) place h = absent n h
 opening-told p (Outcomes.aResponseWord low w n r) place h = absent n h

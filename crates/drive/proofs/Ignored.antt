@@ -13,11 +13,11 @@ use Rattle.parts.specs.declared.pending.Pending.{Pending}
 use Rattle.drive.specs.Answer.{unsolicitedException}
 use Rattle.drive.specs.State.{pendingOn, postedOn, told, Result, result}
 use Rattle.drive.specs.Request.{octet2Cleared, takenUp, controlled, placed, aimed, dataControl, positioned, targeted}
+use Rattle.drive.specs.Refusal.{row7}
 use Rattle.drive.specs.Accepted.{isRefused}
 use Rattle.drive.specs.Frame.{ClearsFirst, control, position, target, RequestLeaves}
 use Rattle.drive.specs.Power.{atRest}
 use Rattle.drive.specs.Run.{Machine, machine, answerTo, after, final}
-use Rattle.drive.specs.StaysSound.{IsSound}
 use Rattle.drive.specs.Ignored.{Stopped, clearedOn, Judged, Ignored}
 use Rattle.drive.specs.declared.drive.Drive.{Drive}
 use Rattle.drive.specs.declared.answer.Answer.{Answer}
@@ -25,9 +25,10 @@ use Rattle.drive.specs.declared.answer.Answer.the-variants.{Status}
 use Rattle.drive.specs.declared.answer.Outcome.{Outcome}
 use Rattle.drive.proofs.Laws.{accepted-by, doneBy, left, AllPassed, its-own}
 use Rattle.drive.proofs.Sound.{sound, unsound}
-use Rattle.drive.proofs.SoundPlace.{octet2-kept, cleared-kept}
-use Rattle.drive.proofs.Cleared.{nothing-to-clear}
-use Rattle.drive.proofs.Pendings.{not-for-status, nothing-left, asked-left}
+use Rattle.drive.proofs.StaysSound.{cleared-passable}
+use Rattle.drive.proofs.SoundPlace.{octet2-kept}
+use Rattle.drive.proofs.Cleared.{nothing-to-clear, nothing-left}
+use Rattle.drive.proofs.Pendings.{asked-left}
 use Rattle.drive.proofs.Posted.{on-either}
 use Rattle.drive.proofs.NeverDead.{Does, work-does}
 use Rattle.drive.proofs.OneFault.{Few, one-from-rest}
@@ -71,7 +72,7 @@ quiet-clears : {d : Drive} {e : Event} {sectors : List ℕ} {work : Work} {o : O
     → Outcomes.Quiet d e sectors work o → RequestLeaves (o .answer) (pendingOn (o .drive) (e .port))
 quiet-clears q h (Outcomes.unsolicited r z) = absurd (true≢false (sym (eq-eqb _ 0 h) ∙ z))
 quiet-clears {d} {e} q h (Outcomes.asked (Outcomes.afresh r y) x) = asked-left (nothing-left d (e .port) h) x
-quiet-clears q h (Outcomes.asked (Outcomes.asItWas y) x) = absurd (not-for-status q y)
+quiet-clears q h (Outcomes.asked (Outcomes.asItWas y) x) = absurd (Outcomes.not-for-status q y)
 quiet-clears q h (Outcomes.exchanged low x) = absurd (no-exchange q x)
 
 work-clears : {d : Drive} {e : Event} {sectors staging : List ℕ} {work : Work} {r : Result} → ClearsFirst e (Use work) → pendingOn d (e .port) .octet1 ≡ 0
@@ -92,16 +93,18 @@ cleared-again d port ask h =
     rw (eq-eqb (pendingOn d port .octet1) 0 h, eq-eqb (pendingOn (octet2Cleared d port) port .octet1) 0 (ap (λ (p : Pending). p .octet1) none), nothing-to-clear (octet2Cleared d port) port (ap (λ (p : Pending). p .octet2) none))
 
 module _ (m : Machine) (e : Event) where
-  still-sound : {k : Kind} → AllPassed k m e → IsSound (clearedOn m (e .port))
-  unfolding octet2Cleared postedOn
-  still-sound p = record { sound = unsound _ (cleared-kept (e .port) (sound (m .drive) (p .sound))); room = p .room }
-
   -- with octet 2 cleared it is accepted too
+  work-again : (work : Work) → kindOf (e .kind) ≡ Use work → AllPassed (Use work) m e → row7 work (octet2Cleared (m .drive) (e .port)) ≡ false
+      → Does (clearedOn m (e .port)) e (doneBy (Use work) (clearedOn m (e .port)) e)
+  unfolding octet2Cleared postedOn
+  work-again work z p timely =
+      work-does work (cleared-passable (e .port) (record { sound = p .sound; room = p .room })) (ltb-false 1 (e .port) (p .port)) z (p .formed) (its-own m e (p .own .0)) timely refl
+
   cleared-does : {k : Kind} → ClearsFirst e k → kindOf (e .kind) ≡ k → AllPassed k m e → Does (clearedOn m (e .port)) e (doneBy k (clearedOn m (e .port)) e)
   unfolding octet2Cleared postedOn
-  cleared-does (control n) z p = work-does DataControl (still-sound p) (ltb-false 1 (e .port) (p .port)) z (p .formed) (its-own m e (p .own .0)) (p .own .1 .0) refl
-  cleared-does position z p = work-does Position (still-sound p) (ltb-false 1 (e .port) (p .port)) z (p .formed) (its-own m e (p .own .0)) (p .own .1 .0) refl
-  cleared-does target z p = work-does Target (still-sound p) (ltb-false 1 (e .port) (p .port)) z (p .formed) (its-own m e (p .own .0)) (p .own .1 .0) refl
+  cleared-does (control n) z p = work-again DataControl z p (p .own .1 .0)
+  cleared-does position z p = work-again Position z p (p .own .1 .0)
+  cleared-does target z p = work-again Target z p (p .own .1 .0)
 
   same-done : {k : Kind} → ClearsFirst e k → pendingOn (m .drive) (e .port) .octet1 ≡ 0 → doneBy k (clearedOn m (e .port)) e ≡ doneBy k m e
   same-done q h =

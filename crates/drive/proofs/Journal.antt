@@ -106,12 +106,6 @@ request-noted (frame.control n) told going h = rw h
 request-noted frame.position told going h = refl
 request-noted frame.target told going h = refl
 
--- nothing is open where they are let pass
-pub request-idle : {work : Work} {e : Event} (d : Drive) → frame.ClearsFirst e (Use work) → row7 work d ≡ false → isOneOpen d ≡ false
-request-idle d (frame.control n) t = t
-request-idle d frame.position t = t
-request-idle d frame.target t = t
-
 -- where no write is open before and after
 still-none : (d d′ : Drive) (staging : List ℕ) → isWriteOpen (d .transfer) ≡ false → isWriteOpen (d′ .transfer) ≡ false
     → page (goingOn d staging) [] ≡ page (goingOn d′ staging) []
@@ -171,7 +165,7 @@ quiet-noted : {d : Drive} {e : Event} {sectors : List ℕ} {work : Work} {o : Ou
     → noted (Use work) e (paper (o .answer)) (goingOn d staging) ≡ page (goingOn (o .drive) staging) []
 unfolding paper goingOn postedOn octet2Cleared ended
 quiet-noted {d} staging t (Outcomes.unsolicited q z) = request-noted q _ (goingOn d staging) refl
-quiet-noted {d} staging t (Outcomes.asked (Outcomes.afresh q z) x) = asked-noted staging (request-idle d q t) x
+quiet-noted {d} staging t (Outcomes.asked (Outcomes.afresh q z) x) = asked-noted staging (Outcomes.request-idle d q t) x
 quiet-noted staging t (Outcomes.asked (Outcomes.asItWas z) x) = asked-noted staging t x
 quiet-noted {d} staging t (Outcomes.takenLast high) = still-none d (ended d) staging (being-read d t) no-write
 quiet-noted {d} staging t (Outcomes.taken high z) =

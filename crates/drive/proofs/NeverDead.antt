@@ -160,7 +160,7 @@ module _ (m : Machine) (port : ℕ) (real : port ≤ 1) (s : IsSound m) where
 -- ---- Position and the data control
 
 module _ {m : Machine} {port : ℕ} (real : port ≤ 1) (s : IsSound m) (r : Ready (m .drive) port) where
-  -- the drive that they are requests to
+  -- the drive that they find
   abbrev heard : Drive
   heard = octet2Cleared (m .drive) port
 

@@ -30,9 +30,7 @@ use Rattle.drive.specs.declared.drive.Drive.{Drive}
 use Rattle.drive.specs.declared.answer.Outcome.{Outcome}
 use Rattle.drive.proofs.Laws.{by-cases, doneBy, AllPassed, its-own}
 use Rattle.drive.proofs.Cleared.{posted-there}
-use Rattle.drive.proofs.Pendings.{not-for-status}
 use Rattle.drive.proofs.Posted.{OnBoth, on-either, posted-on}
-use Rattle.drive.proofs.Journal.{request-idle}
 use Rattle.drive.proofs.Outcomes
 use Rattle.parts.specs.declared.setup.Setup.{Setup}
 
@@ -115,8 +113,8 @@ module _ {d : Drive} (e : Event) (i : OneFault d) (own : d .holding .selected �
   heard-one : {at : Drive} {work : Work} {o : Outcome} → row7 work d ≡ false → Outcomes.Heard d e work at → Outcomes.Asked at e work o → OneFault (o .drive)
   unfolding octet2Cleared postedOn
   heard-one t (Outcomes.afresh q y) x =
-      asked-one (posted-on Few d (e .port) _ (i .few) none) (request-idle d q t) own (λ r. ap (λ (p : Pending). p .octet2) (posted-there d (e .port) _)) x
-  heard-one t (Outcomes.asItWas y) x = asked-one (i .few) t own (λ r. absurd (not-for-status r y)) x
+      asked-one (posted-on Few d (e .port) _ (i .few) none) (Outcomes.request-idle d q t) own (λ r. ap (λ (p : Pending). p .octet2) (posted-there d (e .port) _)) x
+  heard-one t (Outcomes.asItWas y) x = asked-one (i .few) t own (λ r. absurd (Outcomes.not-for-status r y)) x
 
   quiet-one : {sectors : List ℕ} {work : Work} {o : Outcome} → row7 work d ≡ false → Outcomes.Quiet d e sectors work o → OneFault (o .drive)
   unfolding ended pendingOn

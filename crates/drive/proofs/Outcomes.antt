@@ -2,7 +2,7 @@
 -- Assumes nothing.
 use Prim.Native.Nat.{ℕ, _+_}
 use mathlib.Core.Path.{_≡_, refl, sym, _∙_}
-use mathlib.Core.Bool.{true, false, _||_}
+use mathlib.Core.Bool.{true, false, _||_, true≢false}
 use mathlib.Core.List.{List}
 use mathlib.Core.Option.{some, none}
 use borrow.Author.Tests.{eqb-true, not-true}
@@ -23,6 +23,7 @@ use Rattle.drive.specs.Request.{octet2Cleared, takenUp, badRequest, cont
 use Rattle.drive.specs.Transfer.{committed, staged, wordStaged, wordTaken}
 use Rattle.drive.specs.Command.{withParameter, placeSought, targetSought, seeking, functioned, obeyed, parameterSent, wordsTold, statusCleared, responseTaken, wordFromHost, wordToHost, endedEarly}
 use Rattle.parts.specs.Kind.{Use, Work, DataControl, WordFromHost, TakeWord, End, Position, Target, ReadStatus, wordOf, placeOf}
+use Rattle.drive.specs.Refusal.{isOneOpen, row7}
 use Rattle.drive.specs.Event.{act}
 use Rattle.drive.specs.Frame.{ClearsFirst, control, position, target}
 use Rattle.parts.specs.declared.control.Control.{Control}
@@ -82,6 +83,16 @@ pub data Exchanged (d : Drive) (e : Event) : Work → Outcome → Type 0 where
   cut : Exchanged d e End (told (Status normal) (closed d))
 
 -- ---- all of them
+
+-- nothing is open where a request is let pass
+pub request-idle : {work : Work} {e : Event} (d : Drive) → ClearsFirst e (Use work) → row7 work d ≡ false → isOneOpen d ≡ false
+request-idle d (control n) t = t
+request-idle d position t = t
+request-idle d target t = t
+
+-- the code that reads status is none that clears or could be bad
+pub not-for-status : {e : Event} → ClearsFirst e (Use DataControl) → eqb (e .a0) readStatus ≡ true → ⊥
+not-for-status (control n) y = true≢false (sym y ∙ n)
 
 -- the drive as a transfer opens on it: where it was, or at its target
 pub data Sought (d : Drive) (c : ℕ) : Drive → Type 0 where

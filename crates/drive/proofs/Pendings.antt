@@ -2,7 +2,7 @@
 -- Assumes nothing.
 use Prim.Native.Nat.{ℕ, _+_, _≤_}
 use mathlib.Core.Path.{_≡_, refl, sym, ap, subst, _∙_}
-use mathlib.Core.Bool.{Bool, true, false, not, true≢false}
+use mathlib.Core.Bool.{Bool, true, false, not}
 use mathlib.Core.Logic.{_⊎_, inl, inr}
 use native.Mathlib.Omega.{arith}
 use borrow.Author.Tests.{eqb-true, eqb-false, ltb-false, not-true}
@@ -12,7 +12,7 @@ use Rattle.laws.proofs.Pick.{cases}
 use Rattle.laws.proofs.Tests.{and-l}
 use Rattle.parts.specs.Holding.{nobody, isOwnedByOther}
 use Rattle.parts.specs.Pending.{OneBit, bit7, bit6, bit5, bit4, withBit, pendingOf, noticed, faulted, nothingPending}
-use Rattle.parts.specs.Kind.{Kind, Select, Deselect, Use, Reset, Unknown, Work, DataControl, kindOf}
+use Rattle.parts.specs.Kind.{Kind, Select, Deselect, Use, Reset, Unknown, Work, kindOf}
 use Rattle.parts.specs.Command.{readStatus, parameterWords}
 use Rattle.parts.specs.Control.{wordsToCome}
 use Rattle.parts.specs.declared.command.Function.{Function}
@@ -33,12 +33,8 @@ use Rattle.drive.specs.declared.answer.Outcome.{Outcome}
 use Rattle.drive.specs.declared.drive.Drive.{Drive}
 use Rattle.drive.proofs.Laws.{AllPassed, doneBy}
 use Rattle.drive.proofs.Sound.{sound}
-use Rattle.drive.proofs.Cleared.{posted-there, posted-elsewhere, same-or-other}
+use Rattle.drive.proofs.Cleared.{posted-there, posted-elsewhere, same-or-other, nothing-left}
 use Rattle.drive.proofs.Outcomes
-
--- the code that reads status is no request that could be bad
-pub not-for-status : {e : Event} → frame.ClearsFirst e (Use DataControl) → eqb (e .a0) readStatus ≡ true → ⊥
-not-for-status (frame.control n) y = true≢false (sym y ∙ n)
 
 -- a request leaves its own bit if it is bad, and the other port's as it was
 alone : {bit : ℕ} → OneBit bit → faulted nothingPending bit ≡ pendingOf 0 bit
@@ -47,11 +43,6 @@ alone bit7 = refl
 alone bit6 = refl
 alone bit5 = refl
 alone bit4 = refl
-
--- nothing is pending on a port where octet 1 is zero and octet 2 was cleared
-pub nothing-left : (d : Drive) (port : ℕ) → pendingOn d port .octet1 ≡ 0 → pendingOn (octet2Cleared d port) port ≡ nothingPending
-unfolding octet2Cleared
-nothing-left d port h = posted-there d port _ ∙ ap (λ (octet : ℕ). pendingOf octet 0) h
 
 pub asked-left : {d : Drive} {e : Event} {work : Work} {o : Outcome} → pendingOn d (e .port) ≡ nothingPending → Outcomes.Asked d e work o
     → RequestLeaves (o .answer) (pendingOn (o .drive) (e .port))
@@ -149,7 +140,7 @@ module _ (m : Machine) (e : Event) (port : ℕ) (real : port ≤ 1) where
   unfolding pendingOn atItsTarget ended
   quiet-left z own (Outcomes.unsolicited q y) = asBefore refl
   quiet-left z own (Outcomes.asked (Outcomes.afresh q y) x) = asked-framed z own q y x
-  quiet-left z own (Outcomes.asked (Outcomes.asItWas y) x) = asBefore (asked-elsewhere port (λ q new. absurd (not-for-status q y)) x)
+  quiet-left z own (Outcomes.asked (Outcomes.asItWas y) x) = asBefore (asked-elsewhere port (λ q new. absurd (Outcomes.not-for-status q y)) x)
   quiet-left z own (Outcomes.takenLast high) = asBefore refl
   quiet-left z own (Outcomes.taken high y) = asBefore refl
   quiet-left z own (Outcomes.ends high) = asBefore refl

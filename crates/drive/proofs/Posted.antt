@@ -38,9 +38,6 @@ unfolding postedOn
 posted-on P d port p o h = (either P _ h (o .0), either P _ (o .1) h)
 
 module _ (P : Pending → Type 0) (q : Postable P) where
-  posted : (d : Drive) (port : ℕ) (p : Pending) → OnBoth P d → P p → OnBoth P (postedOn d port p)
-  posted = posted-on P
-
   sought : {d at : Drive} {c : ℕ} → Outcomes.Sought d c at → OnBoth P d → OnBoth P at
   unfolding atItsTarget
   sought (Outcomes.inPlace a) o = o
@@ -59,14 +56,14 @@ module _ (P : Pending → Type 0) (q : Postable P) where
   exchange-keeps o (Outcomes.kept z) = o
   exchange-keeps o (Outcomes.obeys (Outcomes.byFunction z r f)) = function-keeps o f
   exchange-keeps o (Outcomes.obeys (Outcomes.bySeek z i j)) = o
-  exchange-keeps {d} {e} o (Outcomes.disobeys b) = posted (closed d) (e .port) _ o (q .fault _ (Outcomes.its-bit b) (on-either P (closed d) (e .port) o))
+  exchange-keeps {d} {e} o (Outcomes.disobeys b) = posted-on P (closed d) (e .port) _ o (q .fault _ (Outcomes.its-bit b) (on-either P (closed d) (e .port) o))
   exchange-keeps o (Outcomes.tells z) = o
-  exchange-keeps {d} {e} o (Outcomes.tellsLast z) = either (OnBoth P) _ (posted (closed d) (e .port) nothingPending o (q .nothing)) o
+  exchange-keeps {d} {e} o (Outcomes.tellsLast z) = either (OnBoth P) _ (posted-on P (closed d) (e .port) nothingPending o (q .nothing)) o
   exchange-keeps o Outcomes.cut = o
 
   asked-keeps : {d : Drive} {e : Event} {work : Work} {o : Outcome} → OnBoth P d → Outcomes.Asked d e work o → OnBoth P (o .drive)
   unfolding headStepped ended
-  asked-keeps {d} {e} o (Outcomes.bad r b) = posted d (e .port) _ o (q .fault _ b (on-either P d (e .port) o))
+  asked-keeps {d} {e} o (Outcomes.bad r b) = posted-on P d (e .port) _ o (q .fault _ b (on-either P d (e .port) o))
   asked-keeps o (Outcomes.stepped k) = o
   asked-keeps o (Outcomes.nothingToCome s w) = sought s o
   asked-keeps o (Outcomes.opens s c z) = sought s o
@@ -75,7 +72,7 @@ module _ (P : Pending → Type 0) (q : Postable P) where
 
   heard-keeps : {d at : Drive} {e : Event} {work : Work} → OnBoth P d → Outcomes.Heard d e work at → OnBoth P at
   unfolding octet2Cleared
-  heard-keeps {d} {e = e} o (Outcomes.afresh c z) = posted d (e .port) _ o (q .clear _ (on-either P d (e .port) o))
+  heard-keeps {d} {e = e} o (Outcomes.afresh c z) = posted-on P d (e .port) _ o (q .clear _ (on-either P d (e .port) o))
   heard-keeps o (Outcomes.asItWas z) = o
 
   quiet-keeps : {d : Drive} {e : Event} {sectors : List ℕ} {work : Work} {o : Outcome} → OnBoth P d → Outcomes.Quiet d e sectors work o → OnBoth P (o .drive)
@@ -86,7 +83,7 @@ module _ (P : Pending → Type 0) (q : Postable P) where
   quiet-keeps o (Outcomes.taken high z) = o
   quiet-keeps o (Outcomes.ends high) = o
   quiet-keeps o (Outcomes.exchanged low x) = exchange-keeps o x
-  quiet-keeps {d} {e} o Outcomes.statusTold = posted d (e .port) nothingPending o (q .nothing)
+  quiet-keeps {d} {e} o Outcomes.statusTold = posted-on P d (e .port) nothingPending o (q .nothing)
 
   work-keeps : {d : Drive} {e : Event} {sectors staging : List ℕ} {work : Work} {r : Result} → OnBoth P d → Outcomes.WorkDone d e sectors staging work r
       → OnBoth P (r .outcome .drive)
@@ -98,7 +95,7 @@ module _ (P : Pending → Type 0) (q : Postable P) where
 
   notice-keeps : (d : Drive) (port : ℕ) → OnBoth P d → OnBoth P (ownerNoticed d port)
   unfolding ownerNoticed
-  notice-keeps d port o = either (OnBoth P) _ (posted d (d .holding .owner) _ o (q .notice _ (on-either P d (d .holding .owner) o))) o
+  notice-keeps d port o = either (OnBoth P) _ (posted-on P d (d .holding .owner) _ o (q .notice _ (on-either P d (d .holding .owner) o))) o
 
   kind-keeps : (k : Kind) (m : Machine) (e : Event) → OnBoth P (m .drive) → OnBoth P ((doneBy k m e) .outcome .drive)
   unfolding selected deselected afterReset

@@ -75,12 +75,10 @@ exchange-sound {d} {e} p n t (Outcomes.tellsLast z) =
     let s = closed-kept (sound d (p .sound)) in either Sound _ (posted-kept (e .port) nothingPending s nothing-stray) s
 exchange-sound {d} p n t Outcomes.cut = closed-kept (sound d (p .sound))
 
--- the drive that a request finds is as sound
-pub heard-passable : {d at : Drive} {e : Event} {sectors staging : List ℕ} {work : Work} → Passable d sectors staging → Outcomes.Heard d e work at
-    → Passable at sectors staging
+-- with octet 2 cleared a drive is as sound
+pub cleared-passable : {d : Drive} {sectors staging : List ℕ} (port : ℕ) → Passable d sectors staging → Passable (octet2Cleared d port) sectors staging
 unfolding octet2Cleared postedOn
-heard-passable {d} {e = e} p (Outcomes.afresh c z) = record { sound = unsound _ (cleared-kept (e .port) (sound d (p .sound))); room = p .room }
-heard-passable p (Outcomes.asItWas z) = p
+cleared-passable {d} port p = record { sound = unsound _ (cleared-kept port (sound d (p .sound))); room = p .room }
 
 asked-sound : {d : Drive} {e : Event} {work : Work} {o : Outcome} → Sound d → eqb (d .holding .selected) nobody ≡ false → Outcomes.Asked d e work o → Sound (o .drive)
 unfolding atItsTarget
