@@ -1,9 +1,10 @@
 -- What a batch goes by: rows 11 and 10 say the same of a state after an event as before it, and each turn takes one event and writes one answer.
 -- Assumes nothing.
-use Prim.Native.Nat.{ℕ, suc, _+_, _-_, _*_, _/_, _%_, _<_, _≤_}
+use Prim.Native.Nat.{ℕ, zero, suc, _+_, _-_, _*_, _/_, _%_, _<_, _≤_, min}
 use mathlib.Core.Path.{_≡_, refl, sym, ap, _∙_}
 use mathlib.Core.Bool.{Bool, true, false}
-use mathlib.Core.List.{List, _∷_, _++_, append-nil, append-assoc}
+use mathlib.Core.List.{List, [], _∷_, _++_, append-nil, append-assoc}
+use native.Mathlib.Nat.{zero-min, min-zero, suc-min-suc}
 use native.Mathlib.Omega.{arith}
 use borrow.Author.Tests.{lt-ltb, le-ltb, eq-eqb, ne-eqb}
 use lib.Dec.{ltb}
@@ -127,6 +128,32 @@ events-step count i records h =
     let n : count - i ≡ suc (count - (i + 1)) = omega arith in
     let k : 8 * i + 8 ≡ 8 * (i + 1) = omega arith in
     rw (n, drop-drop 8 (8 * i) records, k)
+
+pub event-count : (count : ℕ) (records : List ℕ) → length (eventsIn count records) ≡ count
+unfolding eventsIn
+event-count zero records = refl
+event-count (suc count) records = ap suc (event-count count (drop 8 records))
+
+pub answer-count : (m : Machine) (events : List Event) → length (answers m events) ≡ length events
+unfolding answers
+answer-count m [] = refl
+answer-count m (e ∷ events) = ap suc (answer-count (after m e) events)
+
+-- the first of the events, and those behind them, are the events of records
+pub events-taken : (count : ℕ) (records : List ℕ) (n : ℕ) → take n (eventsIn count records) ≡ eventsIn (min n count) records
+unfolding eventsIn
+events-taken count records zero = rw (zero-min count)
+events-taken zero records (suc n) = rw (min-zero (suc n))
+events-taken (suc count) records (suc n) = rw (suc-min-suc n count) (ap (λ (rest : List Event). eventOf records ∷ rest) (events-taken count (drop 8 records) n))
+
+pub events-dropped : (count : ℕ) (records : List ℕ) (n : ℕ) → drop n (eventsIn count records) ≡ eventsIn (count - n) (drop (8 * n) records)
+unfolding eventsIn
+events-dropped count records zero = let e : count - 0 ≡ count = omega arith in rw e
+events-dropped zero records (suc n) = let e : 0 - suc n ≡ 0 = omega arith in rw e
+events-dropped (suc count) records (suc n) =
+    let e : suc count - suc n ≡ count - n = omega arith in
+    let k : 8 * suc n ≡ 8 + 8 * n = omega arith in
+    rw (e, k, ← (drop-drop (8 * n) 8 records)) (events-dropped count (drop 8 records) n)
 
 turned-by : {start : Machine} {events : List Event} {out₀ : List ℕ} {m m′ : Machine} {e : Event} {rest : List Event} {at : ℕ} {out part : List ℕ}
     → at ≤ length out → Turned start events out₀ m (e ∷ rest) at out → TurnTaken m e (drop at out) m′ part

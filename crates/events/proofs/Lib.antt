@@ -5,6 +5,7 @@ pub mod PowerUp
 pub mod Goes
 pub mod Answering
 pub mod Batches
+pub mod Parts
 pub mod Steps
 pub mod Unsoundness
 pub mod Transfers

@@ -1,6 +1,7 @@
 pub mod State
 pub mod Event
 pub mod Run
+pub mod Part
 pub mod Power
 pub mod Exactly
 pub mod WrongAnswers

@@ -9,7 +9,7 @@ ghost use Rattle.events.specs.Event.{EventOnWords};
 ghost use Rattle.events.specs.Run.{RunOnWords};
 ghost use Rattle.events.specs.Turn.{RefusedShort};
 
-const RECORD_OCTETS: usize = 8;
+pub(crate) const RECORD_OCTETS: usize = 8;
 
 // 0 and the 13 words of the answer, or the refusal and nothing changed.
 pub fn answer_event(

@@ -1,21 +1,21 @@
 -- Lists as tables and as lent slices: a table's entry, what holds of each of a list, what a run of stores leaves.
 -- Assumes nothing.
-use Prim.Native.Nat.{ℕ, zero, suc, _+_, _<_, _≤_}
+use Prim.Native.Nat.{ℕ, zero, suc, _+_, _-_, _<_, _≤_, min}
 use mathlib.Core.Path.{_≡_, refl, ap, _∙_}
 use mathlib.Core.Bool.{Bool, true, false, _&&_, _||_, false≢true}
 use mathlib.Core.List.{List, [], _∷_}
-use native.Mathlib.Nat.{zero-add, add-zero}
+use native.Mathlib.Nat.{zero-add, add-zero, zero-min, min-zero, suc-min-suc}
 use native.Mathlib.Omega.{arith}
 use borrow.Author.Tests.{eqb-true, eqb-false}
 use lib.Dec.{eqb}
-use lib.ListN.{length, getD}
+use lib.ListN.{length, getD, take, drop}
 use lib.Seq.{sets, sets-eq}
 use Rattle.laws.proofs.Tests.{and-l, and-r}
 use Rattle.laws.specs.Lists.{writtenOver, tableFrom, oneOf, oneOfOr}
 
 -- ---- a table's rule, at each entry
 
-table-from : (rule : ℕ → ℕ) (start count k : ℕ) → k < count → getD (tableFrom rule start count) k 0 ≡ rule (start + k)
+pub table-from : (rule : ℕ → ℕ) (start count k : ℕ) → k < count → getD (tableFrom rule start count) k 0 ≡ rule (start + k)
 table-from rule start zero k h = absurd (omega arith)
 table-from rule start (suc count) zero h = rw add-zero
 table-from rule start (suc count) (suc k) h =
@@ -24,6 +24,24 @@ table-from rule start (suc count) (suc k) h =
 
 pub table-at : (rule : ℕ → ℕ) (count k : ℕ) → k < count → getD (tableFrom rule 0 count) k 0 ≡ rule k
 table-at rule count k h = table-from rule 0 count k h ∙ ap rule (zero-add k)
+
+pub length-table : (rule : ℕ → ℕ) (start count : ℕ) → length (tableFrom rule start count) ≡ count
+length-table rule start zero = refl
+length-table rule start (suc count) = ap suc (length-table rule (suc start) count)
+
+-- a table's front and its rest are tables
+pub take-table : (rule : ℕ → ℕ) (start count n : ℕ) → take n (tableFrom rule start count) ≡ tableFrom rule start (min n count)
+take-table rule start count zero = rw (zero-min count)
+take-table rule start zero (suc n) = rw (min-zero (suc n))
+take-table rule start (suc count) (suc n) = rw (suc-min-suc n count) (ap (λ (rest : List ℕ). rule start ∷ rest) (take-table rule (suc start) count n))
+
+pub drop-table : (rule : ℕ → ℕ) (start count n : ℕ) → drop n (tableFrom rule start count) ≡ tableFrom rule (start + n) (count - n)
+drop-table rule start count zero = let e : count - 0 ≡ count = omega arith in rw (add-zero start, e)
+drop-table rule start zero (suc n) = let e : 0 - suc n ≡ 0 = omega arith in rw e
+drop-table rule start (suc count) (suc n) =
+    let e : start + suc n ≡ suc start + n = omega arith in
+    let f : suc count - suc n ≡ count - n = omega arith in
+    rw (e, f) (drop-table rule (suc start) count n)
 
 -- ---- one computed test over all numbers below a bound; what holds of each of a list
 

@@ -5,6 +5,7 @@ mod event;
 mod line;
 mod map_calls;
 mod power;
+mod replay;
 mod run;
 
 pub use capture_calls::pg_capture;
@@ -19,4 +20,5 @@ pub use map_calls::pg_encode_map;
 pub use map_calls::pg_read_map;
 pub use map_calls::pg_write_map;
 pub use power::pg_power_up;
+pub use replay::pg_replay;
 pub use run::pg_run;
