@@ -6,6 +6,7 @@ pub mod Goes
 pub mod Answering
 pub mod Batches
 pub mod Parts
+pub mod Stops
 pub mod Steps
 pub mod Unsoundness
 pub mod Transfers

@@ -9,6 +9,8 @@ use Rattle.parts.specs.declared.event.Event.{Event}
 use Rattle.events.specs.Power.{PoweredUpOnWords}
 use Rattle.events.specs.Event.{EventOnWords}
 use Rattle.events.specs.Run.{RunOnWords}
+use Rattle.events.specs.Part.{PartOnWords}
+use Rattle.events.specs.declared.part.Part.{Part}
 
 pub power-up-words-only : {s : Setup} {sectors staging state : List ℕ} {r r′ : ℕ} {state′ state″ : List ℕ} → PoweredUpOnWords s sectors staging state r state′
     → PoweredUpOnWords s sectors staging state r′ state″ → (r ≡ r′) × (state′ ≡ state″)
@@ -36,4 +38,19 @@ run-records-only h k =
       answer-only (rw e at (h .sectors)) (k .sectors),
       answer-only (rw e at (h .staging)) (k .staging),
       answer-only (rw e at (h .out)) (k .out),
+    )
+
+pub part-only : {state records : List ℕ} {from limit : ℕ} {sectors staging answers gaps : List ℕ} {r r′ : Part}
+    {state′ sectors′ staging′ answers′ gaps′ state″ sectors″ staging″ answers″ gaps″ : List ℕ}
+    → PartOnWords state records from limit sectors staging answers gaps r state′ sectors′ staging′ answers′ gaps′
+    → PartOnWords state records from limit sectors staging answers gaps r′ state″ sectors″ staging″ answers″ gaps″
+    → (r ≡ r′) × (state′ ≡ state″) × (sectors′ ≡ sectors″) × (staging′ ≡ staging″) × (answers′ ≡ answers″) × (gaps′ ≡ gaps″)
+part-only h k =
+    let e = answer-only (h .answer) (k .answer) in (
+      e,
+      answer-only (rw e at (h .state)) (k .state),
+      answer-only (rw e at (h .sectors)) (k .sectors),
+      answer-only (rw e at (h .staging)) (k .staging),
+      answer-only (rw e at (h .answers)) (k .answers),
+      answer-only (rw e at (h .gaps)) (k .gaps),
     )

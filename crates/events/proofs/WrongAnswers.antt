@@ -1,16 +1,23 @@
--- The wrong answers of `handle`, `power_up_words`, `answer_event` and `run_records` break their promises, by computation.
+-- The wrong answers of `handle`, `power_up_words`, `answer_event`, `run_records` and `replay_part` break their promises, by computation.
 -- Assumes nothing.
+use Prim.Native.Nat.{ℕ}
 use mathlib.Core.Path.{refl, ap}
 use lib.ListN.{getD}
 use Rattle.laws.proofs.Differ.{told-apart}
 use Rattle.drive.specs.Answer.{refusalIn}
 use Rattle.drive.specs.AnswerWords.{orFFFF}
 use Rattle.drive.specs.declared.drive.Drive.{Drive}
+use Rattle.events.specs.declared.part.Part.{Part}
+use Rattle.events.specs.declared.part.Part.the-variants.{Ran, Refused}
 use Rattle.events.specs.WrongAnswers.{WrongAnswers}
 use Rattle.events.proofs.Computing.{computing-words}
 
+countIn : Part → ℕ
+countIn (Ran count) = count
+countIn (Refused n) = 0
+
 pub wrong-answers : WrongAnswers
-unfolding computing-words
+unfolding computing-words countIn
 wrong-answers =
     record {
       refusesAll = λ h. told-apart 6 0 refl (ap refusalIn (h .answer));
@@ -41,4 +48,10 @@ wrong-answers =
       eightForNoRecord = λ h. told-apart 8 0 refl (h .refusal);
       recordLeftOut = λ h. told-apart 2 0 refl (ap (λ words. getD words 7 0) (h .state));
       answersTwelveApart = λ h. told-apart 0xFFFF 6 refl (ap (λ words. getD words 13 0) (h .out));
+      refusedNotCounted = λ left h. told-apart 1 2 refl (ap countIn (h .answer));
+      oneMoreThanTheLimit = λ left h. told-apart 2 1 refl (ap countIn (h .answer));
+      oneRecordLate = λ h. told-apart 1 0 refl (ap (λ words. getD words 7 0) (h .state));
+      gapToTheNext = λ h. told-apart 4 0 refl (ap (λ words. getD words 0 0) (h .gaps));
+      gapForgotten = λ h. told-apart 0 4 refl (ap (λ words. getD words 0 0) (h .gaps));
+      gapNotRound = λ h. told-apart 0 2 refl (ap (λ words. getD words 1 0) (h .gaps));
     }

@@ -9,6 +9,8 @@ use Rattle.parts.specs.declared.event.Event.{Event}
 use Rattle.events.specs.Power.{powerUpRows, PoweredUpOnWords}
 use Rattle.events.specs.Event.{eventRows, EventOnWords}
 use Rattle.events.specs.Run.{runRows, RunOnWords}
+use Rattle.events.specs.Part.{partRows, refusalIn, PartOnWords}
+use Rattle.events.specs.declared.part.Part.{Part}
 
 -- Whatever meets the promise refuses with number n if and only if row n holds and no row tested earlier does.
 pub record Exactly : Type 0 where
@@ -21,3 +23,6 @@ pub record Exactly : Type 0 where
   pub run-records-exactly : {state records sectors staging out : List ℕ} {r : ℕ} {state′ sectors′ staging′ out′ : List ℕ}
       → RunOnWords state records sectors staging out r state′ sectors′ staging′ out′
       → (n : ℕ) → r ≡ suc n ↔ Given (suc n) (runRows state records out)
+  pub replay-part-exactly : {state records : List ℕ} {from limit : ℕ} {sectors staging answers gaps : List ℕ} {r : Part} {state′ sectors′ staging′ answers′ gaps′ : List ℕ}
+      → PartOnWords state records from limit sectors staging answers gaps r state′ sectors′ staging′ answers′ gaps′
+      → (n : ℕ) → refusalIn r ≡ suc n ↔ Given (suc n) (partRows state records from limit answers gaps)

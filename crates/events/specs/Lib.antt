@@ -2,6 +2,7 @@ pub mod State
 pub mod Event
 pub mod Run
 pub mod Part
+pub mod Stops
 pub mod Power
 pub mod Exactly
 pub mod WrongAnswers

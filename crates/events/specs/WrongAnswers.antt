@@ -1,7 +1,8 @@
 -- Wrong answers of the public calls: what a careless programmer would get, and no promise allows.
 use Prim.Native.Nat.{ℕ, _*_}
 use mathlib.Core.List.{List, [], _∷_, _++_}
-use lib.ListN.{replicate, take, set}
+use lib.ListN.{replicate, take, drop, set}
+use Rattle.laws.specs.Octets.{octetsOf}
 use Rattle.parts.specs.Pending.{alternatePortPrioritySelect, pendingOf, nothingPending}
 use Rattle.parts.specs.Tests.{transferring}
 use Rattle.parts.specs.declared.setup.Setup.{Setup}
@@ -21,6 +22,8 @@ use Rattle.events.specs.State.{stateWords}
 use Rattle.events.specs.Power.{PoweredUpOnWords}
 use Rattle.events.specs.Event.{EventOnWords}
 use Rattle.events.specs.Run.{RunOnWords}
+use Rattle.events.specs.Stops.{Lending, PartCall}
+use Rattle.events.specs.declared.part.Part.the-variants.{Ran}
 
 -- A sector's words: header, field 1 and field 2 of the bench drive.
 abbrev pub sector : ℕ → ℕ → ℕ → ℕ → List ℕ
@@ -76,6 +79,21 @@ Unanswered state e r = EventOnWords state e (disk zeros) zeros [] r state (disk 
 -- The records, and room for so many answers; the number, and the state's and the answers' words after a run from rest.
 abbrev Runs : List ℕ → ℕ → ℕ → List ℕ → List ℕ → Type 0
 Runs records count r state out = RunOnWords (stateWords (atRest bench)) records (disk zeros) zeros (replicate (13 * count) 0) r state (disk zeros) zeros out
+
+-- A selection at a tick.
+abbrev pub selectionAt : ℕ → ℕ → List ℕ
+selectionAt tick port = octetsOf 2 tick ++ drop 2 (selection port)
+
+-- Both ports select at these ticks: port 1 is refused.
+abbrev pub bothSelect : ℕ → ℕ → List ℕ
+bothSelect first second = selectionAt first 0 ++ selectionAt second 1
+
+-- What a part is lent: the words of a drive, and room for two answers and their gaps, with these words in it.
+abbrev pub lentWith : List ℕ → List ℕ → List ℕ → Lending
+lentWith state answers gaps = record { state = state; sectors = disk zeros; staging = zeros; answers = answers; gaps = gaps }
+
+abbrev pub lentAtRest : Lending
+lentAtRest = lentWith (stateWords (atRest bench)) (replicate 26 0) (replicate 2 0)
 
 pub record WrongAnswers : Type 0 where
   -- ---- `handle`
@@ -145,3 +163,17 @@ pub record WrongAnswers : Type 0 where
   -- Answers twelve words apart.
   pub answersTwelveApart : Runs (selection 0 ++ selection 1) 2
       0 (stateWords (selectedBy 0 None)) (take 12 (answerWords Done) ++ answerWords (Refused 6) ++ (0 ∷ [])) → ⊥
+  -- ---- `replay_part`
+  -- A count that leaves refused events out, whatever is told of them.
+  pub refusedNotCounted : (left : Lending) → PartCall lentAtRest (bothSelect 0 0) 0 2 (Ran 1) left → ⊥
+  -- A limit taken as one more.
+  pub oneMoreThanTheLimit : (left : Lending) → PartCall lentAtRest (bothSelect 0 0) 0 1 (Ran 2) left → ⊥
+  -- A part that begins one record late: port 1 is granted the drive.
+  pub oneRecordLate : PartCall lentAtRest (bothSelect 0 0) 0 1 (Ran 1) (lentWith (stateWords (selectedBy 1 None)) (answerWords Done ++ replicate 13 0) (0 ∷ 0 ∷ [])) → ⊥
+  -- A gap of the wrong neighbour: each record has the gap to the one behind it.
+  pub gapToTheNext : PartCall lentAtRest (bothSelect 5 9) 0 2 (Ran 2) (lentWith (stateWords (selectedBy 0 None)) (answerWords Done ++ answerWords (Refused 6)) (4 ∷ 0 ∷ [])) → ⊥
+  -- The first gap of a part is 0, though the record before it was run by an earlier call.
+  pub gapForgotten : PartCall (lentWith (stateWords (selectedBy 0 None)) (replicate 26 0) (replicate 2 0)) (bothSelect 5 9) 1 1
+      (Ran 1) (lentWith (stateWords (selectedBy 0 None)) (answerWords (Refused 6) ++ replicate 13 0) (0 ∷ 0 ∷ [])) → ⊥
+  -- A gap that stops at zero where the ticks went round: from FFFF to 1 it is 2.
+  pub gapNotRound : PartCall lentAtRest (bothSelect 0xFFFF 1) 0 2 (Ran 2) (lentWith (stateWords (selectedBy 0 None)) (answerWords Done ++ answerWords (Refused 6)) (0 ∷ 0 ∷ [])) → ⊥
