@@ -15,7 +15,7 @@ use Rattle.drive.specs.declared.drive.Drive.{Drive}
 use Rattle.drive.specs.declared.answer.Answer.{Answer}
 use Rattle.drive.specs.declared.answer.Outcome.{Outcome}
 use Rattle.drive.proofs.Calls.{demand-3-of-calls}
-use Rattle.drive.proofs.Turns.{events-step}
+use Rattle.drive.proofs.Turns.{events-step, event-count}
 use Rattle.bench.specs.Text.{field, numberedLine}
 use Rattle.bench.specs.Line.{statusText, lineOf, ownerLine}
 use Rattle.drive.specs.Batch.{eventOf, eventsIn, eventsOf}
@@ -68,11 +68,6 @@ module _ (records : List ℕ) (count : ℕ) where
 pub left-all : (records : List ℕ) (m : Machine) → linesOfRun 1 m (eventsOf records) ≡ left records (length records / 8) 0 m
 left-all records m = let all : length records / 8 - 0 ≡ length records / 8 = omega arith in rw all
 
-length-events : (count : ℕ) (records : List ℕ) → length (eventsIn count records) ≡ count
-unfolding eventsIn
-length-events zero records = refl
-length-events (suc count) records = ap suc (length-events count (drop 8 records))
-
 pub run-report : (records : List ℕ) → runReport records ≡ numberedLine eventsWord (length records / 8) ++ linesOfRun 1 benchAtRest (eventsOf records)
 unfolding runReport
-run-report records = rw (length-events (length records / 8) records)
+run-report records = rw (event-count (length records / 8) records)

@@ -7,7 +7,7 @@ use mathlib.Core.List.{List, [], _∷_, _++_}
 use native.Mathlib.Omega.{arith}
 use borrow.Author.Tests.{not-false, le-ltb, ltb-false}
 use lib.Dec.{ltb}
-use lib.ListN.{length, take, drop, replicate, length-append, take-append-drop}
+use lib.ListN.{length, take, drop, getD, replicate, length-append, take-append-drop}
 use Rattle.laws.specs.Pick.{pick}
 use Rattle.laws.specs.Rows.{unlessRefused}
 use Rattle.laws.specs.Lists.{writtenOver}
@@ -21,7 +21,7 @@ use Rattle.drive.specs.Power.{atRest}
 use Rattle.drive.specs.Run.{Machine, machine, answerTo, after, answers, final}
 use Rattle.drive.specs.Accepted.{accepted}
 use Rattle.drive.specs.AnswerWords.{answerWords, wordsOfAnswers, answerIn, answersIn}
-use Rattle.drive.specs.Batch.{eventsIn, eventsOf, recordCount}
+use Rattle.drive.specs.Batch.{eventsOf, recordCount}
 use Rattle.drive.specs.StaysSound.{IsSound}
 use Rattle.drive.specs.Bounded.{PendingOctets}
 use Rattle.drive.specs.Demand3.{MeetsDemand3}
@@ -31,16 +31,18 @@ use Rattle.drive.proofs.Sound.{sound}
 use Rattle.drive.proofs.StaysSound.{stays-sound}
 use Rattle.drive.proofs.Along.{final-goes-on, answers-go-on, sound-along}
 use Rattle.drive.proofs.Bounded.{answers-bounded, octets-along}
+use Rattle.drive.proofs.Turns.{event-count, answer-count}
 use Rattle.drive.proofs.StruckOut.{struck-out}
 use Rattle.drive.proofs.Demand3.{demand-3}
 use Rattle.events.specs.Power.{powerUpRows}
 use Rattle.events.specs.State.{driveIn, movingWords, stateWords, stateAfter}
 use Rattle.events.specs.Event.{eventRefusal}
+use Rattle.events.specs.Part.{partOf}
 use Rattle.events.proofs.Goes.{unmoved, goes-along}
 use Rattle.events.proofs.Back.{read-again}
 use Rattle.events.proofs.Promises.{as-the-drive, refused-answer}
 use Rattle.pantoglide.specs.Singles.{Words, words, toldBy}
-use Rattle.pantoglide.specs.Demand3.{machineOf, frontOf, putBack, EventCall, RunCall, Calls, none, event, run, eventTurnedAway, runTurnedAway, PowerUp, Ran, Sent, Demand3OfTheBoard}
+use Rattle.pantoglide.specs.Demand3.{machineOf, frontOf, putBack, EventCall, RunCall, ReplayCall, Calls, none, event, run, replay, eventTurnedAway, runTurnedAway, replayTurnedAway, PowerUp, Ran, Sent, Demand3OfTheBoard}
 use Rattle.pantoglide.proofs.Singles.{going}
 
 -- the words of a drive that is up: rows 11 and 10 let it pass, and what is pending is octets
@@ -113,32 +115,33 @@ event-did {w} {w′} {e} {answer} {answer′} {r} u call taken =
       answered = ap (λ (a : Answer). a ∷ []) (told-as (m .drive .setup) (answerTo m e) r answer′ back number (g .told));
     }
 
--- ---- a run
+-- ---- a run, and a replay of a part
 
-event-count : (count : ℕ) (octets : List ℕ) → length (eventsIn count octets) ≡ count
-unfolding eventsIn
-event-count zero octets = refl
-event-count (suc count) octets = ap suc (event-count count (drop 8 octets))
-
-answer-count : (m : Machine) (events : List Event) → length (answers m events) ≡ length events
-unfolding answers
-answer-count m [] = refl
-answer-count m (e ∷ events) = ap suc (answer-count (after m e) events)
+-- a call that ran these events, and told so many answers
+batch-did : {w w′ : Words} (events : List Event) (n : ℕ) (out : List ℕ) {out′ : List ℕ} → Up w → n ≡ length events
+    → w′ .state ≡ stateAfter (w .state) (final (machineOf w) events .drive) → w′ .sectors ≡ final (machineOf w) events .sectors
+    → w′ .staging ≡ final (machineOf w) events .staging → out′ ≡ writtenOver out (wordsOfAnswers (answers (machineOf w) events))
+    → Did w events (answersIn n out′) w′
+batch-did {w} {w′} events n out u size state sectors staging told =
+    let m = machineOf w in
+    let words = wordsOfAnswers (answers m events) in
+    let g = goes-along (w .state) (w .sectors) (w .staging) events (u .long) in
+    let back = answers-bounded .all-told-back (m .drive .setup) (answers m events) (drop (length words) out) (limits-of w u) (answers-bounded .run m events (u .octets)) in
+    record {
+      long = subst (λ (l : List ℕ). 21 ≤ length l) (sym state) (g .long);
+      machine = λ i. machine ((ap driveIn state ∙ g .drive) i) (sectors i) (staging i);
+      state = λ d. ap (λ (l : List ℕ). stateAfter l d) state ∙ g .again d;
+      answered = ap (answersIn n) told ∙ subst (λ (k : ℕ). answersIn k (writtenOver out words) ≡ answers m events) (answer-count m events ∙ sym size) back;
+    }
 
 run-did : {w w′ : Words} {records out out′ : List ℕ} → Up w → RunCall w records out 0 w′ out′ → Did w (eventsOf records) (answersIn (recordCount records) out′) w′
-run-did {w} {w′} {records} {out} {out′} u call =
-    let m = machineOf w in
-    let events = eventsOf records in
-    let told = answers m events in
-    let g = goes-along (w .state) (w .sectors) (w .staging) events (u .long) in
-    let count = answer-count m events ∙ event-count (recordCount records) records in
-    let back = answers-bounded .all-told-back (m .drive .setup) told (drop (length (wordsOfAnswers told)) out) (limits-of w u) (answers-bounded .run m events (u .octets)) in
-    record {
-      long = subst (λ (l : List ℕ). 21 ≤ length l) (sym (call .state)) (g .long);
-      machine = λ i. machine ((ap driveIn (call .state) ∙ g .drive) i) (call .sectors i) (call .staging i);
-      state = λ d. ap (λ (l : List ℕ). stateAfter l d) (call .state) ∙ g .again d;
-      answered = ap (answersIn (recordCount records)) (call .out) ∙ subst (λ (n : ℕ). answersIn n (wordsOfAnswers told ++ drop (length (wordsOfAnswers told)) out) ≡ told) count back;
-    }
+run-did {records = records} {out} u call =
+    batch-did (eventsOf records) (recordCount records) out u (sym (event-count (recordCount records) records)) (call .state) (call .sectors) (call .staging) (call .out)
+
+replay-did : {w w′ : Words} {records : List ℕ} {from limit : ℕ} {out gaps ran out′ gaps′ ran′ : List ℕ} → Up w → ReplayCall w records from limit out gaps ran 0 w′ out′ gaps′ ran′
+    → Did w (partOf records from limit) (answersIn (getD ran′ 0 0) out′) w′
+replay-did {records = records} {from} {limit} {out} u call =
+    batch-did (partOf records from limit) _ out u (ap (λ (l : List ℕ). getD l 0 0) (call .ran)) (call .state) (call .sectors) (call .staging) (call .answers)
 
 -- ---- calls that are turned away leave all words
 
@@ -154,6 +157,11 @@ run-away : {w front′ : Words} {records out out′ : List ℕ} (i j k r : ℕ) 
 run-away i j k zero call refused = absurd (refused refl)
 run-away {w} {front′} i j k (suc n) call refused = put-back i j k w front′ (λ t. words (call .state t) (call .sectors t) (call .staging t))
 
+replay-away : {w front′ : Words} {records : List ℕ} {from limit : ℕ} {out gaps ran out′ gaps′ ran′ : List ℕ} (i j k r : ℕ)
+    → ReplayCall (frontOf i j k w) records from limit out gaps ran r front′ out′ gaps′ ran′ → (r ≡ 0 → ⊥) → putBack i j k w front′ ≡ w
+replay-away i j k zero call refused = absurd (refused refl)
+replay-away {w} {front′} i j k (suc n) call refused = put-back i j k w front′ (λ t. words (call .state t) (call .sectors t) (call .staging t))
+
 -- ---- calls one after another
 
 ran : {w end : Words} {events : List Event} {told : List Answer} → Up w → Calls w events told end → Ran w events told end
@@ -161,11 +169,15 @@ unfolding answers final
 ran {w} u none = record { answered = refl; ended = refl; state = sym (unmoved (w .state) (u .long)) }
 ran u (event call taken more) = let d = event-did u call taken in then-on d (ran (still-up u d) more)
 ran u (run call more) = let d = run-did u call in then-on d (ran (still-up u d) more)
+ran u (replay call more) = let d = replay-did u call in then-on d (ran (still-up u d) more)
 ran {end = end} {events} {told} u (eventTurnedAway i j k call more) =
     let same = event-away i j k call in
     subst (λ (x : Words). Ran x events told end) same (ran (subst Up (sym same) u) more)
 ran {end = end} {events} {told} u (runTurnedAway {r = r} i j k call refused more) =
     let same = run-away i j k r call refused in
+    subst (λ (x : Words). Ran x events told end) same (ran (subst Up (sym same) u) more)
+ran {end = end} {events} {told} u (replayTurnedAway {r = r} i j k call refused more) =
+    let same = replay-away i j k r call refused in
     subst (λ (x : Words). Ran x events told end) same (ran (subst Up (sym same) u) more)
 
 -- every event can be sent

@@ -1,5 +1,5 @@
--- Each refusal of `pg_line`, of the calls for captures and of those for the defect map is given exactly when its row holds and no row tested earlier
--- does.
+-- Each refusal of `pg_replay`, of `pg_line`, of the calls for captures and of those for the defect map is given exactly when its row holds and no row
+-- tested earlier does.
 -- Assumes nothing.
 use Prim.Native.Nat.{ℕ, zero, suc, _≤_}
 use mathlib.Core.Path.{_≡_, refl, sym, _∙_}
@@ -14,6 +14,7 @@ use Rattle.laws.specs.Pick.{pick}
 use Rattle.laws.specs.Rows.{unlessRefused}
 use Rattle.laws.proofs.Rows.{first-is-exact, first-up-to, rows-rest}
 use Rattle.lines.specs.Follower.{stepOf}
+use Rattle.pantoglide.specs.Replay.{replayRows}
 use Rattle.pantoglide.specs.Line.{followerIn, lineNumber, lineRows, lineRefusal, LineFollowed, refusalIn}
 use Rattle.capture.specs.Capture.{captureRows}
 use Rattle.capture.specs.Encoding.{encodeRows}
@@ -70,6 +71,8 @@ offence-is-exact tests offset₀ r offset₁ e f n offset =
 pub exactly-when : Exactly
 exactly-when =
     record {
+      pg-replay-exactly = λ {state} {records} {from} {limit} {answers = answers} {gaps} {ran} w n.
+          rw (w .refusal) (first-is-exact n (replayRows state records from limit answers gaps ran));
       pg-line-exactly = λ {follower} {setting} w n. rw (line-refusal w) (first-is-exact n (lineRows follower setting));
       pg-capture-exactly = λ {octets} w n. rw (w .refusal) (first-is-exact n (captureRows octets));
       pg-make-capture-exactly = λ {notes} {records} {out₀} w n. rw (w .refusal) (first-is-exact n (encodeRows notes records out₀));

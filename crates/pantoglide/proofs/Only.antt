@@ -9,6 +9,23 @@ use Rattle.pantoglide.specs.Capture.{CaptureFound, CaptureMade}
 use Rattle.parts.specs.declared.setup.Setup.{Setup}
 use Rattle.pantoglide.specs.Defects.{DefectTold, DefectMade, PlaceTold, MapTold, MapMade, MapReadOff, MapPut}
 use Rattle.pantoglide.specs.Line.{LineFollowed}
+use Rattle.pantoglide.specs.Replay.{ReplayOnWords}
+
+pub pg-replay-only : {state records : List ℕ} {from limit : ℕ} {sectors staging answers gaps ran : List ℕ} {r r′ : ℕ}
+    {state′ sectors′ staging′ answers′ gaps′ ran′ state″ sectors″ staging″ answers″ gaps″ ran″ : List ℕ}
+    → ReplayOnWords state records from limit sectors staging answers gaps ran r state′ sectors′ staging′ answers′ gaps′ ran′
+    → ReplayOnWords state records from limit sectors staging answers gaps ran r′ state″ sectors″ staging″ answers″ gaps″ ran″
+    → (r ≡ r′) × (state′ ≡ state″) × (sectors′ ≡ sectors″) × (staging′ ≡ staging″) × (answers′ ≡ answers″) × (gaps′ ≡ gaps″) × (ran′ ≡ ran″)
+pg-replay-only h k =
+    let e = answer-only (h .refusal) (k .refusal) in (
+      e,
+      answer-only (rw e at (h .state)) (k .state),
+      answer-only (rw e at (h .sectors)) (k .sectors),
+      answer-only (rw e at (h .staging)) (k .staging),
+      answer-only (rw e at (h .answers)) (k .answers),
+      answer-only (rw e at (h .gaps)) (k .gaps),
+      answer-only (rw e at (h .ran)) (k .ran),
+    )
 
 pub pg-line-only : {follower : List ℕ} {setting r r′ : ℕ} {follower′ follower″ : List ℕ} → LineFollowed follower setting r follower′
     → LineFollowed follower setting r′ follower″ → (r ≡ r′) × (follower′ ≡ follower″)

@@ -1,4 +1,4 @@
--- "Each number is given when its row holds and no row tested earlier does": of `pg_line`, of the calls for captures and of those for the defect map.
+-- "Each number is given when its row holds and no row tested earlier does": of `pg_replay`, `pg_line`, the calls for captures and those for the defect map.
 -- The other calls promise what those of `events` do, and so refuse as these.
 use Prim.Native.Nat.{ℕ, suc}
 use mathlib.Core.List.{List}
@@ -17,10 +17,15 @@ use Rattle.defects.specs.Sectors.{readTests, writeRows}
 use Rattle.defects.specs.Exactly.{GivenAt}
 use Rattle.pantoglide.specs.Capture.{CaptureFound, CaptureMade}
 use Rattle.pantoglide.specs.Defects.{DefectTold, DefectMade, PlaceTold, MapTold, MapMade, MapReadOff, MapPut}
+use Rattle.pantoglide.specs.Replay.{replayRows, ReplayOnWords}
 use Rattle.pantoglide.specs.Line.{lineRows, LineFollowed, refusalIn}
 
 -- Whatever meets the promise refuses with number n if and only if row n holds and no row tested earlier does.
 pub record Exactly : Type 0 where
+  -- The rows of the call itself, as those of `run_records`.
+  pub pg-replay-exactly : {state records : List ℕ} {from limit : ℕ} {sectors staging answers gaps ran : List ℕ} {r : ℕ} {state′ sectors′ staging′ answers′ gaps′ ran′ : List ℕ}
+      → ReplayOnWords state records from limit sectors staging answers gaps ran r state′ sectors′ staging′ answers′ gaps′ ran′
+      → (n : ℕ) → r ≡ suc n ↔ Given (suc n) (replayRows state records from limit answers gaps ran)
   pub pg-line-exactly : {follower : List ℕ} {setting r : ℕ} {follower′ : List ℕ} → LineFollowed follower setting r follower′
       → (n : ℕ) → refusalIn r ≡ suc n ↔ Given (suc n) (lineRows follower setting)
   pub pg-capture-exactly : {octets : List ℕ} {first₀ count₀ r first₁ count₁ : ℕ} → CaptureFound octets first₀ count₀ r first₁ count₁

@@ -26,6 +26,7 @@ use Rattle.defects.specs.WrongAnswers.{lent, itsOctets, crcOfOneLess, blank, on
 use Rattle.pantoglide.specs.Capture.{CaptureFound, CaptureMade}
 use Rattle.pantoglide.specs.Defects.{DefectTold, DefectMade, PlaceTold, MapTold, MapMade, MapReadOff, MapPut}
 use Rattle.pantoglide.specs.Line.{LineFollowed}
+use Rattle.pantoglide.specs.Replay.{ReplayOnWords}
 
 -- The words of the bench drive at rest.
 abbrev rest : List ℕ
@@ -59,6 +60,16 @@ pub record WrongAnswers : Type 0 where
   -- Reserved and deselected, the drive is free.
   pub reservationForgotten : RunOnWords rest reservation (disk zeros) zeros (replicate 52 0)
       0 rest (disk zeros) zeros (answerWords Done ++ answerWords (Opened 1 (atPlace 0 0 0)) ++ answerWords (Status 0) ++ answerWords Done) → ⊥
+  -- ---- `pg_replay`
+  -- `from` and `limit` changed over: nothing is run.
+  pub limitForFrom : ReplayOnWords rest (selection 0 ++ selection 1) 0 1 (disk zeros) zeros (replicate 13 0) (0 ∷ []) (7 ∷ [])
+      0 rest (disk zeros) zeros (replicate 13 0) (0 ∷ []) (0 ∷ []) → ⊥
+  -- How many were run is not told.
+  pub numberForgotten : (state answers gaps : List ℕ) → ReplayOnWords rest (selection 0) 0 1 (disk zeros) zeros (replicate 13 0) (0 ∷ []) (7 ∷ [])
+      0 state (disk zeros) zeros answers gaps (7 ∷ []) → ⊥
+  -- A call without room for the number is taken.
+  pub takenWithoutTheNumber : (state answers gaps : List ℕ) → ReplayOnWords rest (selection 0) 0 1 (disk zeros) zeros (replicate 13 0) (0 ∷ []) []
+      0 state (disk zeros) zeros answers gaps [] → ⊥
   -- ---- `pg_line`
   -- 18, the drive's, for the controller's move from IDLE to SELECT.
   pub drivesForControllers : LineFollowed (0 ∷ []) 16 18 (0x30 ∷ []) → ⊥
