@@ -100,8 +100,10 @@ fn tick_at(records: &[u8], index: usize) -> u16
     word(records[at], records[at + 1])
 }
 
+// The octets are put together as they lie in memory, which is one load, and changed over then: so the compiler makes eight gaps at a time.
 fn word(high: u8, low: u8) -> u16
     ensures { λ r. ⌜ r ≡ high * 256 + low ⌝ }
 {
-    high as u16 * 256 + low as u16
+    let changed_over = low as u16 * 256 + high as u16;
+    changed_over / 256 + changed_over % 256 * 256
 }
