@@ -2,7 +2,7 @@
 -- Assumes nothing.
 use Prim.Native.Nat.{ℕ, zero, suc, _+_, _*_, _-_, _/_, _<_}
 use mathlib.Core.Path.{_≡_, refl, ap}
-use mathlib.Core.List.{List, _∷_, _++_, append-assoc}
+use mathlib.Core.List.{List, [], _∷_, _++_, append-assoc}
 use mathlib.Core.Option.{Option, some, none as nothing}
 use native.Mathlib.Omega.{arith}
 use lib.ListN.{length, drop, length-append}
@@ -16,14 +16,22 @@ use Rattle.drive.specs.declared.answer.Answer.{Answer}
 use Rattle.drive.specs.declared.answer.Outcome.{Outcome}
 use Rattle.drive.proofs.Calls.{demand-3-of-calls}
 use Rattle.drive.proofs.Turns.{events-step, event-count}
-use Rattle.bench.specs.Text.{field, numberedLine}
-use Rattle.bench.specs.Line.{statusText, lineOf, ownerLine}
+use Rattle.bench.specs.Text.{newline, field, numberedLine}
+use Rattle.bench.specs.Line.{statusText, eventFields, eventText, lineOf, ownerLine}
 use Rattle.drive.specs.Batch.{eventOf, eventsIn, eventsOf}
 use Rattle.bench.specs.Run.{benchAtRest, eventsWord, linesFrom, linesOfRun, runReport}
 
 pub status-size : (status : Option ℕ) → length (statusText status) ≡ 2
 status-size (some status) = refl
 status-size nothing = refl
+
+pub fields-size : (number port refusal : ℕ) (status : List ℕ)
+    → length (eventFields number port refusal status) ≡ length (field number) + length (field port) + length (field refusal) + length status
+fields-size number port refusal status = simp length-append (omega arith)
+
+pub line-end : (number port : ℕ) (answer : Answer) → length (lineOf number port answer) ≡ length (eventText number port answer) + 1
+unfolding lineOf
+line-end number port answer = length-append (eventText number port answer) (newline ∷ [])
 
 pub line-size : (number port : ℕ) (answer : Answer)
     → length (lineOf number port answer) ≡ length (field number) + length (field port) + length (field (refusalIn answer)) + 2 + 1

@@ -6,16 +6,32 @@ use lib.Dec.{eqb}
 use Rattle.laws.specs.Pick.{pick}
 use Rattle.drive.specs.Answer.{refusalIn, paper}
 use Rattle.drive.specs.declared.answer.Answer.{Answer}
-use Rattle.bench.specs.Text.{digit, newline, field, twoHexDigits}
+use Rattle.bench.specs.Text.{digit, space, newline, decimal, field, twoHexDigits}
+
+-- "`--`"
+abbrev pub noStatus : List ℕ
+noStatus = 0x2D ∷ 0x2D ∷ []
 
 -- "status in two hex digits or `--` where the answer has none"
 abbrev pub statusText : Option ℕ → List ℕ
 statusText (some status) = twoHexDigits status
-statusText none = 0x2D ∷ 0x2D ∷ []
+statusText none = noStatus
 
--- "a line each: event, port, refusal, status". The refusal is 0 where there is none.
+-- "event, port, refusal, status"
+abbrev pub eventFields : ℕ → ℕ → ℕ → List ℕ → List ℕ
+eventFields number port refusal status = field number ++ field port ++ field refusal ++ status
+
+-- The refusal is 0 where there is none.
+abbrev pub eventText : ℕ → ℕ → Answer → List ℕ
+eventText number port answer = eventFields number port (refusalIn answer) (statusText (paper answer .status))
+
+-- "a line each"
 unfoldable pub lineOf : ℕ → ℕ → Answer → List ℕ
-lineOf number port answer = field number ++ field port ++ field (refusalIn answer) ++ statusText (paper answer .status) ++ (newline ∷ [])
+lineOf number port answer = eventText number port answer ++ (newline ∷ [])
+
+-- M-103: the same and the gap, "the ticks between neighbours", in decimal.
+unfoldable pub gapLineOf : ℕ → ℕ → Answer → ℕ → List ℕ
+gapLineOf number port answer gap = eventText number port answer ++ (space ∷ []) ++ decimal gap ++ (newline ∷ [])
 
 -- "owner "
 abbrev pub ownerWord : List ℕ

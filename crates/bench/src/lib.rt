@@ -1,5 +1,6 @@
 // The bench: a capture replayed on the bench drive, and the text of its report.
 mod line;
+mod part;
 mod report;
 mod run;
 mod text;

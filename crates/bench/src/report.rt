@@ -40,7 +40,7 @@ fn put_report(text: &mut [u8], octets: &[u8]) -> usize
         return text::put(text, 0, b"too long\n");
     }
     match capture::decode_capture(octets) {
-        CaptureRead::Refused(n) => text::put_numbered(text, b"refused ", n as usize),
+        CaptureRead::Refused(n) => text::put_numbered(text, 0, b"refused ", n as usize),
         CaptureRead::Capture { first: _, count: _ } => run::put_run(text, capture::records(octets)),
     }
 }

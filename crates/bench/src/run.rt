@@ -13,21 +13,21 @@ ghost use Rattle.bench.specs.Text.{Put};
 ghost use Rattle.drive.specs.Batch.{eventOf, eventsOf};
 ghost use Rattle.bench.specs.Run.{linesOfRun, runReport};
 
-const CYLINDERS: u16 = 2;
+pub(crate) const CYLINDERS: u16 = 2;
 
-const HEADS: u16 = 2;
+pub(crate) const HEADS: u16 = 2;
 
-const SECTORS: u16 = 3;
+pub(crate) const SECTORS: u16 = 3;
 
-const HEADER: u16 = 1;
+pub(crate) const HEADER: u16 = 1;
 
-const FIELD1: u16 = 2;
+pub(crate) const FIELD1: u16 = 2;
 
-const FIELD2: u16 = 1;
+pub(crate) const FIELD2: u16 = 1;
 
-const ADDRESS: u16 = 3;
+pub(crate) const ADDRESS: u16 = 3;
 
-const RECORD_LENGTH: usize = 8;
+pub(crate) const RECORD_LENGTH: usize = 8;
 
 // The number of events, a line for each, and the owner after the last.
 pub(crate) fn put_run(text: &mut [u8], records: &[u8]) -> usize
@@ -36,7 +36,7 @@ pub(crate) fn put_run(text: &mut [u8], records: &[u8]) -> usize
 {
     let mut sectors = [0u16; 48];
     let mut staging = [0u16; 4];
-    let at = text::put_numbered(text, b"events ", records.len() / RECORD_LENGTH);
+    let at = text::put_numbered(text, 0, b"events ", records.len() / RECORD_LENGTH);
     let powered = drive::power_up(
         CYLINDERS,
         HEADS,

@@ -5,7 +5,7 @@ ghost use mathlib.Core.Path.{_≡_};
 ghost use lib.ListN.{length};
 ghost use Rattle.bench.specs.Text.{digit, decimal, field, numberedLine, hexDigit, Put};
 
-const SPACE: u8 = b' ';
+pub(crate) const SPACE: u8 = b' ';
 
 pub(crate) const NEWLINE: u8 = b'\n';
 
@@ -55,13 +55,13 @@ pub(crate) fn put_field(text: &mut [u8], at: usize, n: usize) -> usize
     put_octet(text, end, SPACE)
 }
 
-// A line of its own, at the front of the slice: a word and a number.
-pub(crate) fn put_numbered(text: &mut [u8], word: &[u8], n: usize) -> usize
-    requires { ⌜ length (numberedLine (now word) n) ≤ length (now text) ⌝ }
-    ensures { λ r. ⌜ Put (now (text .entry)) 0 (numberedLine (now (word .entry)) n) (now (text .exit)) r ⌝ }
+// A line of its own: a word and a number.
+pub(crate) fn put_numbered(text: &mut [u8], at: usize, word: &[u8], n: usize) -> usize
+    requires { ⌜ at + length (numberedLine (now word) n) ≤ length (now text) ⌝ }
+    ensures { λ r. ⌜ Put (now (text .entry)) at (numberedLine (now (word .entry)) n) (now (text .exit)) r ⌝ }
 {
-    let at = put(text, 0, word);
-    let end = put_decimal(text, at, n);
+    let number_at = put(text, at, word);
+    let end = put_decimal(text, number_at, n);
     put_octet(text, end, NEWLINE)
 }
 

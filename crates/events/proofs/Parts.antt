@@ -45,6 +45,12 @@ tick-read records i h =
     let next : suc (8 * i) ≡ 8 * i + 1 = omega arith in
     rw (run-read records (8 * i) 2 (omega arith), next) (omega arith)
 
+-- the middle of a pair of octets written twice
+pub changed-over : (high low : ℕ) → high < 2 ^ 8 → low < 2 ^ 8 → ((low * 256 + high) * 65536 + (low * 256 + high)) / 256 % 65536 ≡ high * 256 + low
+changed-over high low h k =
+    let by-256 : ((low * 256 + high) * 65536 + (low * 256 + high)) / 256 ≡ low * 65536 + (high * 256 + low) = omega arith in
+    rw by-256 (omega arith)
+
 -- the difference that goes round
 pub gone-round : (earlier later r : ℕ) → earlier < 65536 → r < 65536 → (r + earlier) % 2 ^ 16 ≡ later → r ≡ gap earlier later
 unfolding gap

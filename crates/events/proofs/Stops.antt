@@ -3,7 +3,7 @@
 use Prim.Native.Nat.{ℕ, _+_, _-_, _*_, _%_, _<_, _≤_, min}
 use mathlib.Core.Path.{_≡_, refl, sym, ap, ap₂, _∙_}
 use mathlib.Core.List.{List, [], _∷_, _++_, append-assoc}
-use native.Mathlib.Nat.{min-le-left, min-eq-right}
+use native.Mathlib.Nat.{min-le-left, min-le-right}
 use native.Mathlib.Omega.{arith}
 use borrow.Author.Tests.{le-ltb, ltb-false, eq-eqb, eqb-true, not-false}
 use lib.ListN.{length, take, drop, length-append, length-take, length-drop, take-append-drop}
@@ -23,8 +23,9 @@ use Rattle.drive.proofs.Turns.{thirteen, answer-count, event-count}
 use Rattle.events.specs.State.{driveIn, stateAfter}
 use Rattle.events.specs.Event.{machineIn}
 use Rattle.events.specs.Run.{runRows, RunOnWords}
-use Rattle.events.specs.Part.{part, partOf, gap, gapAt, gapsOf, partRows, PartOnWords}
+use Rattle.events.specs.Part.{part, partOf, gap, gapAt, gapsOf, partRows, partRefusal}
 use Rattle.events.specs.Stops.{Lending, PartCall, SameDrive, Counts, Joined, Difference, StopsOnRequest}
+use Rattle.events.specs.declared.part.Part.{Part}
 use Rattle.events.specs.declared.part.Part.the-variants.{Ran, Refused}
 use Rattle.events.proofs.Goes.{unmoved, goes-along}
 use Rattle.events.proofs.Parts.{part-count, part-gaps, gone-round}
@@ -58,22 +59,22 @@ words-count (answer ∷ told) = rw (length-append (answerWords answer) (wordsOfA
 
 -- ---- a call that was not refused
 
-abbrev machineOf : Lending → Machine
+abbrev pub machineOf : Lending → Machine
 machineOf w = machineIn (w .state) (w .sectors) (w .staging)
 
 -- what it ran, and what it left
-record Went (w : Lending) (records : List ℕ) (from limit n : ℕ) (w′ : Lending) : Type 0 where
-  long : 21 ≤ length (w .state)
-  whole : length records % 8 ≡ 0
-  room : 13 * n ≤ length (w .answers)
-  count : n ≡ length (partOf records from limit)
-  told : take (13 * n) (w′ .answers) ≡ wordsOfAnswers (answers (machineOf w) (partOf records from limit))
-  gapped : take n (w′ .gaps) ≡ part from limit (gapsOf records)
+pub record Went (w : Lending) (records : List ℕ) (from limit n : ℕ) (w′ : Lending) : Type 0 where
+  pub long : 21 ≤ length (w .state)
+  pub whole : length records % 8 ≡ 0
+  pub room : 13 * n ≤ length (w .answers)
+  pub count : n ≡ length (partOf records from limit)
+  pub told : take (13 * n) (w′ .answers) ≡ wordsOfAnswers (answers (machineOf w) (partOf records from limit))
+  pub gapped : take n (w′ .gaps) ≡ part from limit (gapsOf records)
 
 gap-count : (records : List ℕ) (from limit : ℕ) → length (part from limit (gapsOf records)) ≡ length (partOf records from limit)
 gap-count records from limit = ap length (part-gaps records from limit) ∙ length-table (gapAt records) from _ ∙ sym (part-count records from limit)
 
-went : {w w′ : Lending} {records : List ℕ} {from limit n : ℕ} → PartCall w records from limit (Ran n) w′ → Went w records from limit n w′
+pub went : {w w′ : Lending} {records : List ℕ} {from limit n : ℕ} → PartCall w records from limit (Ran n) w′ → Went w records from limit n w′
 went {w} {records = records} {from} {limit} {n} call =
     let events = partOf records from limit in
     let rows = partRows (w .state) records from limit (w .answers) (w .gaps) in
@@ -109,12 +110,23 @@ counts {w} {records = records} {from} {limit} {n} call =
 
 -- ---- parts put end to end
 
--- the drive after a part stands in the words that it left
-record Stands (w : Lending) (events : List Event) (v : Lending) : Type 0 where
-  machine : machineOf v ≡ final (machineOf w) events
-  again : (d : Drive) → stateAfter (v .state) d ≡ stateAfter (w .state) d
+-- with room for all of the records it is not refused
+pub not-refused : {w w′ : Lending} {records : List ℕ} {from limit : ℕ} {r : Part} → 21 ≤ length (w .state) → 13 * recordCount records ≤ length (w .answers)
+    → recordCount records ≤ length (w .gaps) → length records % 8 ≡ 0 → PartCall w records from limit r w′ → r ≡ Ran (length (partOf records from limit))
+not-refused {w} {records = records} {from} {limit} long told gapped whole call =
+    let count = length (partOf records from limit) in
+    let few : count ≤ recordCount records = rw (part-count records from limit) (omega (arith, min-le-right limit (recordCount records - from))) in
+    let free : partRefusal (w .state) records from limit (w .answers) (w .gaps) ≡ 0 =
+    none-given (partRows (w .state) records from limit (w .answers) (w .gaps))
+    (le-ltb (length (w .state)) 21 long, (le-ltb (length (w .answers)) (13 * count) (omega (arith, few)), (le-ltb (length (w .gaps)) count (omega (arith, few)), (not-f _ (eq-eqb (length records % 8) 0 whole), tt)))) in
+    call .answer ∙ rw free
 
-stands : {u u′ v : Lending} {records : List ℕ} {from limit n : ℕ} → PartCall u records from limit (Ran n) u′ → SameDrive v u′ → Stands u (partOf records from limit) v
+-- the drive after a part stands in the words that it left
+pub record Stands (w : Lending) (events : List Event) (v : Lending) : Type 0 where
+  pub machine : machineOf v ≡ final (machineOf w) events
+  pub again : (d : Drive) → stateAfter (v .state) d ≡ stateAfter (w .state) d
+
+pub stands : {u u′ v : Lending} {records : List ℕ} {from limit n : ℕ} → PartCall u records from limit (Ran n) u′ → SameDrive v u′ → Stands u (partOf records from limit) v
 stands {u} {records = records} {from} {limit} call same =
     let events = partOf records from limit in
     let g = goes-along (u .state) (u .sectors) (u .staging) events (went call .long) in

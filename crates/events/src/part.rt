@@ -100,10 +100,12 @@ fn tick_at(records: &[u8], index: usize) -> u16
     word(records[at], records[at + 1])
 }
 
-// The octets are put together as they lie in memory, which is one load, and changed over then: so the compiler makes eight gaps at a time.
+// The octets as they lie in memory are one load, and the middle of that pair written twice is the pair changed over. Said so, the compiler makes
+// eight gaps at a time; said as `high * 256 + low` it loads each octet by itself, twice the instructions.
 fn word(high: u8, low: u8) -> u16
     ensures { λ r. ⌜ r ≡ high * 256 + low ⌝ }
 {
-    let changed_over = low as u16 * 256 + high as u16;
-    changed_over / 256 + changed_over % 256 * 256
+    let pair = low as u32 * 256 + high as u32;
+    let twice = pair * 65_536 + pair;
+    (twice / 256 % 65_536) as u16
 }

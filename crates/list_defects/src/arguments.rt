@@ -1,7 +1,5 @@
 // The set-up that the arguments give.
-use crate::number::MOST_DIGITS;
-use crate::number::Number;
-use crate::number::number_of;
+use numbers::Number;
 use parts::Setup;
 
 pub(crate) enum Arguments {
@@ -11,6 +9,9 @@ pub(crate) enum Arguments {
 
 // The program's name, and the four numbers.
 const ARGUMENT_COUNT: usize = 5;
+
+// No number of a word has more.
+const MOST_DIGITS: usize = 5;
 
 // A map has nothing to do with the header, field 2 and the drive's address: any within their limits do.
 pub(crate) fn read_arguments() -> Arguments {
@@ -32,12 +33,19 @@ pub(crate) fn read_arguments() -> Arguments {
     Arguments::Bad
 }
 
-// 0, which is outside the limits of each, where the argument is no number. One that is longer than its room is read as none.
+// 0, which is outside the limits of each, where the argument is no number or no word holds it. One that is longer than its room is read as none.
 fn argument(index: usize) -> u16 {
     let mut digits = [0u8; MOST_DIGITS];
     let length = os::arg(index, &mut digits);
-    match number_of(&digits[..length]) {
-        Number::Is(number) => number,
+    match numbers::number_of(&digits[..length]) {
+        Number::Is(number) => word_of(number),
         Number::Not => 0,
     }
+}
+
+fn word_of(number: u32) -> u16 {
+    if number <= u16::MAX as u32 {
+        return number as u16;
+    }
+    0
 }

@@ -6,7 +6,6 @@
 // or one line alone: `refused N at OFFSET`, `bad arguments`, or `too long`.
 mod arguments;
 mod listing;
-mod number;
 
 use arguments::Arguments;
 use arguments::read_arguments;

@@ -10,7 +10,7 @@ use borrow.Author.Needs.{needs}
 use Rattle.bench.proofs.text.put_numbered.Statement.{statement}
 use Rattle.bench.proofs.text.put_numbered.Tie as tie
 
-room : (c : tie.Start) → length (c .args .word .now) + length (decimal (c .args .n)) + 1 ≤ length (c .args .text .now)
+room : (c : tie.Start) → c .args .at + length (c .args .word .now) + length (decimal (c .args .n)) + 1 ≤ length (c .args .text .now)
 unfolding numberedLine
 room c =
     let word = c .args .word .now in

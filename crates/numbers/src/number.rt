@@ -1,17 +1,17 @@
-// A number as an argument spells it.
+// A number as decimal digits spell it.
 ghost use Prim.Native.Nat.{_-_, _≤_};
 ghost use mathlib.Core.Path.{_≡_};
-ghost use Rattle.list_defects.specs.Number.{isDigit, numberIn};
+ghost use Rattle.numbers.specs.Number.{isDigit, numberIn};
 
-pub(crate) enum Number {
-    Is(u16),
+pub enum Number {
+    Is(u32),
     Not,
 }
 
-pub(crate) const MOST_DIGITS: usize = 5;
+const MOST_DIGITS: usize = 10;
 
-// The number that one to five decimal digits spell, if a word holds it.
-pub(crate) fn number_of(digits: &[u8]) -> Number
+// The number that one to ten decimal digits spell, if 32 bits hold it. Anything else is none.
+pub fn number_of(digits: &[u8]) -> Number
     ensures { λ r. ⌜ r ≡ numberIn (now (digits .entry)) ⌝ }
 {
     if digits.len() == 0 {
@@ -20,7 +20,7 @@ pub(crate) fn number_of(digits: &[u8]) -> Number
     if MOST_DIGITS < digits.len() {
         return Number::Not;
     }
-    let mut number: u32 = 0;
+    let mut number: u64 = 0;
     let mut i = 0;
     while i < digits.len() {
         let digit = digits[i];
@@ -30,8 +30,8 @@ pub(crate) fn number_of(digits: &[u8]) -> Number
         number = number * 10 + value_of(digit);
         i += 1;
     }
-    if number <= u16::MAX as u32 {
-        return Number::Is(number as u16);
+    if number <= u32::MAX as u64 {
+        return Number::Is(number as u32);
     }
     Number::Not
 }
@@ -42,9 +42,9 @@ fn is_digit(octet: u8) -> bool
     (b'0' <= octet) & (octet <= b'9')
 }
 
-fn value_of(digit: u8) -> u32
+fn value_of(digit: u8) -> u64
     requires { ⌜ 48 ≤ digit ⌝ }
     ensures { λ r. ⌜ r ≡ digit - 48 ⌝ }
 {
-    (digit - b'0') as u32
+    (digit - b'0') as u64
 }

@@ -14,10 +14,10 @@ use lib.ListN.{length, drop, getD, drop-of-length-le}
 use lib.Seq.{drop-cons}
 use Rattle.laws.specs.Pick.{pick}
 use Rattle.laws.proofs.Tests.{and-l, and-r}
-use Rattle.list_defects.specs.Number.{isDigit, decimalAfter, numberIn}
-use Rattle.list_defects.specs.declared.number.Number.the-variants.{Is, Not}
-use Rattle.list_defects.proofs.number.number_of.Statement.{statement}
-use Rattle.list_defects.proofs.number.number_of.Tie as tie
+use Rattle.numbers.specs.Number.{isDigit, decimalAfter, numberIn}
+use Rattle.numbers.specs.declared.number.Number.the-variants.{Is, Not}
+use Rattle.numbers.proofs.number.number_of.Statement.{statement}
+use Rattle.numbers.proofs.number.number_of.Tie as tie
 
 digit-bounds : (octet : ℕ) → isDigit octet ≡ true → (48 ≤ octet) × (octet ≤ 57)
 digit-bounds octet d =
@@ -27,17 +27,17 @@ digit-bounds octet d =
 
 record Reading (digits : List ℕ) (number i : ℕ) : Type 0 where
   some : 1 ≤ length digits
-  few : length digits ≤ 5
+  few : length digits ≤ 10
   small : number < 10 ^ i
   left : decimalAfter number (drop i digits) ≡ decimalAfter 0 digits
 
 module _ {digits : List ℕ} {number i : ℕ} (here : Reading digits number i) where
   all-read : decimalAfter number (drop i digits) ≡ numberIn digits
-  unfolding pick
-  all-read = rw (le-leb 1 (length digits) (here .some), le-leb (length digits) 5 (here .few)) (here .left)
+  unfolding pick numberIn
+  all-read = rw (le-leb 1 (length digits) (here .some), le-leb (length digits) 10 (here .few)) (here .left)
 
   -- the digits are used up
-  ended : length digits ≤ i → pick (leb number 65535) (Is number) Not ≡ numberIn digits
+  ended : length digits ≤ i → pick (leb number 4294967295) (Is number) Not ≡ numberIn digits
   ended h = rw (drop-of-length-le digits h) at all-read
 
   module _ (more : i < length digits) where
@@ -45,11 +45,11 @@ module _ {digits : List ℕ} {number i : ℕ} (here : Reading digits number i) w
     unfolding pick
     stopped e = rw (drop-cons digits i 0 more, e) at all-read
 
-    -- a digit has its place among the five
-    fits : number * 10 ≤ 99990
+    -- a digit has its place among the ten
+    fits : number * 10 ≤ 9999999990
     fits =
-        let place : i ≤ 4 = omega (arith, here .few) in
-        let most : 10 ^ i ≤ 10000 = pow-le-pow-right (omega arith) place in
+        let place : i ≤ 9 = omega (arith, here .few) in
+        let most : 10 ^ i ≤ 1000000000 = pow-le-pow-right (omega arith) place in
         omega (arith, here .small)
 
     next : (value : ℕ) → value ≡ getD digits i 0 - 48 → isDigit (getD digits i 0) ≡ true → Reading digits (number * 10 + value) (i + 1)
@@ -70,15 +70,15 @@ abbrev μ-loop : tie.MeasureT-loop
 μ-loop digits number₀ i₀ number i = length digits - i
 
 returns : tie.Need-returns Inv-loop μ-loop
-unfolding pick
+unfolding pick numberIn
 returns c = rw (c .if1 .taken)
 
 returns-2 : tie.Need-returns-2 Inv-loop μ-loop
-unfolding pick
+unfolding pick numberIn
 returns-2 c =
-    let many : 5 < length (c .before .before .before .args .digits .now) = c .if2 .taken in
+    let many : 10 < length (c .before .before .before .args .digits .now) = c .if2 .taken in
     let one : 1 ≤ length (c .before .before .before .args .digits .now) = omega arith in
-    rw (le-leb 1 _ one, lt-leb _ 5 many)
+    rw (le-leb 1 _ one, lt-leb _ 10 many)
 
 loop-holds : tie.Need-loop-holds Inv-loop μ-loop
 loop-holds c = record { some = omega arith; few = omega arith; small = omega arith; left = refl }
@@ -131,11 +131,11 @@ cast-t15 c = search needs
 
 returns-4 : tie.Need-returns-4 Inv-loop μ-loop
 unfolding pick
-returns-4 c = rw (le-leb _ 65535 (c .if4 .taken)) at (ended (c .before .before .loop .inv) (omega arith))
+returns-4 c = rw (le-leb _ 4294967295 (c .if4 .taken)) at (ended (c .before .before .loop .inv) (omega arith))
 
 returns-5 : tie.Need-returns-5 Inv-loop μ-loop
 unfolding pick
-returns-5 c = rw (lt-leb _ 65535 (c .if4 .left)) at (ended (c .before .before .loop .inv) (omega arith))
+returns-5 c = rw (lt-leb _ 4294967295 (c .if4 .left)) at (ended (c .before .before .loop .inv) (omega arith))
 
 pub number-of-spec : {M : Type 1} → statement M
 number-of-spec =

@@ -1,0 +1,3 @@
+pub mod Only
+pub mod Cases
+pub mod WrongAnswers

@@ -1,0 +1,5 @@
+// Numbers as a program is told them, in decimal.
+mod number;
+
+pub use number::Number;
+pub use number::number_of;
