@@ -11,13 +11,14 @@
 #include "pantoglide.h"
 
 /* In place of each call of the archive one that returns at once and writes nothing. */
-__asm__(".text\nnothing_power_up:\nnothing_event:\nnothing_run:\nnothing_line:\n"
-        "nothing_capture:\nnothing_make_capture:\n"
+__asm__(".text\nnothing_power_up:\nnothing_event:\nnothing_run:\nnothing_replay:\n"
+        "nothing_line:\nnothing_capture:\nnothing_make_capture:\n"
         "nothing_decode_defect:\nnothing_encode_defect:\nnothing_map_place:\nnothing_decode_map:\n"
         "nothing_encode_map:\nnothing_read_map:\nnothing_write_map:\nxorl %eax, %eax\nret\n");
 __typeof__(pg_power_up) nothing_power_up;
 __typeof__(pg_event) nothing_event;
 __typeof__(pg_run) nothing_run;
+__typeof__(pg_replay) nothing_replay;
 __typeof__(pg_line) nothing_line;
 __typeof__(pg_capture) nothing_capture;
 __typeof__(pg_make_capture) nothing_make_capture;
@@ -28,6 +29,11 @@ __typeof__(pg_decode_map) nothing_decode_map;
 __typeof__(pg_encode_map) nothing_encode_map;
 __typeof__(pg_read_map) nothing_read_map;
 __typeof__(pg_write_map) nothing_write_map;
+
+static int calls_nothing;
+#define CALL(name) (calls_nothing ? nothing_##name : pg_##name)
+
+enum { RETURN_ADDRESS = 8 };
 
 static ucontext_t here, there;
 static uint8_t stack[16384];
@@ -58,6 +64,22 @@ static size_t depth_over(uint8_t pattern, void (*call)(void)) {
         untouched++;
     }
     return sizeof stack - untouched;
+}
+
+/* What a call takes beyond its caller. Measured with two patterns, since an octet may be written
+ * over with the one that was there. The second call finds what the first one found, which is copied
+ * to saved and back. */
+static size_t depth_of(void (*call)(void), void *lent, void *saved, size_t lent_size) {
+    size_t nothing, first, second;
+
+    memcpy(saved, lent, lent_size);
+    calls_nothing = 1;
+    nothing = depth_over(0xA5, call);
+    calls_nothing = 0;
+    first = depth_over(0xA5, call);
+    memcpy(lent, saved, lent_size);
+    second = depth_over(0x5A, call);
+    return (first > second ? first : second) - nothing + RETURN_ADDRESS;
 }
 
 #endif

@@ -21,7 +21,7 @@
 
 enum { CYLINDERS = 2, HEADS = 2, SECTORS = 3, HEADER = 1, FIELD_1 = 21, FIELD_2 = 1, ADDRESS = 3 };
 enum { SECTOR_WORDS = HEADER + FIELD_1 + FIELD_2, DATA_FIELDS = HEADS * SECTORS };
-enum { DEFECTS = 3, MAP_OCTETS = DATA_FIELDS * 2 * FIELD_1, RETURN_ADDRESS = 8 };
+enum { DEFECTS = 3, MAP_OCTETS = DATA_FIELDS * 2 * FIELD_1 };
 #define SETUP CYLINDERS, HEADS, SECTORS, HEADER, FIELD_1, FIELD_2, address
 #define LENGTH(array) (sizeof(array) / sizeof(array)[0])
 
@@ -31,14 +31,11 @@ struct lent {
     uint8_t map[MAP_OCTETS + 1], defects[MAP_OCTETS / 3], one[PG_DEFECT_OCTETS];
 };
 
-static struct lent lent;
+static struct lent lent, saved;
 static uint16_t address, cylinder, head, sector, length;
 static uint32_t defect_cylinder, defect_offset;
 static size_t map_length, sector_length, defects_length, one_length, data_field;
 static size_t count, offset, size;
-
-static int calls_nothing;
-#define CALL(name) (calls_nothing ? nothing_##name : pg_##name)
 
 static void take_apart(void) {
     CALL(decode_defect)(lent.one, one_length, &defect_cylinder, &head, &defect_offset, &length);
@@ -78,20 +75,11 @@ static const struct { const char *name; void (*wrapped)(void); } calls[CALLS] = 
 };
 static size_t deepest[CALLS];
 
-/* Measured with two patterns, since an octet may be written over with the one that was there. Every
- * call finds what the first one found. */
+/* The next call finds what this one found. */
 static void note(int call) {
-    struct lent saved = lent;
-    size_t nothing, first, second, depth;
+    size_t depth = depth_of(calls[call].wrapped, &lent, &saved, sizeof lent);
 
-    calls_nothing = 1;
-    nothing = depth_over(0xA5, calls[call].wrapped);
-    calls_nothing = 0;
-    first = depth_over(0xA5, calls[call].wrapped);
     lent = saved;
-    second = depth_over(0x5A, calls[call].wrapped);
-    lent = saved;
-    depth = (first > second ? first : second) - nothing + RETURN_ADDRESS;
     if (depth > deepest[call]) {
         deepest[call] = depth;
     }

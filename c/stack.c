@@ -3,9 +3,9 @@
  * afterwards. What the caller itself takes, measured with a call that returns at once, is taken
  * off, so that a figure is the return address, all that the call writes below it, and nothing else.
  *
- * The deepest of these counts: what hosts do and every refusal, one after another, then every code
- * of a command or a response and every function, and then octets at random, on a state that is now
- * and then disturbed. It prints a line for each call.
+ * The deepest of these counts: every refusal, parts of two records, what hosts do, one after
+ * another, then every code of a command or a response and every function, and then octets at
+ * random, on a state that is now and then disturbed. It prints a line for each call.
  *
  * It is for Linux on x86-64. Build it at the project's root, after `rt staticlib pantoglide`, with
  *
@@ -20,25 +20,25 @@
 #include "pantoglide.h"
 
 #include "depth.h"
+#include "script.h"
 
-enum { CYLINDERS = 2, HEADS = 2, SECTORS = 3, HEADER = 1, FIELD_1 = 2, FIELD_2 = 1, ADDRESS = 3 };
-enum { SECTOR_WORDS = HEADER + FIELD_1 + FIELD_2, RETURN_ADDRESS = 8, RANDOM_CALLS = 20000 };
+enum { SECTOR_WORDS = HEADER + FIELD_1 + FIELD_2, RANDOM_CALLS = 20000 };
 #define DRIVE_WORDS (CYLINDERS * HEADS * SECTORS * SECTOR_WORDS)
 #define LENGTH(array) (sizeof(array) / sizeof(array)[0])
 
 /* What calls change and the next call may look at. */
 struct drive { uint16_t state[PG_STATE_WORDS], sectors[DRIVE_WORDS]; uint8_t follower; };
 
-static struct drive drive;
+static struct drive drive, saved;
 static uint16_t *const state = drive.state;
 static uint16_t answer[PG_ANSWER_WORDS], staging[SECTOR_WORDS];
-static uint8_t setting, record[PG_RECORD_OCTETS];
+static uint16_t gap[1];
+static uint64_t ran[1];
+static uint8_t setting, record[PG_RECORD_OCTETS], two_records[2 * PG_RECORD_OCTETS];
 static uint8_t capture[2 * PG_RECORD_OCTETS + PG_TRAILER_OCTETS];
 static size_t state_length, sector_length, answer_length, record_length, follower_length;
 static size_t capture_length, first_record, record_count, size;
-
-static int calls_nothing;
-#define CALL(name) (calls_nothing ? nothing_##name : pg_##name)
+static size_t two_records_length, from, limit, gap_length, ran_length;
 
 static void power_up(void) {
     CALL(power_up)(CYLINDERS, HEADS, SECTORS, HEADER, FIELD_1, FIELD_2, record[4], drive.sectors,
@@ -56,6 +56,12 @@ static void run(void) {
               LENGTH(staging), answer, answer_length);
 }
 
+static void replay(void) {
+    CALL(replay)(state, state_length, two_records, two_records_length, from, limit, drive.sectors,
+                 sector_length, staging, LENGTH(staging), answer, answer_length, gap, gap_length,
+                 ran, ran_length);
+}
+
 static void line(void) {
     CALL(line)(&drive.follower, follower_length, setting);
 }
@@ -69,38 +75,27 @@ static void make(void) {
                        &size);
 }
 
-/* Measured with two patterns, since an octet may be written over with the one that was there. The
- * second call finds what the first one found. */
-static size_t depth_of(void (*wrapped)(void)) {
-    struct drive saved = drive;
-    size_t nothing, first, second;
-
-    calls_nothing = 1;
-    nothing = depth_over(0xA5, wrapped);
-    calls_nothing = 0;
-    first = depth_over(0xA5, wrapped);
-    drive = saved;
-    second = depth_over(0x5A, wrapped);
-    return (first > second ? first : second) - nothing + RETURN_ADDRESS;
-}
-
-static size_t deepest_power_up, deepest_event, deepest_run;
+static size_t deepest_power_up, deepest_event, deepest_run, deepest_replay;
 static size_t deepest_find, deepest_make, deepest_line;
 
 static void note(size_t *deepest, void (*wrapped)(void)) {
-    size_t depth = depth_of(wrapped);
+    size_t depth = depth_of(wrapped, &drive, &saved, sizeof drive);
 
     if (depth > *deepest) {
         *deepest = depth;
     }
 }
 
-/* The same event as a call and as a run of one record, each from the same state. */
+/* The same event as a call, as a run of one record and as the second of two records, each from the
+ * same state. */
 static void note_event(const uint8_t octets[6]) {
     struct drive before = drive;
 
     memcpy(record + 2, octets, 6);
+    memcpy(two_records + PG_RECORD_OCTETS, record, sizeof record);
     note(&deepest_run, run);
+    drive = before;
+    note(&deepest_replay, replay);
     drive = before;
     note(&deepest_event, event);
 }
@@ -110,34 +105,11 @@ static void whole_slices(void) {
     sector_length = DRIVE_WORDS;
     answer_length = LENGTH(answer);
     record_length = sizeof record;
+    two_records_length = sizeof two_records;
+    from = limit = gap_length = ran_length = 1;
     capture_length = sizeof capture;
     follower_length = 1;
 }
-
-enum { SELECT = PG_SELECT_ADDRESS(ADDRESS), TAKEOVER = SELECT | PG_SELECT_PRIORITY_SELECT };
-enum { CODE_BITS = PG_CODE_LOAD_POSITION | PG_CODE_READ_CURRENT_POSITION };
-enum { VERIFY = PG_WRITE | PG_HEADER_VERIFY | PG_FIELD_1, READ = PG_READ | PG_FIELD_2 };
-
-/* Port, kind and argument octets: every kind, accepted and refused, with every status. */
-static const uint8_t script[][6] = {
-    {0, PG_DESELECT}, {0, PG_SELECT, 0xFF}, {0, PG_SELECT, SELECT | 0x0C}, {2, PG_SELECT, SELECT},
-    {0, 11}, {0, PG_SELECT, SELECT}, {0, PG_SELECT, SELECT}, {1, PG_SELECT, SELECT},
-    {0, PG_POSITION, 0, 1, 1, 2}, {0, PG_POSITION, 9}, {0, PG_TARGET, 0, 2}, {0, PG_TARGET, 0, 3},
-    {0, PG_READ_STATUS}, {0, PG_DATA_CONTROL, PG_CONTROL_RESERVED},
-    {0, PG_DATA_CONTROL, PG_WRITE}, {0, PG_DATA_CONTROL, PG_STEP_HEAD},
-    {0, PG_DATA_CONTROL, PG_READ}, {0, PG_WORD_FROM_HOST}, {0, PG_TAKE_WORD}, {0, PG_END},
-    {0, PG_DATA_CONTROL, VERIFY}, {0, PG_WORD_FROM_HOST, 0, 1}, {0, PG_DATA_CONTROL, VERIFY},
-    {0, PG_WORD_FROM_HOST}, {0, PG_WORD_FROM_HOST, 1, 2}, {0, PG_WORD_FROM_HOST, 3, 4},
-    {0, PG_DATA_CONTROL, READ | PG_AT_TARGET}, {0, PG_TAKE_WORD}, {0, PG_DESELECT},
-    {0, PG_TAKE_WORD}, {0, PG_DATA_CONTROL, READ}, {0, PG_END}, {0, PG_DATA_CONTROL, VERIFY},
-    {1, PG_SELECT, TAKEOVER}, {1, PG_DESELECT}, {0, PG_SELECT, SELECT},
-    {0, PG_DATA_CONTROL, READ}, {0, PG_READ_STATUS}, {1, PG_RESET}, {1, PG_SELECT, SELECT},
-    {1, PG_TARGET}, {1, PG_READ_STATUS}, {1, PG_DATA_CONTROL, PG_CODE_LOAD_POSITION},
-    {1, PG_WORD_FROM_HOST}, {1, PG_TAKE_WORD}, {1, PG_READ_STATUS}, {1, PG_END},
-    {1, PG_DATA_CONTROL, PG_CODE_READ_STATUS}, {1, PG_TAKE_WORD}, {1, PG_WORD_FROM_HOST},
-    {1, PG_END}, {1, PG_DATA_CONTROL, PG_CODE_LOAD_CYLINDER}, {1, PG_WORD_FROM_HOST},
-    {0, PG_SELECT, TAKEOVER}, {0, PG_DATA_CONTROL, PG_CODE_READ_CURRENT_POSITION}, {1, PG_RESET}
-};
 
 static void power_ups(void) {
     record[4] = ADDRESS + 8;
@@ -155,18 +127,34 @@ static void note_too_short(size_t *length) {
     whole_slices();
 }
 
-/* Events that 10 and then 11 refuse, and a run whose record is not whole. */
+/* Events that 10 and then 11 refuse, and runs whose last record is not whole. */
 static void refused_events(void) {
     uint16_t hold = state[PG_STATE_HOLD];
 
     note_too_short(&state_length);
     note_too_short(&sector_length);
     note_too_short(&answer_length);
+    note_too_short(&gap_length);
+    note_too_short(&ran_length);
     state[PG_STATE_HOLD] = 3;
     note_event(script[0]);
     state[PG_STATE_HOLD] = hold;
     record_length = 7;
     note(&deepest_run, run);
+    two_records_length = 15;
+    note(&deepest_replay, replay);
+    whole_slices();
+}
+
+/* Parts of two records from each place on, and from past them, with limits from 0 on. */
+static void parts(void) {
+    for (from = 0; from < 4; from++) {
+        for (limit = 0; limit < 4; limit++) {
+            note(&deepest_replay, replay);
+        }
+    }
+    from = limit = SIZE_MAX;
+    note(&deepest_replay, replay);
     whole_slices();
 }
 
@@ -283,6 +271,7 @@ int main(void) {
     whole_slices();
     power_ups();
     refused_events();
+    parts();
     for (i = 0; i < LENGTH(script); i++) {
         note_event(script[i]);
     }
@@ -291,7 +280,8 @@ int main(void) {
     lines();
     captures();
     printf("pg_power_up %zu\npg_event %zu\n", deepest_power_up, deepest_event);
-    printf("pg_run %zu\npg_capture %zu\n", deepest_run, deepest_find);
-    printf("pg_make_capture %zu\npg_line %zu\n", deepest_make, deepest_line);
+    printf("pg_run %zu\npg_replay %zu\n", deepest_run, deepest_replay);
+    printf("pg_capture %zu\npg_make_capture %zu\n", deepest_find, deepest_make);
+    printf("pg_line %zu\n", deepest_line);
     return EXIT_SUCCESS;
 }

@@ -1,12 +1,12 @@
-/* Pantoglide 2.2: the proved drive behind a C interface.
+/* Pantoglide 2.3: the proved drive behind a C interface.
  *
  * Two hosts share a drive, one on each of two IPI-2 ports, 0 and 1. The firmware hands each thing
  * that a host does to pg_event, with the words of the drive; the call does what the drive would do
  * and tells what to answer. This header is all that a caller needs to read. The rules are those of
  * the paper that the project calls document 01, with commands and responses as request M-100 adds
- * them, exceptions that a host ignores as M-102 mends them, and the maker's defect map as M-108
- * adds it. All take them from three papers on IPI: 001 (a drive's manual), 003 (the physical level)
- * and 004 (IPI-2). Octets are in hex.
+ * them, exceptions that a host ignores as M-102 mends them, a replay that stops on request as M-103
+ * adds it, and the maker's defect map as M-108 adds it. All take them from three papers on IPI: 001
+ * (a drive's manual), 003 (the physical level) and 004 (IPI-2). Octets are in hex.
  *
  *
  * WHAT IT NEEDS
@@ -19,7 +19,7 @@
  * The most stack that a call takes, in octets, its return address included and its arguments not:
  *
  *     pg_power_up 24          pg_event 296          pg_run 232        pg_line 1032
- *     pg_capture 8            pg_make_capture 8
+ *     pg_capture 8            pg_make_capture 8     pg_replay TODO-STACK
  *     pg_decode_map 5392      pg_encode_map 3008    pg_read_map 5392  pg_write_map 3008
  *     pg_decode_defect 8      pg_encode_defect 16   pg_map_place 8
  *
@@ -44,8 +44,8 @@
  *
  * Power. A commit copies word by word, so power lost inside a call can leave part of a write in the
  * lent words. One pg_event commits to one sector at most, so a board that must survive this calls
- * pg_event, not pg_run, and keeps the words of that sector back until the call has returned, as
- * c/mirror.c does.
+ * pg_event, not pg_run or pg_replay, and keeps the words of that sector back until the call has
+ * returned, as c/mirror.c does.
  *
  * Saved states. A state may be kept, copied and handed back at any later time, with the sector and
  * staging words of that time. Every call judges the state anew, whoever made it, and refuses with
@@ -70,7 +70,7 @@ extern "C" {
 /* The version of this header and of the archive it belongs to. The major number grows where a
  * program that was written for the last one may need a change; CHANGELOG.md says which. */
 #define PG_VERSION_MAJOR 2
-#define PG_VERSION_MINOR 2
+#define PG_VERSION_MINOR 3
 
 /* ---- The drive ---------------------------------------------------------------------------- */
 
@@ -309,7 +309,7 @@ enum { PG_HOLD_NONE = 0, PG_HOLD_PLAIN = 1, PG_HOLD_STRONG = 2 };
 
 /* The answer to an event: PG_ANSWER_WORDS words of 16 bits. */
 enum {
-    PG_ANSWER_REFUSAL = 0,        /* 0, or the refusal's number (only from pg_run) */
+    PG_ANSWER_REFUSAL = 0,        /* 0, or the refusal's number (only from pg_run and pg_replay) */
     PG_ANSWER_STATUS = 1,         /* a drive status octet, or PG_ABSENT */
     PG_ANSWER_WORDS_TO_COME = 2,  /* at the opening of a transfer, else PG_ABSENT */
     PG_ANSWER_CYLINDER = 3,       /* the place of the transfer just opened, */
@@ -505,6 +505,39 @@ uint8_t pg_run(uint16_t *state, size_t state_length, const uint8_t *records, siz
                uint16_t *sector_words, size_t sector_length, uint16_t *staging_words,
                size_t staging_length, uint16_t *answers, size_t answers_length);
 
+/* A part of the records of a capture, one after another: at most limit of them, the first of which
+ * is record number from, counted from 0. So as many events run as limit says, or as there are
+ * records from that one on, whichever is fewer: none where limit is 0, and none where from is past
+ * the last record, which is no refusal. Any two numbers may be given.
+ *
+ * The next part begins at from plus the events that ran. Each part being handed the state, the
+ * sector words and the staging words as the one before it left them, parts put end to end are one
+ * pg_run of all records.
+ *
+ * The gap of a record is its tick less that of the record before it, both of 16 bits, going round
+ * past zero: from 0005 to 0003 it is 65534, from FFFF to 0001 it is 2. The record before it is that
+ * of the capture, whether this call runs it, an earlier one did or none. Record 0 has none before
+ * it, and its gap is 0.
+ *
+ * Returns 10 if state has under PG_STATE_WORDS words or ran_length is 0, also where no event would
+ * run, or if answers has under PG_ANSWER_WORDS words, or gaps under one, for each event that would
+ * run (not for each record); otherwise 8 if records_length is no multiple of PG_RECORD_OCTETS, also
+ * where no event would run; and then nothing is changed. For the tests of 10 there are
+ * records_length / PG_RECORD_OCTETS records, whole part.
+ *
+ * Otherwise returns 0, with the number of events that ran in ran[0], refused ones counted too.
+ * State, sector words and staging words are what so many calls of pg_event would have made of them.
+ * Event number i of those that ran, from 0, is record number from + i. It has its answer in the
+ * PG_ANSWER_WORDS words from PG_ANSWER_WORDS * i on, as in pg_run, and its gap in gaps[i]. So if
+ * the state is not sound every answer is 11, if a lent slice is too short for a sound state every
+ * answer is 10, and in both cases nothing but answers, gaps and ran[0] changes. Words of answers
+ * and gaps behind those of the events that ran, and numbers behind ran[0], stay as they were. */
+uint8_t pg_replay(uint16_t *state, size_t state_length, const uint8_t *records,
+                  size_t records_length, size_t from, size_t limit, uint16_t *sector_words,
+                  size_t sector_length, uint16_t *staging_words, size_t staging_length,
+                  uint16_t *answers, size_t answers_length, uint16_t *gaps, size_t gaps_length,
+                  uint64_t *ran, size_t ran_length);
+
 /* ---- Captures ------------------------------------------------------------------------------- */
 
 /* A capture keeps what hosts did: notes, records and a trailer, with nothing between them.
@@ -524,8 +557,8 @@ uint8_t pg_run(uint16_t *state, size_t state_length, const uint8_t *records, siz
  * 49 32; otherwise 14 if the distance is no multiple of 8, or is more than the capture's length
  * less 8; and then nothing is changed. Otherwise returns 0, with the offset of the first record
  * from the front in *first_record, which is the length of the notes, and the number of records in
- * *record_count. So octets + *first_record and PG_RECORD_OCTETS * *record_count are what pg_run
- * takes. The two pointers must lead to a size_t each, which no slice overlaps. */
+ * *record_count. So octets + *first_record and PG_RECORD_OCTETS * *record_count are what pg_run and
+ * pg_replay take. The two pointers must lead to a size_t each, which no slice overlaps. */
 uint8_t pg_capture(const uint8_t *octets, size_t octets_length, size_t *first_record,
                    size_t *record_count);
 

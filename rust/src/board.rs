@@ -122,6 +122,42 @@ impl<'a> Board<'a> {
         ))
     }
 
+    /// At most `limit` records of a capture, from the one with index `from` on, and how many of
+    /// them ran: fewer where the capture ends before, none where `from` is past its last record.
+    /// Refused events count too. Who goes on at `from` plus that number does what one uncut run
+    /// does.
+    ///
+    /// The words of each one's answer are in `answers`, as in [`run_into`](Board::run_into), and in
+    /// `gaps` its tick less that of the record before it, going round past zero; record 0, which
+    /// has none before it, has the gap 0. Those beyond the events that ran stay as they were.
+    ///
+    /// Refused with [`Refusal::TooShort`] if `answers` or `gaps` has no room for the events that
+    /// would run, then with [`Refusal::Malformed`] if the records are not whole, be there events to
+    /// run or not; and then nothing changes.
+    pub fn replay_into(
+        &mut self,
+        records: &[u8],
+        from: usize,
+        limit: usize,
+        answers: &mut [[u16; ANSWER_WORDS]],
+        gaps: &mut [u16],
+    ) -> Result<usize, Refusal> {
+        let mut ran = [0];
+        Refusal::check(raw::replay(
+            &mut self.state,
+            records,
+            from,
+            limit,
+            self.sectors,
+            self.staging,
+            answers.as_flattened_mut(),
+            gaps,
+            &mut ran,
+        ))?;
+        // Never more than there are records in the slice.
+        Ok(ran[0] as usize)
+    }
+
     /// The state as the archive keeps it.
     pub fn state(&self) -> &[u16; STATE_WORDS] {
         &self.state

@@ -2,10 +2,11 @@
 //!
 //! [`Board`] is a drive over sector and staging words that the caller lends, [`Capture`] a file of
 //! events, and [`Follower`] watches the control lines of one port. [`Board::event`] takes what hosts
-//! do one by one; calls such as [`Board::reserve`] stand for a whole command. [`Setup::decode_map`]
-//! and the calls beside it read and make the maker's defect map. All hand every request to the
-//! archive of proved code that the project's `rt staticlib pantoglide` makes; [`raw`] has its calls
-//! as they are, on slices. Nothing in this interface is unsafe, and no input makes a call panic.
+//! do one by one; calls such as [`Board::reserve`] stand for a whole command. [`Board::run_into`]
+//! runs the records of a capture, [`Board::replay_into`] a part of them. [`Setup::decode_map`] and
+//! the calls beside it read and make the maker's defect map. All hand every request to the archive
+//! of proved code that the project's `rt staticlib pantoglide` makes; [`raw`] has its calls as they
+//! are, on slices. Nothing in this interface is unsafe, and no input makes a call panic.
 //!
 //! ```
 //! use pantoglide::{control, selection, Answer, Board, Event, Setup};
@@ -26,7 +27,7 @@
 //! for x86-64 Linux.
 //!
 //! The library needs no `std`. The feature `alloc`, on by default, adds what hands back a `Vec`:
-//! `Board::run`.
+//! `Board::run` and `Board::replay`.
 
 #![no_std]
 #![warn(missing_docs, missing_debug_implementations)]
@@ -45,6 +46,8 @@ mod follower;
 mod map;
 pub mod raw;
 mod refusal;
+#[cfg(feature = "alloc")]
+mod replay;
 pub mod response;
 pub mod selection;
 mod setup;
@@ -58,5 +61,7 @@ pub use event::Event;
 pub use follower::{Follower, Move};
 pub use map::{Map, MapRefusal, Track};
 pub use refusal::Refusal;
+#[cfg(feature = "alloc")]
+pub use replay::{Replay, Replayed, Stretch};
 pub use setup::Setup;
 pub use whole_commands::NotDone;

@@ -63,6 +63,24 @@ mod archive {
             answers: *mut u16,
             answers_length: usize,
         ) -> u8;
+        pub fn pg_replay(
+            state: *mut u16,
+            state_length: usize,
+            records: *const u8,
+            records_length: usize,
+            from: usize,
+            limit: usize,
+            sector_words: *mut u16,
+            sector_length: usize,
+            staging_words: *mut u16,
+            staging_length: usize,
+            answers: *mut u16,
+            answers_length: usize,
+            gaps: *mut u16,
+            gaps_length: usize,
+            ran: *mut u64,
+            ran_length: usize,
+        ) -> u8;
         pub fn pg_capture(
             octets: *const u8,
             octets_length: usize,
@@ -177,6 +195,43 @@ pub fn run(
             staging_words.len(),
             answers.as_mut_ptr(),
             answers.len(),
+        )
+    }
+}
+
+/// At most `limit` records of a capture, from the one with index `from` on: 0, an answer and a gap
+/// for each event that ran and their number written, or 10 or 8 and nothing changed.
+#[allow(clippy::too_many_arguments)] // the archive's interface has as many
+#[inline(always)]
+pub fn replay(
+    state: &mut [u16],
+    records: &[u8],
+    from: usize,
+    limit: usize,
+    sector_words: &mut [u16],
+    staging_words: &mut [u16],
+    answers: &mut [u16],
+    gaps: &mut [u16],
+    ran: &mut [u64],
+) -> u8 {
+    unsafe {
+        archive::pg_replay(
+            state.as_mut_ptr(),
+            state.len(),
+            records.as_ptr(),
+            records.len(),
+            from,
+            limit,
+            sector_words.as_mut_ptr(),
+            sector_words.len(),
+            staging_words.as_mut_ptr(),
+            staging_words.len(),
+            answers.as_mut_ptr(),
+            answers.len(),
+            gaps.as_mut_ptr(),
+            gaps.len(),
+            ran.as_mut_ptr(),
+            ran.len(),
         )
     }
 }

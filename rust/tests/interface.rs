@@ -10,13 +10,18 @@ use std::collections::{BTreeMap, BTreeSet};
 
 mod bench;
 
-/// The numbers that the header gives names to.
-fn header_numbers() -> BTreeMap<String, usize> {
+/// The header without its comments.
+fn header_code() -> String {
     let header = include_str!("../../include/pantoglide.h");
-    let code = header
+    header
         .split("/*")
         .map(|part| part.split_once("*/").map_or(part, |(_, code)| code))
-        .collect::<String>();
+        .collect()
+}
+
+/// The numbers that the header gives names to.
+fn header_numbers() -> BTreeMap<String, usize> {
+    let code = header_code();
     let words = code
         .split(|character: char| !(character.is_alphanumeric() || character == '_'))
         .filter(|word| !word.is_empty())
@@ -34,6 +39,26 @@ fn header_numbers() -> BTreeMap<String, usize> {
 
 fn assert_headers(name: &str, number: usize) {
     assert_eq!(header_numbers().get(name), Some(&number), "{name}");
+}
+
+/// The archive's calls that some code declares.
+fn calls(code: &str) -> BTreeSet<&str> {
+    code.split([' ', ':', '\n'])
+        .filter_map(|word| word.split_once('('))
+        .map(|(name, _)| name)
+        .filter(|name| name.starts_with("pg_"))
+        .collect()
+}
+
+#[test]
+fn the_calls_are_the_headers() {
+    let [drive, defects] = [
+        include_str!("../src/raw.rs"),
+        include_str!("../src/raw/defects.rs"),
+    ];
+    let bound = calls(drive).union(&calls(defects)).copied().collect();
+    assert_eq!(calls(&header_code()), bound);
+    assert_eq!(bound.len(), 14);
 }
 
 #[test]

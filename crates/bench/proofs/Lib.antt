@@ -2,6 +2,7 @@ pub mod Pieces
 pub mod Digits
 pub mod Lines
 pub mod Told
+pub mod Parted
 pub mod Bench
 pub mod Size
 pub mod Captured

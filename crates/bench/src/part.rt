@@ -8,7 +8,7 @@ ghost use mathlib.Core.Path.{_≡_};
 ghost use lib.ListN.{length, drop};
 ghost use Rattle.bench.specs.Text.{Put};
 ghost use Rattle.bench.specs.Part.{nextLine, partReport};
-ghost use Rattle.bench.specs.Told.{toldLines, toldReport, There};
+ghost use Rattle.bench.specs.Told.{toldLines, toldReport, There, Ready, Made};
 
 // As many as the longest capture has.
 const MOST_EVENTS: usize = 8_191;
@@ -23,7 +23,6 @@ const OWNER: usize = 8;
 // In a record.
 const PORT: usize = 2;
 
-// The events before the part are run without telling.
 pub(crate) fn put_part(text: &mut [u8], records: &[u8], from: u32, limit: u32) -> usize
     requires { ⌜ (length (partReport from limit (now records)) ≤ length (now text)) × (length (now records) ≤ 65528) × (length (now records) % 8 ≡ 0) ⌝ }
     ensures { λ r. ⌜ Put (now (text .entry)) 0 (partReport from limit (now (records .entry))) (now (text .exit)) r ⌝ }
@@ -34,33 +33,11 @@ pub(crate) fn put_part(text: &mut [u8], records: &[u8], from: u32, limit: u32) -
     let mut answers = [0u16; ALL_ANSWER_WORDS];
     let mut gaps = [0u16; MOST_EVENTS];
     let first = from as usize;
-    events::power_up_words(
-        run::CYLINDERS,
-        run::HEADS,
-        run::SECTORS,
-        run::HEADER,
-        run::FIELD1,
-        run::FIELD2,
-        run::ADDRESS,
-        &sectors,
-        &staging,
-        &mut state,
-    );
-    events::replay_part(
-        &mut state,
-        records,
-        0,
-        first,
-        &mut sectors,
-        &mut staging,
-        &mut answers,
-        &mut gaps,
-    );
-    let part = events::replay_part(
-        &mut state,
+    let part = run_part(
         records,
         first,
         limit as usize,
+        &mut state,
         &mut sectors,
         &mut staging,
         &mut answers,
@@ -71,6 +48,36 @@ pub(crate) fn put_part(text: &mut [u8], records: &[u8], from: u32, limit: u32) -
         // Not reached: there is room, and the records are whole.
         Part::Refused(_) => 0,
     }
+}
+
+// The events before the part are run without telling.
+fn run_part(
+    records: &[u8],
+    from: usize,
+    limit: usize,
+    state: &mut [u16],
+    sectors: &mut [u16],
+    staging: &mut [u16],
+    answers: &mut [u16],
+    gaps: &mut [u16],
+) -> Part
+    requires { ⌜ Ready (now records) (now state) (now sectors) (now staging) (now answers) (now gaps) ⌝ }
+    ensures { λ r. ⌜ Made from limit (now (records .entry)) r (now (state .exit)) (now (answers .exit)) (now (gaps .exit)) ⌝ }
+{
+    events::power_up_words(
+        run::CYLINDERS,
+        run::HEADS,
+        run::SECTORS,
+        run::HEADER,
+        run::FIELD1,
+        run::FIELD2,
+        run::ADDRESS,
+        &sectors[..],
+        &staging[..],
+        state,
+    );
+    events::replay_part(state, records, 0, from, sectors, staging, answers, gaps);
+    events::replay_part(state, records, from, limit, sectors, staging, answers, gaps)
 }
 
 fn put_told(

@@ -71,7 +71,7 @@ pub record Went (w : Lending) (records : List ℕ) (from limit n : ℕ) (w′ : 
   pub told : take (13 * n) (w′ .answers) ≡ wordsOfAnswers (answers (machineOf w) (partOf records from limit))
   pub gapped : take n (w′ .gaps) ≡ part from limit (gapsOf records)
 
-gap-count : (records : List ℕ) (from limit : ℕ) → length (part from limit (gapsOf records)) ≡ length (partOf records from limit)
+pub gap-count : (records : List ℕ) (from limit : ℕ) → length (part from limit (gapsOf records)) ≡ length (partOf records from limit)
 gap-count records from limit = ap length (part-gaps records from limit) ∙ length-table (gapAt records) from _ ∙ sym (part-count records from limit)
 
 pub went : {w w′ : Lending} {records : List ℕ} {from limit n : ℕ} → PartCall w records from limit (Ran n) w′ → Went w records from limit n w′
@@ -123,6 +123,7 @@ not-refused {w} {records = records} {from} {limit} long told gapped whole call =
 
 -- the drive after a part stands in the words that it left
 pub record Stands (w : Lending) (events : List Event) (v : Lending) : Type 0 where
+  pub long : 21 ≤ length (v .state)
   pub machine : machineOf v ≡ final (machineOf w) events
   pub again : (d : Drive) → stateAfter (v .state) d ≡ stateAfter (w .state) d
 
@@ -132,6 +133,7 @@ stands {u} {records = records} {from} {limit} call same =
     let g = goes-along (u .state) (u .sectors) (u .staging) events (went call .long) in
     let state = same .state ∙ call .state in
     record {
+      long = rw state (g .long);
       machine = λ i. machine ((ap driveIn state ∙ g .drive) i) ((same .sectors ∙ call .sectors) i) ((same .staging ∙ call .staging) i);
       again = λ d. ap (λ (l : List ℕ). stateAfter l d) state ∙ g .again d;
     }

@@ -6,7 +6,11 @@
 mod codes;
 mod headers;
 mod ignored;
+mod parts;
+mod parts_tally;
+mod replays;
 mod setups;
+mod stream;
 mod tally;
 mod words;
 
@@ -14,8 +18,9 @@ use pantoglide::raw::STATE_WORDS;
 use setups::{powered_up, Scale};
 use shared::random::Random;
 use shared::streams::{likely_event, record};
+use stream::Stream;
 use tally::Tally;
-use words::{Cut, Pair};
+use words::{Cut, Pair, LONGEST_RUN};
 
 #[allow(dead_code, unused_imports)] // the speed program uses the rest
 #[path = "../../shared/mod.rs"]
@@ -69,12 +74,7 @@ fn cut_slices(random: &mut Random, pair: &mut Pair, tally: &mut Tally) {
 /// A state that no drive came to by itself, and a few events from there if it passes row 11.
 fn odd_state(random: &mut Random, pair: &mut Pair, tally: &mut Tally, scale: Scale) {
     let saved = *pair.state();
-    let odd = if random.one_in(3) {
-        setups::assembled_state(random, &saved)
-    } else {
-        setups::disturbed_state(random, &saved)
-    };
-    pair.set_state(odd);
+    pair.set_state(setups::odd_state(random, &saved));
     if random.one_in(16) {
         run(random, pair, tally);
     }
@@ -96,26 +96,18 @@ fn odd_state(random: &mut Random, pair: &mut Pair, tally: &mut Tally, scale: Sca
 
 /// A run of records, its slices now and then too short, its last record now and then not whole.
 fn run(random: &mut Random, pair: &mut Pair, tally: &mut Tally) {
-    let mut alone = pair.copy_of_plain();
-    let (mut records, mut accepted) = (Vec::new(), Vec::new());
-    for tick in 0..random.below(40) {
-        let before = *alone.state();
-        let event = likely_event(random, &before, &alone.sectors);
-        if alone.plain_event(event) == 0 {
-            accepted.push((before, event, alone.answers[1]));
-        }
-        records.extend(record(tick as u16, event));
-    }
+    let events = random.below(LONGEST_RUN);
+    let mut stream = Stream::likely(random, pair, events);
     if random.one_in(8) {
-        let cut = pair.slices_cut(random, records.len() / 8);
-        pair.run(&records, cut, tally);
+        let cut = pair.slices_cut(random, events);
+        pair.run(&stream.records, cut, tally);
     } else if random.one_in(8) {
-        records.extend(&[0; 7][..=random.below(7)]);
-        pair.run(&records, Cut::default(), tally);
+        stream.tear(random);
+        pair.run(&stream.records, Cut::default(), tally);
     } else {
-        pair.run(&records, Cut::default(), tally);
-        pair.assert_drive_equals(&alone);
-        for (before, event, status) in &accepted {
+        pair.run(&stream.records, Cut::default(), tally);
+        pair.assert_drive_equals(&stream.alone);
+        for (before, event, status) in &stream.accepted {
             tally.accepted_in_run(before, *event, *status);
         }
     }

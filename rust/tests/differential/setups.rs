@@ -118,8 +118,17 @@ fn edge(random: &mut Random, state: &[u16; STATE_WORDS], old: u16) -> u16 {
     }
 }
 
+/// A state that no drive came to by itself.
+pub fn odd_state(random: &mut Random, state: &[u16; STATE_WORDS]) -> [u16; STATE_WORDS] {
+    if random.one_in(3) {
+        assembled_state(random, state)
+    } else {
+        disturbed_state(random, state)
+    }
+}
+
 /// The state with one or two words put near or over their limits.
-pub fn disturbed_state(random: &mut Random, state: &[u16; STATE_WORDS]) -> [u16; STATE_WORDS] {
+fn disturbed_state(random: &mut Random, state: &[u16; STATE_WORDS]) -> [u16; STATE_WORDS] {
     let mut disturbed = *state;
     for _ in 0..=usize::from(random.one_in(3)) {
         let at = random.below(STATE_WORDS);
@@ -155,7 +164,7 @@ fn transfer_size(random: &mut Random, state: &[u16; STATE_WORDS]) -> u16 {
 }
 
 /// Every word but the set-up's chosen afresh within its own limits. Many of these are sound.
-pub fn assembled_state(random: &mut Random, state: &[u16; STATE_WORDS]) -> [u16; STATE_WORDS] {
+fn assembled_state(random: &mut Random, state: &[u16; STATE_WORDS]) -> [u16; STATE_WORDS] {
     let mut assembled = *state;
     let owner = random.below(3) as u16;
     let other = random.below(3) as u16;

@@ -6,8 +6,8 @@ use crate::shared::streams::EventOctets;
 use crate::tally::Tally;
 use pantoglide::{raw, Answer};
 
-/// The longest run has so many records.
-const LONGEST_RUN: usize = 40;
+/// Answers of so many records have room.
+pub const LONGEST_RUN: usize = 40;
 
 /// Everything lent to one side, words beyond those that are needed included.
 #[derive(Clone, Debug, PartialEq)]
@@ -21,23 +21,23 @@ pub struct Words {
 /// How many words of each slice are held back from a call.
 #[derive(Clone, Copy, Debug, Default)]
 pub struct Cut {
-    state: usize,
-    sectors: usize,
-    staging: usize,
-    answers: usize,
+    pub state: usize,
+    pub sectors: usize,
+    pub staging: usize,
+    pub answers: usize,
 }
 
 pub struct Pair {
-    proved: Words,
-    plain: Words,
+    pub proved: Words,
+    pub plain: Words,
 }
 
 /// The slices that a call is handed.
-struct Lent<'a> {
-    state: &'a mut [u16],
-    sectors: &'a mut [u16],
-    staging: &'a mut [u16],
-    answers: &'a mut [u16],
+pub struct Lent<'a> {
+    pub state: &'a mut [u16],
+    pub sectors: &'a mut [u16],
+    pub staging: &'a mut [u16],
+    pub answers: &'a mut [u16],
 }
 
 fn all_but(words: &mut [u16], held_back: usize) -> &mut [u16] {
@@ -54,7 +54,7 @@ impl Words {
         self.state.first_chunk().expect("a whole state")
     }
 
-    fn lend(&mut self, cut: Cut) -> Lent<'_> {
+    pub fn lend(&mut self, cut: Cut) -> Lent<'_> {
         Lent {
             state: all_but(&mut self.state, cut.state),
             sectors: all_but(&mut self.sectors, cut.sectors),
@@ -217,7 +217,7 @@ impl Pair {
         assert_eq!(self.proved.staging, alone.staging);
     }
 
-    fn assert_equal(&self, request: impl Fn() -> String) {
+    pub fn assert_equal(&self, request: impl Fn() -> String) {
         let (proved, plain) = (&self.proved, &self.plain);
         assert_eq!(proved.state, plain.state, "state after {}", request());
         assert_eq!(proved.answers, plain.answers, "answers to {}", request());
@@ -235,7 +235,7 @@ impl Pair {
 }
 
 /// The wrapper reads what the archive writes.
-fn assert_answers(words: &[u16]) {
+pub fn assert_answers(words: &[u16]) {
     for words in words.as_chunks().0 {
         assert!(Answer::from_words(words).is_some(), "{words:?}");
     }

@@ -19,7 +19,7 @@ use workloads::Workload;
 mod shared;
 
 const SIDES: [Side; 3] = [Side::Rattle, Side::Plain, Side::Nothing];
-const CALLS: [Call; 4] = [Call::Single, Call::Run, Call::Line, Call::Map];
+const CALLS: [Call; 5] = [Call::Single, Call::Run, Call::Replay, Call::Line, Call::Map];
 
 fn main() {
     let numbers: Vec<usize> = std::env::args()
@@ -57,6 +57,7 @@ fn title(call: Call) -> &'static str {
     match call {
         Call::Single => "pg_event; both sides test rows 11 and 10 at every event",
         Call::Run => "pg_run, per record; the plain side tests rows 11 and 10 once in a run",
+        Call::Replay => "pg_replay, per record; the plain side tests rows 11 and 10 once in a part",
         Call::Line => "pg_line; both sides judge the follower's octet at every setting",
         Call::Map => "pg_decode_map and the like, per octet of the map",
     }
@@ -65,7 +66,7 @@ fn title(call: Call) -> &'static str {
 /// Decimal places of instructions and of nanoseconds.
 fn places(call: Call) -> [usize; 2] {
     match call {
-        Call::Single | Call::Run | Call::Line => [1, 2],
+        Call::Single | Call::Run | Call::Replay | Call::Line => [1, 2],
         Call::Map => [2, 3],
     }
 }

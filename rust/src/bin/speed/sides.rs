@@ -1,12 +1,12 @@
 //! The two implementations behind one loop, and a third that does nothing.
 
 use crate::maps::{FullMap, MapCall};
-use crate::shared::plain::{self, ANSWER_WORDS};
+use crate::shared::plain::{self, ReplayCall, ANSWER_WORDS};
 use crate::workloads::{Words, Workload};
 use pantoglide::raw;
 use std::hint::black_box;
 
-/// Records in one call of a run.
+/// Records in one call of a run or a replay.
 const RUN_RECORDS: usize = 1024;
 
 #[derive(Clone, Copy)]
@@ -21,6 +21,7 @@ pub enum Side {
 pub enum Call {
     Single,
     Run,
+    Replay,
     Line,
     Map,
 }
@@ -31,6 +32,9 @@ pub struct Bench<'a> {
     words: Words,
     follower: [u8; 1],
     answers: Vec<u16>,
+    /// What replays tell beside the answers.
+    gaps: Vec<u16>,
+    ran: [u64; 1],
     /// What calls for maps write octets to, and what the last one told.
     room: Vec<u8>,
     told: Result<usize, u8>,
@@ -62,6 +66,22 @@ fn no_run(_: &mut [u16], _: &[u8], _: &mut [u16], _: &mut [u16], _: &mut [u16]) 
     0
 }
 
+#[allow(clippy::too_many_arguments)] // it stands in for a call with as many
+#[inline(never)]
+fn no_replay(
+    _: &mut [u16],
+    _: &[u8],
+    _: usize,
+    _: usize,
+    _: &mut [u16],
+    _: &mut [u16],
+    _: &mut [u16],
+    _: &mut [u16],
+    _: &mut [u64],
+) -> u8 {
+    0
+}
+
 #[inline(never)]
 fn no_line(_: &mut [u8], _: u8) -> u8 {
     0
@@ -79,6 +99,8 @@ impl<'a> Bench<'a> {
             words: workload.words.clone(),
             follower: [0],
             answers: vec![0; ANSWER_WORDS * RUN_RECORDS],
+            gaps: vec![0; RUN_RECORDS],
+            ran: [0],
             room: vec![0; workload.requests(Call::Map)],
             told: Ok(0),
         }
@@ -87,8 +109,8 @@ impl<'a> Bench<'a> {
     /// Sends the workload's records, its settings, or its request about a map, so many times.
     pub fn cycles(&mut self, side: Side, call: Call, cycles: usize) {
         // Hidden from the optimiser, so that the arguments of a call that ignores them are passed.
-        let (no_event, no_run, no_line): (EventCall, RunCall, LineCall) =
-            black_box((no_event, no_run, no_line));
+        let (no_event, no_run): (EventCall, RunCall) = black_box((no_event, no_run));
+        let (no_replay, no_line): (ReplayCall, LineCall) = black_box((no_replay, no_line));
         for _ in 0..cycles {
             match (call, side) {
                 (Call::Single, Side::Rattle) => self.single_events(raw::event),
@@ -97,6 +119,9 @@ impl<'a> Bench<'a> {
                 (Call::Run, Side::Rattle) => self.runs(raw::run),
                 (Call::Run, Side::Plain) => self.runs(plain::run),
                 (Call::Run, Side::Nothing) => self.runs(no_run),
+                (Call::Replay, Side::Rattle) => self.replays(raw::replay),
+                (Call::Replay, Side::Plain) => self.replays(plain::replay),
+                (Call::Replay, Side::Nothing) => self.replays(no_replay),
                 (Call::Line, Side::Rattle) => self.lines(raw::line),
                 (Call::Line, Side::Plain) => self.lines(plain::line),
                 (Call::Line, Side::Nothing) => self.lines(no_line),
@@ -148,6 +173,29 @@ impl<'a> Bench<'a> {
     }
 
     #[inline(never)]
+    fn replays(&mut self, replay: ReplayCall) {
+        let Words {
+            state,
+            sectors,
+            staging,
+        } = &mut self.words;
+        let records = self.workload.records.as_flattened();
+        for from in (0..self.workload.records.len()).step_by(RUN_RECORDS) {
+            black_box(replay(
+                state,
+                records,
+                from,
+                RUN_RECORDS,
+                sectors,
+                staging,
+                &mut self.answers,
+                &mut self.gaps,
+                &mut self.ran,
+            ));
+        }
+    }
+
+    #[inline(never)]
     fn lines<F>(&mut self, line: F)
     where
         F: Fn(&mut [u8], u8) -> u8,
@@ -173,6 +221,8 @@ impl<'a> Bench<'a> {
             && self.words.staging == other.words.staging
             && self.follower == other.follower
             && self.answers == other.answers
+            && self.gaps == other.gaps
+            && self.ran == other.ran
             && self.room == other.room
             && self.told == other.told
     }

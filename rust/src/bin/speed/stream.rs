@@ -2,11 +2,13 @@
 
 use crate::shared::plain::RECORD_OCTETS;
 use crate::shared::random::Random;
-use crate::shared::streams::record;
+use crate::shared::streams::{record, EventOctets};
 use crate::workloads::{Words, Workload, ADDRESS};
 
 pub struct Stream {
     pub random: Random,
+    /// Apart from the other numbers, so that ticks never decide about events.
+    ticks: Random,
     pub words: Words,
     pub records: Vec<[u8; RECORD_OCTETS]>,
 }
@@ -15,6 +17,7 @@ impl Stream {
     pub fn new(words: Words) -> Stream {
         Stream {
             random: Random::new(0x5EED),
+            ticks: Random::new(0x71C5),
             words,
             records: Vec::new(),
         }
@@ -44,7 +47,12 @@ impl Stream {
     }
 
     pub fn push(&mut self, kind: u8, [a0, a1, a2, a3]: [u8; 4]) {
-        self.records.push(record(0, [0, kind, a0, a1, a2, a3]));
+        self.push_event([0, kind, a0, a1, a2, a3]);
+    }
+
+    /// With a tick at random.
+    pub fn push_event(&mut self, event: EventOctets) {
+        self.records.push(record(self.ticks.word(), event));
     }
 
     /// Cylinder, head and sector of a random place in the drive.

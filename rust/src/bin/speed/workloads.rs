@@ -3,7 +3,7 @@
 use crate::maps::{self, FullMap, MapCall};
 use crate::shared::plain::{self, ANSWER_WORDS, RECORD_OCTETS, STATE_WORDS};
 use crate::shared::random::Random;
-use crate::shared::streams::{likely_event, record, EventOctets};
+use crate::shared::streams::{likely_event, EventOctets};
 use crate::sides::Call;
 use crate::stream::Stream;
 use crate::traces;
@@ -41,7 +41,7 @@ pub struct Words {
 /// All workloads of a call, in the order of its table.
 pub fn of(call: Call) -> Vec<Workload> {
     match call {
-        Call::Single | Call::Run => events(),
+        Call::Single | Call::Run | Call::Replay => events(),
         Call::Line => vec![
             settings("f  words handed over", traces::words_handed_over()),
             settings("g  mixed settings", traces::mixed()),
@@ -135,7 +135,7 @@ fn mixed(name: &'static str, cylinders: u16) -> Workload {
     let mut drive = stream.words.clone();
     for _ in 0..16_384 {
         let event = drive.likely_event(&mut stream.random);
-        stream.records.push(record(0, event));
+        stream.push_event(event);
     }
     stream.named(name)
 }
@@ -195,7 +195,7 @@ impl Workload {
     /// How many calls, records of calls, or octets of a map one cycle has.
     pub fn requests(&self, call: Call) -> usize {
         match call {
-            Call::Single | Call::Run => self.records.len(),
+            Call::Single | Call::Run | Call::Replay => self.records.len(),
             Call::Line => self.settings.len(),
             Call::Map => self.map.as_ref().map_or(0, |map| map.octets.len()),
         }
