@@ -8,7 +8,7 @@ use Rattle.parts.specs.Setup.{withinLimits, allWords}
 use Rattle.parts.specs.declared.event.Event.{Event}
 use Rattle.drive.specs.Refusal.{row10}
 use Rattle.drive.specs.Power.{atRest, PoweredUp}
-use Rattle.drive.specs.Run.{answers}
+use Rattle.drive.specs.Run.{answers, final}
 use Rattle.drive.specs.Cases.{bench}
 use Rattle.drive.specs.StaysSound.{Never11Or10}
 use Rattle.drive.specs.declared.power.Powered.{Powered}
@@ -16,6 +16,7 @@ use Rattle.drive.specs.declared.power.Powered.the-variants.{Up}
 use Rattle.drive.proofs.Only.{power-up-only}
 use Rattle.drive.proofs.Calls.{demand-3-of-calls}
 use Rattle.drive.proofs.StaysSound.{stays-sound}
+use Rattle.drive.proofs.Along.{sound-along}
 use Rattle.bench.specs.Run.{benchAtRest}
 
 within-limits : withinLimits bench ≡ true
@@ -29,5 +30,7 @@ has-room = refl
 pub bench-is-up : {r : Powered} → PoweredUp bench (replicate 48 0) (replicate 4 0) r → r ≡ Up (atRest bench)
 bench-is-up p = power-up-only p (demand-3-of-calls .powered bench (replicate 48 0) (replicate 4 0) within-limits has-room)
 
-pub bench-answers : (events : List Event) → Never11Or10 (answers benchAtRest events)
-bench-answers events = stays-sound .never-11-or-10 benchAtRest events (stays-sound .atRest bench (replicate 48 0) (replicate 4 0) within-limits has-room)
+pub bench-answers : (before events : List Event) → Never11Or10 (answers (final benchAtRest before) events)
+bench-answers before events =
+    stays-sound .never-11-or-10 (final benchAtRest before) events
+    (sound-along benchAtRest before (stays-sound .atRest bench (replicate 48 0) (replicate 4 0) within-limits has-room))

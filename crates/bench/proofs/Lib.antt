@@ -5,6 +5,7 @@ pub mod Told
 pub mod Parted
 pub mod Bench
 pub mod Size
+pub mod PartSize
 pub mod Captured
 pub mod Fits
 pub mod Cases

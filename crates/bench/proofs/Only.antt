@@ -1,4 +1,4 @@
--- No second answer: two outcomes that satisfy what `replay` promises are equal, the answer and all octets of the slice.
+-- No second answer: two outcomes that satisfy what `replay`, or `replay_part`, promises are equal, the answer and all octets of the slice.
 -- Assumes nothing.
 use mathlib.Core.Path.{_≡_}
 use mathlib.Core.List.{List}
@@ -7,5 +7,5 @@ use Rattle.laws.proofs.Only.{answer-only}
 use Rattle.bench.specs.Report.{Reported}
 use Rattle.bench.specs.declared.report.Replayed.{Replayed}
 
-pub replay-only : (octets before after after′ : List ℕ) (r s : Replayed) → Reported octets before after r → Reported octets before after′ s → (r ≡ s) × (after ≡ after′)
-replay-only octets before after after′ r s p q = (answer-only (p .answer) (q .answer), answer-only (p .slice) (q .slice))
+pub replay-only : (report before after after′ : List ℕ) (r s : Replayed) → Reported report before after r → Reported report before after′ s → (r ≡ s) × (after ≡ after′)
+replay-only report before after after′ r s p q = (answer-only (p .answer) (q .answer), answer-only (p .slice) (q .slice))

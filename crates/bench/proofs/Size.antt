@@ -13,6 +13,7 @@ use Rattle.capture.specs.Record.{recordOf}
 use Rattle.drive.specs.Answer.{refusalIn}
 use Rattle.drive.specs.Run.{answers, final}
 use Rattle.drive.specs.StaysSound.{Never11Or10}
+use Rattle.parts.specs.declared.event.Event.{Event}
 use Rattle.drive.specs.declared.answer.Answer.{Answer}
 use Rattle.bench.specs.Text.{newline, decimal, field, numberedLine}
 use Rattle.bench.specs.Line.{ownerWord, lineOf, ownerLine}
@@ -22,7 +23,7 @@ use Rattle.bench.proofs.Digits.{decimal-size}
 use Rattle.bench.proofs.Lines.{line-size, run-report}
 use Rattle.bench.proofs.Bench.{bench-answers}
 
-field-size : (size n : ℕ) → n < 10 ^ suc size → length (field n) ≤ suc size + 1
+pub field-size : (size n : ℕ) → n < 10 ^ suc size → length (field n) ≤ suc size + 1
 field-size size n h = omega (arith, length-append (decimal n) (0x20 ∷ []), decimal-size size n h)
 
 pub numbered-size : (word : List ℕ) (size n : ℕ) → n < 10 ^ suc size → length (numberedLine word n) ≤ length word + suc size + 1
@@ -30,11 +31,11 @@ unfolding numberedLine
 numbered-size word size n h =
     omega (arith, length-append (word ++ decimal n) (newline ∷ []), length-append word (decimal n), decimal-size size n h)
 
-port-size : (octets : List ℕ) → AllOctets octets → length (field (eventOf octets .port)) ≤ 4
+pub port-size : (octets : List ℕ) → AllOctets octets → length (field (eventOf octets .port)) ≤ 4
 unfolding eventOf recordOf
 port-size octets all = field-size 2 _ (omega (arith, all 2))
 
-owner-size : (owner : ℕ) → length (ownerLine owner) ≤ 11
+pub owner-size : (owner : ℕ) → length (ownerLine owner) ≤ 11
 unfolding ownerLine
 owner-size owner =
     let Fits : List ℕ → Type 0 = λ name. length (ownerWord ++ name ++ (newline ∷ [])) ≤ 11 in
@@ -58,7 +59,11 @@ lines-size (suc count) number octets (answer ∷ told) all never h =
       later,
     )
 
-pub run-size : (records : List ℕ) → AllOctets records → length records ≤ 65528 → length (runReport records) ≤ 114697
+rests : (events : List Event) → Never11Or10 (answers benchAtRest events)
+unfolding final
+rests events = bench-answers [] events
+
+pub run-size : (records : List ℕ) → AllOctets records → length records ≤ 65528 → length (runReport records) ≤ 163850
 unfolding linesOfRun
 run-size records all h =
     let count = length records / 8 in
@@ -71,6 +76,6 @@ run-size records all h =
       length-append (numberedLine eventsWord count) (linesOfRun 1 benchAtRest events),
       length-append lines (ownerLine owner),
       numbered-size eventsWord 3 count (omega arith),
-      lines-size count 1 records (answers benchAtRest events) all (bench-answers events) (omega arith),
+      lines-size count 1 records (answers benchAtRest events) all (rests events) (omega arith),
       owner-size owner,
     )

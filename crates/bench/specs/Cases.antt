@@ -3,7 +3,9 @@ use Prim.Native.Nat.{ℕ}
 use mathlib.Core.Path.{_≡_}
 use mathlib.Core.List.{List, [], _∷_, _++_}
 use Rattle.capture.specs.Cases.{threeEvents, itsTrailer}
-use Rattle.bench.specs.Report.{reportOf}
+use Rattle.bench.specs.Report.{badArguments, reportOf, partReportOf}
+use Rattle.bench.specs.declared.report.Wanted.the-variants.{All}
+use Rattle.numbers.specs.Number.{numberIn}
 
 -- "`events 3`, `1 0 0 --`, `2 1 6 --`, `3 0 0 --`, `owner none`, a line each"
 abbrev pub itsReport : List ℕ
@@ -19,7 +21,30 @@ itsReport =
 abbrev pub refused12 : List ℕ
 refused12 = 0x72 ∷ 0x65 ∷ 0x66 ∷ 0x75 ∷ 0x73 ∷ 0x65 ∷ 0x64 ∷ 0x20 ∷ 0x31 ∷ 0x32 ∷ 0x0A ∷ []
 
+-- The same capture stopped after two events: `ran 2`, `1 0 0 -- 0`, `2 1 6 -- 5`, `owner 0`, `next 2`, a line each; and continued there.
+abbrev pub itsFirstPart : List ℕ
+itsFirstPart =
+    0x72 ∷ 0x61 ∷ 0x6E ∷ 0x20 ∷ 0x32 ∷ 0x0A
+    ∷ 0x31 ∷ 0x20 ∷ 0x30 ∷ 0x20 ∷ 0x30 ∷ 0x20 ∷ 0x2D ∷ 0x2D ∷ 0x20 ∷ 0x30 ∷ 0x0A
+    ∷ 0x32 ∷ 0x20 ∷ 0x31 ∷ 0x20 ∷ 0x36 ∷ 0x20 ∷ 0x2D ∷ 0x2D ∷ 0x20 ∷ 0x35 ∷ 0x0A
+    ∷ 0x6F ∷ 0x77 ∷ 0x6E ∷ 0x65 ∷ 0x72 ∷ 0x20 ∷ 0x30 ∷ 0x0A
+    ∷ 0x6E ∷ 0x65 ∷ 0x78 ∷ 0x74 ∷ 0x20 ∷ 0x32 ∷ 0x0A
+    ∷ []
+
+-- `ran 1`, `3 0 0 -- 4`, `owner none`, `end`.
+abbrev pub itsSecondPart : List ℕ
+itsSecondPart =
+    0x72 ∷ 0x61 ∷ 0x6E ∷ 0x20 ∷ 0x31 ∷ 0x0A
+    ∷ 0x33 ∷ 0x20 ∷ 0x30 ∷ 0x20 ∷ 0x30 ∷ 0x20 ∷ 0x2D ∷ 0x2D ∷ 0x20 ∷ 0x34 ∷ 0x0A
+    ∷ 0x6F ∷ 0x77 ∷ 0x6E ∷ 0x65 ∷ 0x72 ∷ 0x20 ∷ 0x6E ∷ 0x6F ∷ 0x6E ∷ 0x65 ∷ 0x0A
+    ∷ 0x65 ∷ 0x6E ∷ 0x64 ∷ 0x0A
+    ∷ []
+
 pub record ReplayCases : Type 0 where
-  pub three : reportOf (threeEvents ++ itsTrailer) ≡ itsReport
+  pub three : reportOf All (threeEvents ++ itsTrailer) ≡ itsReport
   -- No octets at all are a "capture under 8 octets".
-  pub empty : reportOf [] ≡ refused12
+  pub empty : reportOf All [] ≡ refused12
+  pub stopped : partReportOf (numberIn (0x30 ∷ [])) (numberIn (0x32 ∷ [])) (threeEvents ++ itsTrailer) ≡ itsFirstPart
+  pub continued : partReportOf (numberIn (0x32 ∷ [])) (numberIn (0x39 ∷ [])) (threeEvents ++ itsTrailer) ≡ itsSecondPart
+  -- An argument that is no number.
+  pub unclear : partReportOf (numberIn []) (numberIn (0x32 ∷ [])) (threeEvents ++ itsTrailer) ≡ badArguments

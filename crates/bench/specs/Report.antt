@@ -1,4 +1,4 @@
--- The report of a capture, and the promise of `replay`.
+-- The report of a capture, or of a part of it, and the promises of `replay` and `replay_part`.
 use Prim.Native.Nat.{ℕ}
 use mathlib.Core.Path.{_≡_}
 use mathlib.Core.List.{List, [], _∷_}
@@ -8,8 +8,13 @@ use Rattle.laws.specs.Pick.{pick}
 use Rattle.laws.specs.Rows.{Row, first, _when_, unlessRefused, Paper, refusedWith, tells, refusedOr}
 use Rattle.laws.specs.Lists.{writtenOver}
 use Rattle.capture.specs.Capture.{captureRefusal, recordsOf}
+use Rattle.numbers.specs.declared.number.Number.{Number}
+use Rattle.numbers.specs.declared.number.Number.the-variants.{Is, Not}
 use Rattle.bench.specs.Text.{numberedLine}
 use Rattle.bench.specs.Run.{runReport}
+use Rattle.bench.specs.Part.{partReport}
+use Rattle.bench.specs.declared.report.Wanted.{Wanted}
+use Rattle.bench.specs.declared.report.Wanted.the-variants.{All, Stretch}
 use Rattle.bench.specs.declared.report.Replayed.{Replayed}
 use Rattle.bench.specs.declared.report.Replayed.the-variants.{Text, Refused}
 
@@ -21,21 +26,36 @@ tooLong = 0x74 ∷ 0x6F ∷ 0x6F ∷ 0x20 ∷ 0x6C ∷ 0x6F ∷ 0x6E ∷ 0x67 �
 abbrev pub refusedWord : List ℕ
 refusedWord = 0x72 ∷ 0x65 ∷ 0x66 ∷ 0x75 ∷ 0x73 ∷ 0x65 ∷ 0x64 ∷ 0x20 ∷ []
 
+-- "bad arguments", and a newline.
+abbrev pub badArguments : List ℕ
+badArguments = 0x62 ∷ 0x61 ∷ 0x64 ∷ 0x20 ∷ 0x61 ∷ 0x72 ∷ 0x67 ∷ 0x75 ∷ 0x6D ∷ 0x65 ∷ 0x6E ∷ 0x74 ∷ 0x73 ∷ 0x0A ∷ []
+
+-- All of the records, or those from one on and at most so many.
+abbrev pub runOf : Wanted → List ℕ → List ℕ
+runOf All records = runReport records
+runOf (Stretch from limit) records = partReport from limit records
+
 -- "writes only `refused N` for a capture refused with N"
-unfoldable pub captureReport : List ℕ → List ℕ
-captureReport octets =
-    unlessRefused (captureRefusal octets) (numberedLine refusedWord (captureRefusal octets)) (runReport (recordsOf octets))
+unfoldable pub captureReport : Wanted → List ℕ → List ℕ
+captureReport wanted octets =
+    unlessRefused (captureRefusal octets) (numberedLine refusedWord (captureRefusal octets)) (runOf wanted (recordsOf octets))
 
 -- "only `too long` for more than 65,536 octets": whatever they are.
-unfoldable pub reportOf : List ℕ → List ℕ
-reportOf octets = pick (ltb 65536 (length octets)) tooLong (captureReport octets)
+unfoldable pub reportOf : Wanted → List ℕ → List ℕ
+reportOf wanted octets = pick (ltb 65536 (length octets)) tooLong (captureReport wanted octets)
+
+-- M-103, of the arguments FROM and LIMIT: where they are not two numbers, that is said and nothing else, before the capture is looked at.
+abbrev pub partReportOf : Number → Number → List ℕ → List ℕ
+partReportOf (Is from) (Is limit) octets = reportOf (Stretch from limit) octets
+partReportOf (Is from) Not octets = badArguments
+partReportOf Not limit octets = badArguments
 
 -- 10: "a lent slice too short"
-abbrev pub replayRows : List ℕ → List ℕ → List Row
-replayRows octets slice = 10 when ltb (length slice) (length (reportOf octets)) ∷ []
+abbrev pub reportRows : List ℕ → List ℕ → List Row
+reportRows report slice = 10 when ltb (length slice) (length report) ∷ []
 
-abbrev pub replayRefusal : List ℕ → List ℕ → ℕ
-replayRefusal octets slice = first (replayRows octets slice)
+abbrev pub reportRefusal : List ℕ → List ℕ → ℕ
+reportRefusal report slice = first (reportRows report slice)
 
 -- The answer on paper: the number of the refusal, or how many octets the report has.
 abbrev pub paper : Replayed → Paper ℕ
@@ -43,13 +63,13 @@ paper (Text size) = tells size
 paper (Refused n) = refusedWith n
 
 abbrev pub replayedAs : List ℕ → List ℕ → Replayed
-replayedAs octets slice = unlessRefused (replayRefusal octets slice) (Refused (replayRefusal octets slice)) (Text (length (reportOf octets)))
+replayedAs report slice = unlessRefused (reportRefusal report slice) (Refused (reportRefusal report slice)) (Text (length report))
 
--- The promise of `replay`: the answer, and all octets of the slice.
-pub record Reported (octets before after : List ℕ) (r : Replayed) : Type 0 where
-  pub answer : r ≡ replayedAs octets before
-  pub on-paper : paper r ≡ refusedOr (replayRows octets before) (length (reportOf octets))
-  pub slice : after ≡ unlessRefused (replayRefusal octets before) before (writtenOver before (reportOf octets))
+-- The promise of a call that puts a report at the front of a slice: the answer, and all octets of the slice.
+pub record Reported (report before after : List ℕ) (r : Replayed) : Type 0 where
+  pub answer : r ≡ replayedAs report before
+  pub on-paper : paper r ≡ refusedOr (reportRows report before) (length report)
+  pub slice : after ≡ unlessRefused (reportRefusal report before) before (writtenOver before report)
 
 -- The number that an answer refuses with, 0 where it refuses nothing.
 abbrev pub refusalIn : Replayed → ℕ

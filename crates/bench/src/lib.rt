@@ -1,4 +1,4 @@
-// The bench: a capture replayed on the bench drive, and the text of its report.
+// The bench: a capture replayed on the bench drive, or a part of it, and the text of the report.
 mod line;
 mod part;
 mod report;
@@ -8,3 +8,4 @@ mod text;
 pub use report::LONGEST_REPORT;
 pub use report::Replayed;
 pub use report::replay;
+pub use report::replay_part;
