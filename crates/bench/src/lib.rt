@@ -7,5 +7,6 @@ mod text;
 
 pub use report::LONGEST_REPORT;
 pub use report::Replayed;
+pub use report::Wanted;
 pub use report::replay;
 pub use report::replay_part;

@@ -18,7 +18,8 @@ pub enum Replayed {
     Refused(u8),
 }
 
-pub(crate) enum Wanted {
+// What of a capture is replayed.
+pub enum Wanted {
     All,
     // From the record with this index on, at most so many.
     Stretch(u32, u32),

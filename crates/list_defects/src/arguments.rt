@@ -1,6 +1,9 @@
 // The set-up that the arguments give.
 use numbers::Number;
 use parts::Setup;
+ghost use mathlib.Core.Path.{_≡_};
+ghost use lib.Dec.{leb};
+ghost use Rattle.laws.specs.Pick.{pick};
 
 pub(crate) enum Arguments {
     Good(Setup),
@@ -43,7 +46,9 @@ fn argument(index: usize) -> u16 {
     }
 }
 
-fn word_of(number: u32) -> u16 {
+fn word_of(number: u32) -> u16
+    ensures { λ r. ⌜ r ≡ pick (leb number 65535) number 0 ⌝ }
+{
     if number <= u16::MAX as u32 {
         return number as u16;
     }

@@ -1,18 +1,19 @@
--- From what `replay_part` answers to the promise of `pg_replay`.
+-- From what `replay_part` answers to the promise of `pg_replay`, and back.
 -- Assumes nothing.
 use Prim.Native.Nat.{ℕ, _<_, _≤_}
 use mathlib.Core.Path.{_≡_, refl, sym, ap, _∙_}
 use mathlib.Core.List.{List, [], _∷_}
 use native.Mathlib.Omega.{arith}
 use borrow.Author.Tests.{lt-ltb, le-ltb}
-use lib.ListN.{length, set}
+use lib.Dec.{ltb}
+use lib.ListN.{length, getD, set}
 use Rattle.laws.specs.Pick.{pick}
 use Rattle.laws.specs.Rows.{unlessRefused}
 use Rattle.laws.specs.Lists.{writtenOver}
-use Rattle.laws.proofs.Rows.{reported, none-given, accepted, declined}
+use Rattle.laws.proofs.Rows.{reported, none-given, accepted, declined, rows-rest}
 use Rattle.events.specs.Part.{partOf, partRows, partRefusal, refusalIn, PartOnWords}
 use Rattle.events.specs.declared.part.Part.the-variants.{Ran, Refused}
-use Rattle.pantoglide.specs.Replay.{replayRefusal, ReplayOnWords}
+use Rattle.pantoglide.specs.Replay.{replayRefusal, ReplayOnWords, ReplayIsPart}
 
 -- no room for the number
 pub no-number : (state records : List ℕ) (from limit : ℕ) (sectors staging answers gaps ran : List ℕ) → length ran < 1
@@ -63,4 +64,13 @@ replay-refused {state} {records} {from} {limit} {answers = answers} {gaps} {ran}
       answers = p .answers;
       gaps = p .gaps;
       ran = rw number (sym (declined rows Refused (Refused n) there ran (writtenOver ran (length (partOf records from limit) ∷ [])) (λ e. cc) (p .answer)));
+    }
+
+pub replay-is-part : ReplayIsPart
+replay-is-part =
+    record {
+      same = λ {state} {records} {from} {limit} {answers = answers} {gaps} {ran = ran} h.
+          let rest = rows-rest (ltb (length ran) 1) 9 (partRefusal state records from limit answers gaps) (sym (h .refusal)) in
+          let count = ap (λ (l : List ℕ). getD l 0 0) (h .ran) in
+          record { answer = rw (rest, count); on-paper = rw (rest, count); state = h .state; sectors = h .sectors; staging = h .staging; answers = h .answers; gaps = h .gaps };
     }

@@ -1,4 +1,4 @@
--- The wrong answers of `replay_input` break its promise.
+-- The wrong answers of `replay_input` and `part_input` break their promises.
 -- Assumes nothing.
 use mathlib.Core.Path.{refl, ap}
 use mathlib.Core.List.{List}
@@ -17,4 +17,6 @@ wrong-answers =
     record {
       nothingTold = λ h. told-apart 0 0x72 refl (ap (λ (text : List ℕ). getD text 0 0) (h .told .slice));
       countBeyondTheSlice = λ h. omega (arith, h .few);
+      badArgumentsNotTold = λ h. told-apart 0 0x62 refl (ap (λ (text : List ℕ). getD text 0 0) (h .told .slice));
+      partNotTold = λ h. told-apart 0 0x72 refl (ap (λ (text : List ℕ). getD text 0 0) (h .told .slice));
     }

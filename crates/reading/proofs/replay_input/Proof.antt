@@ -10,20 +10,19 @@ use borrow.Author.Needs.{needs}
 use Rattle.reading.proofs.replay_input.Statement.{statement}
 use Rattle.reading.proofs.replay_input.Tie as tie
 
-read-full-requires : tie.Need-read-full-requires
-read-full-requires c κs = search needs
+read-if-requires : tie.Need-read-if-requires
+read-if-requires c κs = search needs
 
-slice-aggregate-read : tie.Need-slice-aggregate-read
-slice-aggregate-read c = search needs
-
-read-requires : tie.Need-read-requires
-read-requires c κs = search needs
+is-at-end-if-requires : tie.Need-is-at-end-if-requires
+is-at-end-if-requires c κs = search needs
 
 slice-reshare-prefix-replay : tie.Need-slice-reshare-prefix-replay
 slice-reshare-prefix-replay c = search needs
 
 slice-aggregate-replay : tie.Need-slice-aggregate-replay
-slice-aggregate-replay c = search needs
+slice-aggregate-replay c =
+    let read : tie.After-read-if = search in
+    sym (length-take-le _ _ (read .read-if .ensures))
 
 replay-requires : tie.Need-replay-requires
 replay-requires c κs = search needs
@@ -31,17 +30,22 @@ replay-requires c κs = search needs
 enum-known-size : tie.Need-enum-known-size
 enum-known-size c = search needs
 
--- a text that is told lies in the slice
-within : (c : tie.After-size) → c .size .given .0 .0 ≤ length (c .before .before .before .before .replay .last .1 .0)
-within c =
-    let called = c .before .before .before .before in
-    omega (arith, called .replay .kept .1 .0, told-within (rw (c .size .given .1) at (called .replay .ensures)))
+slice-aggregate-put-out : tie.Need-slice-aggregate-put-out
+slice-aggregate-put-out c = search needs
 
 slice-reshare-prefix-put-out : tie.Need-slice-reshare-prefix-put-out
-slice-reshare-prefix-put-out c = within (c .before)
+slice-reshare-prefix-put-out c =
+    let called : tie.After-replay = search in
+    let size : tie.After-size = search in
+    let within = told-within (rw (size .size .given .1) at (called .replay .ensures)) in
+    omega (arith, called .replay .kept .1 .0, within)
 
-slice-aggregate-put-out : tie.Need-slice-aggregate-put-out
-slice-aggregate-put-out c = sym (length-take-le _ _ (within (c .before .before)))
+slice-aggregate-put-out-2 : tie.Need-slice-aggregate-put-out-2
+slice-aggregate-put-out-2 c =
+    let called : tie.After-replay = search in
+    let size : tie.After-size = search in
+    let within = told-within (rw (size .size .given .1) at (called .replay .ensures)) in
+    sym (length-take-le _ _ (omega (arith, called .replay .kept .1 .0, within)))
 
 put-out-requires : tie.Need-put-out-requires
 put-out-requires c κs = search needs
@@ -71,15 +75,15 @@ pub replay-input-spec : {M : Type 1} → statement M
 replay-input-spec =
     tie.close
     (tie.spec
-    read-full-requires
-    slice-aggregate-read
-    read-requires
+    read-if-requires
+    is-at-end-if-requires
     slice-reshare-prefix-replay
     slice-aggregate-replay
     replay-requires
     enum-known-size
-    slice-reshare-prefix-put-out
     slice-aggregate-put-out
+    slice-reshare-prefix-put-out
+    slice-aggregate-put-out-2
     put-out-requires
     enum-told
     same-length
