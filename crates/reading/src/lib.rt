@@ -9,7 +9,7 @@ ghost use lib.ListN.{length};
 ghost use Rattle.numbers.specs.Number.{numberIn};
 ghost use Rattle.bench.specs.Report.{reportOf, partReportOf};
 ghost use Rattle.bench.specs.declared.report.Wanted.the-variants.{All};
-ghost use Rattle.reading.specs.Input.{InputReplayed};
+ghost use Rattle.reading.specs.Input.{sizeTold, InputReplayed};
 
 // The longest capture has 65,536 octets. One more is read, so that a longer one shows: if no more were read than may be there, the front of a capture
 // that is too long would be replayed as if it were whole.
@@ -21,11 +21,8 @@ pub fn replay_input(octets: &mut [u8], text: &mut [u8]) -> usize
 {
     let count = read_if(true, octets);
     let whole = is_at_end_if(true);
-    match bench::replay(&octets[..count], text) {
-        Replayed::Text(size) => put_out(b"replay", whole, &text[..size]),
-        // A text that is too short for the report.
-        Replayed::Refused(_) => {}
-    }
+    let replayed = bench::replay(&octets[..count], text);
+    tell(b"replay", whole, replayed, &text[..]);
     count
 }
 
@@ -36,11 +33,8 @@ pub fn part_input(from: &[u8], limit: &[u8], octets: &mut [u8], text: &mut [u8])
     let wanted = is_number(from) & is_number(limit);
     let count = read_if(wanted, octets);
     let whole = is_at_end_if(wanted);
-    match bench::replay_part(from, limit, &octets[..count], text) {
-        Replayed::Text(size) => put_out(b"part", whole, &text[..size]),
-        // A text that is too short for the report.
-        Replayed::Refused(_) => {}
-    }
+    let replayed = bench::replay_part(from, limit, &octets[..count], text);
+    tell(b"part", whole, replayed, &text[..]);
     count
 }
 
@@ -67,6 +61,16 @@ fn is_at_end_if(wanted: bool) -> bool {
     }
     let mut more: [u8; 1] = [0];
     0 <= libc::read(STDIN_FILENO, &mut more)
+}
+
+fn tell(program: &[u8], whole: bool, replayed: Replayed, text: &[u8])
+    requires { ⌜ sizeTold replayed ≤ length (now text) ⌝ }
+{
+    match replayed {
+        Replayed::Text(size) => put_out(program, whole, &text[..size]),
+        // A text that is too short for the report.
+        Replayed::Refused(_) => {}
+    }
 }
 
 // A failed read is not a short capture, and a failed write is not a success: a line on standard error says so.

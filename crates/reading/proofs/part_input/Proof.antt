@@ -1,11 +1,9 @@
 -- `reading::part_input` meets its contract: the text is the report of the octets that were read.
 -- Assumes nothing.
-use Prim.Native.Nat.{_≤_}
 use mathlib.Core.Path.{sym}
 use native.Mathlib.Omega.{arith}
-use lib.ListN.{length}
 use lib.Seq.{length-take-le}
-use Rattle.bench.proofs.Fits.{told-within}
+use Rattle.reading.proofs.Within.{size-within}
 use borrow.Author.Needs.{needs}
 use Rattle.reading.proofs.part_input.Statement.{statement}
 use Rattle.reading.proofs.part_input.Tie as tie
@@ -33,31 +31,13 @@ slice-aggregate-replay-part c =
 replay-part-requires : tie.Need-replay-part-requires
 replay-part-requires c κs = search needs
 
-enum-known-size : tie.Need-enum-known-size
-enum-known-size c = search needs
+slice-aggregate-tell : tie.Need-slice-aggregate-tell
+slice-aggregate-tell c = search needs
 
-slice-aggregate-put-out : tie.Need-slice-aggregate-put-out
-slice-aggregate-put-out c = search needs
-
-slice-reshare-prefix-put-out : tie.Need-slice-reshare-prefix-put-out
-slice-reshare-prefix-put-out c =
+tell-requires : tie.Need-tell-requires
+tell-requires c κs =
     let called : tie.After-replay-part = search in
-    let size : tie.After-size = search in
-    let within = told-within (rw (size .size .given .1) at (called .replay-part .ensures)) in
-    omega (arith, called .replay-part .kept .1 .1 .1 .0, within)
-
-slice-aggregate-put-out-2 : tie.Need-slice-aggregate-put-out-2
-slice-aggregate-put-out-2 c =
-    let called : tie.After-replay-part = search in
-    let size : tie.After-size = search in
-    let within = told-within (rw (size .size .given .1) at (called .replay-part .ensures)) in
-    sym (length-take-le _ _ (omega (arith, called .replay-part .kept .1 .1 .1 .0, within)))
-
-put-out-requires : tie.Need-put-out-requires
-put-out-requires c κs = search needs
-
-enum-told : tie.Need-enum-told
-enum-told c = search needs
+    omega (arith, called .replay-part .kept .1 .1 .1 .0, size-within _ (called .replay-part .ensures))
 
 same-length : tie.Need-same-length
 same-length c = search needs
@@ -67,15 +47,6 @@ same-length-2 c = search needs
 
 returns : tie.Need-returns
 returns c = search needs
-
-same-length-3 : tie.Need-same-length-3
-same-length-3 c = search needs
-
-same-length-4 : tie.Need-same-length-4
-same-length-4 c = search needs
-
-returns-2 : tie.Need-returns-2
-returns-2 c = search needs
 
 pub part-input-spec : {M : Type 1} → statement M
 part-input-spec =
@@ -88,15 +59,8 @@ part-input-spec =
     slice-reshare-prefix-replay-part
     slice-aggregate-replay-part
     replay-part-requires
-    enum-known-size
-    slice-aggregate-put-out
-    slice-reshare-prefix-put-out
-    slice-aggregate-put-out-2
-    put-out-requires
-    enum-told
+    slice-aggregate-tell
+    tell-requires
     same-length
     same-length-2
-    returns
-    same-length-3
-    same-length-4
-    returns-2)
+    returns)
