@@ -22,7 +22,7 @@
 #include "depth.h"
 #include "script.h"
 
-enum { SECTOR_WORDS = HEADER + FIELD_1 + FIELD_2, RANDOM_CALLS = 20000 };
+enum { SECTOR_WORDS = HEADER + FIELD_1 + FIELD_2, RANDOM_CALLS = 20000, MANY = 24 };
 #define DRIVE_WORDS (CYLINDERS * HEADS * SECTORS * SECTOR_WORDS)
 #define LENGTH(array) (sizeof(array) / sizeof(array)[0])
 
@@ -34,6 +34,8 @@ static uint16_t *const state = drive.state;
 static uint16_t answer[PG_ANSWER_WORDS], staging[SECTOR_WORDS];
 static uint16_t gap[1];
 static uint64_t ran[1];
+static uint8_t many_records[MANY * PG_RECORD_OCTETS];
+static uint16_t many_answers[MANY * PG_ANSWER_WORDS], many_gaps[MANY];
 static uint8_t setting, record[PG_RECORD_OCTETS], two_records[2 * PG_RECORD_OCTETS];
 static uint8_t capture[2 * PG_RECORD_OCTETS + PG_TRAILER_OCTETS];
 static size_t state_length, sector_length, answer_length, record_length, follower_length;
@@ -60,6 +62,13 @@ static void replay(void) {
     CALL(replay)(state, state_length, two_records, two_records_length, from, limit, drive.sectors,
                  sector_length, staging, LENGTH(staging), answer, answer_length, gap, gap_length,
                  ran, ran_length);
+}
+
+/* As many as the archive makes gaps of at a time, and more. */
+static void replay_many(void) {
+    CALL(replay)(state, state_length, many_records, sizeof many_records, 0, MANY, drive.sectors,
+                 sector_length, staging, LENGTH(staging), many_answers, LENGTH(many_answers),
+                 many_gaps, MANY, ran, ran_length);
 }
 
 static void line(void) {
@@ -155,6 +164,7 @@ static void parts(void) {
     }
     from = limit = SIZE_MAX;
     note(&deepest_replay, replay);
+    note(&deepest_replay, replay_many);
     whole_slices();
 }
 

@@ -19,7 +19,7 @@
  * The most stack that a call takes, in octets, its return address included and its arguments not:
  *
  *     pg_power_up 24          pg_event 296          pg_run 232        pg_line 1032
- *     pg_capture 8            pg_make_capture 8     pg_replay TODO-STACK
+ *     pg_capture 8            pg_make_capture 8     pg_replay 280
  *     pg_decode_map 5392      pg_encode_map 3008    pg_read_map 5392  pg_write_map 3008
  *     pg_decode_defect 8      pg_encode_defect 16   pg_map_place 8
  *

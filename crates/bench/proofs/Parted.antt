@@ -1,6 +1,6 @@
 -- A part over the bench drive: the words that `replay_part` tells make the report.
 -- Assumes nothing.
-use Prim.Native.Nat.{ℕ, zero, suc, _+_, _-_, _*_, _/_, _%_, _≤_}
+use Prim.Native.Nat.{ℕ, _+_, _-_, _*_, _%_, _≤_}
 use mathlib.Core.Path.{_≡_, refl, sym, ap, ap₂, _∙_}
 use mathlib.Core.Bool.{true}
 use mathlib.Core.List.{List, [], _∷_, _++_, append-assoc}
@@ -12,7 +12,6 @@ use Rattle.laws.specs.Lists.{writtenOver, oneOf}
 use Rattle.laws.specs.Pick.{pick}
 use Rattle.laws.proofs.Lists.{each-one-of}
 use Rattle.parts.specs.declared.setup.Setup.{Setup}
-use Rattle.parts.specs.declared.event.Event.{Event}
 use Rattle.drive.specs.Answer.{paper}
 use Rattle.drive.specs.Run.{Machine, machine, answers, final}
 use Rattle.drive.specs.AnswerWords.{answerWords, wordsOfAnswers}
@@ -78,7 +77,7 @@ pub record Up (state : List ℕ) : Type 0 where
   pub long : 21 ≤ length state
   pub rests : machineIn state (replicate 48 0) (replicate 4 0) ≡ benchAtRest
 
-pub bench-up : {r : ℕ} {state : List ℕ} → PoweredUpOnWords bench (replicate 48 0) (replicate 4 0) (replicate 21 0) r state → Up state
+bench-up : {r : ℕ} {state : List ℕ} → PoweredUpOnWords bench (replicate 48 0) (replicate 4 0) (replicate 21 0) r state → Up state
 unfolding computing-words
 bench-up p = record { long = rw (p .state) (omega arith); rests = rw (p .state) }
 

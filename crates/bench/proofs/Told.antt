@@ -1,21 +1,15 @@
--- The lines of a part, by the words that were told: what is left after each, how long they are, and that they are the lines of the answers.
+-- The lines of a part, by the words that were told: what is left after each, and how long they are.
 -- Assumes nothing.
-use Prim.Native.Nat.{ℕ, zero, suc, _+_, _-_, _*_, _/_, _<_, _≤_}
-use mathlib.Core.Path.{_≡_, refl, sym, ap, _∙_}
+use Prim.Native.Nat.{ℕ, suc, _+_, _-_, _*_, _/_, _<_}
+use mathlib.Core.Path.{_≡_}
 use mathlib.Core.List.{List, [], _∷_, _++_}
 use native.Mathlib.Omega.{arith}
-use lib.Dec.{eqb}
 use lib.ListN.{length, getD, drop, length-append}
 use lib.Seq.{drop-drop, getD-drop}
-use Rattle.laws.proofs.Pick.{either}
 use Rattle.bench.specs.Text.{space, newline, decimal, numberedLine}
 use Rattle.bench.specs.Line.{eventFields, ownerLine}
 use Rattle.bench.specs.Part.{ranWord, nextLine}
 use Rattle.bench.specs.Told.{statusToldBy, toldLine, toldLines, toldReport}
-
-status-told-size : (word : ℕ) → length (statusToldBy word) ≡ 2
-unfolding statusToldBy
-status-told-size word = either (λ (l : List ℕ). length l ≡ 2) (eqb word 0xFFFF) refl refl
 
 pub told-line-size : (number port refusal status gap : ℕ)
     → length (toldLine number port refusal status gap) ≡ length (eventFields number port refusal (statusToldBy status)) + 1 + length (decimal gap) + 1

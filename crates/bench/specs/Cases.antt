@@ -1,4 +1,4 @@
--- The three events that document 01 writes out, and exactly the report that it gives for them.
+-- The three events that document 01 writes out, and exactly the report that it gives for them; and the reports of two parts of them.
 use Prim.Native.Nat.{ℕ}
 use mathlib.Core.Path.{_≡_}
 use mathlib.Core.List.{List, [], _∷_, _++_}

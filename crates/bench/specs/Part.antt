@@ -13,15 +13,15 @@ use Rattle.bench.specs.Text.{newline, numberedLine}
 use Rattle.bench.specs.Line.{gapLineOf, ownerLine}
 use Rattle.bench.specs.Run.{benchAtRest}
 
--- "ran "
+-- `ran `
 abbrev pub ranWord : List ℕ
 ranWord = 0x72 ∷ 0x61 ∷ 0x6E ∷ 0x20 ∷ []
 
--- "next "
+-- `next `
 abbrev pub nextWord : List ℕ
 nextWord = 0x6E ∷ 0x65 ∷ 0x78 ∷ 0x74 ∷ 0x20 ∷ []
 
--- "end"
+-- `end`, and a newline.
 abbrev pub endLine : List ℕ
 endLine = 0x65 ∷ 0x6E ∷ 0x64 ∷ newline ∷ []
 
@@ -34,7 +34,7 @@ gapLines number (e ∷ events) (answer ∷ told) (gap ∷ gaps) = gapLineOf numb
 
 -- Where the next part begins, or that no record is left.
 unfoldable pub nextLine : ℕ → ℕ → List ℕ
-nextLine records next = pick (ltb next records) (numberedLine nextWord next) endLine
+nextLine count next = pick (ltb next count) (numberedLine nextWord next) endLine
 
 -- The drive after the events before the part.
 abbrev pub benchBefore : List ℕ → ℕ → Machine

@@ -41,7 +41,7 @@ pub record There (from count : ℕ) (records answers gaps : List ℕ) : Type 0 w
   pub told : 13 * count ≤ length answers
   pub gapped : count ≤ length gaps
 
--- what the two calls of a part lead to
+-- What the two calls of a part lead to.
 pub record Made (from limit : ℕ) (records : List ℕ) (r : Part) (state answers gaps : List ℕ) : Type 0 where
   pub ran : r ≡ Ran (length (partOf records from limit))
   pub few : length (partOf records from limit) ≤ recordCount records - from

@@ -21,6 +21,10 @@ eventsLine count = eventsWord ++ (digit count ∷ newline ∷ [])
 abbrev eventLine : ℕ → ℕ → ℕ → List ℕ → List ℕ
 eventLine number port refusal status = digit number ∷ space ∷ digit port ∷ space ∷ digit refusal ∷ space ∷ status ++ (newline ∷ [])
 
+-- A line of a part has a gap behind the status.
+abbrev gapLine : ℕ → ℕ → ℕ → List ℕ → ℕ → List ℕ
+gapLine number port refusal status gap = digit number ∷ space ∷ digit port ∷ space ∷ digit refusal ∷ space ∷ status ++ (space ∷ digit gap ∷ newline ∷ [])
+
 -- The two digits of status 0.
 abbrev zeroStatus : List ℕ
 zeroStatus = digit 0 ∷ digit 0 ∷ []
@@ -43,10 +47,6 @@ Tells octets text = Reported (reportOf All octets) (replicate 64 0) (writtenOver
 -- The same of a part of it.
 abbrev TellsPart : ℕ → ℕ → List ℕ → List ℕ → Type 0
 TellsPart from limit octets text = Reported (partReportOf (Is from) (Is limit) octets) (replicate 64 0) (writtenOver (replicate 64 0) text) (Text (length text))
-
--- A line of a part: the same, and a gap.
-abbrev gapLine : ℕ → ℕ → ℕ → List ℕ → ℕ → List ℕ
-gapLine number port refusal status gap = digit number ∷ space ∷ digit port ∷ space ∷ digit refusal ∷ space ∷ status ++ (space ∷ digit gap ∷ newline ∷ [])
 
 pub record WrongAnswers : Type 0 where
   -- ---- `replay`

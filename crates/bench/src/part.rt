@@ -13,9 +13,11 @@ ghost use Rattle.bench.specs.Told.{toldLines, toldReport, There, Ready, 
 // As many as the longest capture has.
 const MOST_EVENTS: usize = 8_191;
 
+const STATE_WORDS: usize = 21;
+
 const ANSWER_WORDS: usize = 13;
 
-const ALL_ANSWER_WORDS: usize = 106_483;
+const ALL_ANSWER_WORDS: usize = MOST_EVENTS * ANSWER_WORDS;
 
 // In a state.
 const OWNER: usize = 8;
@@ -27,7 +29,7 @@ pub(crate) fn put_part(text: &mut [u8], records: &[u8], from: u32, limit: u32) -
     requires { ⌜ (length (partReport from limit (now records)) ≤ length (now text)) × (length (now records) ≤ 65528) × (length (now records) % 8 ≡ 0) ⌝ }
     ensures { λ r. ⌜ Put (now (text .entry)) 0 (partReport from limit (now (records .entry))) (now (text .exit)) r ⌝ }
 {
-    let mut state = [0u16; 21];
+    let mut state = [0u16; STATE_WORDS];
     let mut sectors = [0u16; 48];
     let mut staging = [0u16; 4];
     let mut answers = [0u16; ALL_ANSWER_WORDS];
@@ -128,11 +130,11 @@ fn put_lines(
     end
 }
 
-fn put_next(text: &mut [u8], at: usize, records: usize, next: usize) -> usize
-    requires { ⌜ at + length (nextLine records next) ≤ length (now text) ⌝ }
-    ensures { λ r. ⌜ Put (now (text .entry)) at (nextLine records next) (now (text .exit)) r ⌝ }
+fn put_next(text: &mut [u8], at: usize, record_count: usize, next: usize) -> usize
+    requires { ⌜ at + length (nextLine «record_count» next) ≤ length (now text) ⌝ }
+    ensures { λ r. ⌜ Put (now (text .entry)) at (nextLine «record_count» next) (now (text .exit)) r ⌝ }
 {
-    if next < records {
+    if next < record_count {
         return text::put_numbered(text, at, b"next ", next);
     }
     text::put(text, at, b"end\n")

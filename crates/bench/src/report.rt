@@ -18,7 +18,7 @@ pub enum Replayed {
     Refused(u8),
 }
 
-// What of a capture is replayed.
+// What of a capture is replayed. The definition of a report takes it.
 pub enum Wanted {
     All,
     // From the record with this index on, at most so many.
@@ -27,7 +27,7 @@ pub enum Wanted {
 
 const LONGEST_CAPTURE: usize = 65_536;
 
-// A part's: the line that counts, 8,191 lines of 20 octets, the owner's line and that of the next part.
+// A part's: the line that counts, 8,191 lines of at most 20 octets, the owner's line and that of the next part.
 pub const LONGEST_REPORT: usize = 163_850;
 
 // The report at the front of `text`, the rest of it as it was. 10 where `text` cannot hold it. The report is made in a buffer

@@ -1,4 +1,4 @@
-// Runs the bench cases of document 01 that are not marked P, the worked cases of M-100 and M-102 and further ones through the
+// Runs the bench cases of document 01 that are not marked P, the worked cases of M-100 and M-102, those of M-103 and further ones through the
 // public calls, and compares.
 mod bench;
 mod by_place;
@@ -14,6 +14,7 @@ mod holding_cases;
 mod ignored_cases;
 mod line_cases;
 mod octets;
+mod part_cases;
 mod power;
 mod reserve_cases;
 mod response_cases;
@@ -44,5 +45,6 @@ fn main() {
     let handed = handed_cases::run(states);
     let statuses = status_cases::run(handed);
     let captures = capture_cases::run(statuses);
-    by_place::run(captures).told();
+    let parts = part_cases::run(captures);
+    by_place::run(parts).told();
 }

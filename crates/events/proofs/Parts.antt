@@ -57,7 +57,7 @@ unfolding gap
 gone-round earlier later r h k e = omega (arith, sym e)
 
 -- the first record's own tick leaves a gap of 0
-pub gap-before : (records : List ℕ) (i : ℕ) → tickAt records (i - 1) < 65536 → gapAt records i ≡ gap (tickAt records (i - 1)) (tickAt records i)
+gap-before : (records : List ℕ) (i : ℕ) → tickAt records (i - 1) < 65536 → gapAt records i ≡ gap (tickAt records (i - 1)) (tickAt records i)
 unfolding gapAt gap
 gap-before records zero h = omega arith
 gap-before records (suc i) h = let e : suc i - 1 ≡ i = omega arith in rw e

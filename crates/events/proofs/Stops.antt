@@ -1,21 +1,23 @@
 -- `stops-on-request`: a replay in parts counts right, and its parts put end to end are one uncut replay.
 -- Assumes nothing.
-use Prim.Native.Nat.{ℕ, _+_, _-_, _*_, _%_, _<_, _≤_, min}
+use Prim.Native.Nat.{ℕ, _+_, _-_, _*_, _%_, _^_, _<_, _≤_}
 use mathlib.Core.Path.{_≡_, refl, sym, ap, ap₂, _∙_}
 use mathlib.Core.List.{List, [], _∷_, _++_, append-assoc}
-use native.Mathlib.Nat.{min-le-left, min-le-right}
+use native.Mathlib.Nat.{min-le-left, min-le-right, le-trans, pow-le-pow-right}
 use native.Mathlib.Omega.{arith}
 use borrow.Author.Tests.{le-ltb, ltb-false, eq-eqb, eqb-true, not-false}
-use lib.ListN.{length, take, drop, length-append, length-take, length-drop, take-append-drop}
-use lib.Seq.{take-add, take-at, take-all, drop-drop, drop-length, drop-append-seam}
+use lib.ListN.{length, take, drop, length-append, length-take, take-append-drop}
+use lib.Seq.{take-add, take-at, take-all, drop-drop, drop-append-seam}
 use Rattle.laws.specs.Lists.{writtenOver}
 use Rattle.laws.proofs.Lists.{length-table}
+use Rattle.laws.specs.Octets.{AllOctets}
+use Rattle.laws.proofs.Octets.{octets-taken, octets-dropped, number-fits}
 use Rattle.laws.proofs.Pick.{not-f}
 use Rattle.laws.proofs.Rows.{accepted, none-given}
 use Rattle.parts.specs.declared.event.Event.{Event}
 use Rattle.drive.specs.Run.{Machine, machine, answers, final}
 use Rattle.drive.specs.AnswerWords.{answerWords, wordsOfAnswers}
-use Rattle.drive.specs.Batch.{eventsOf, recordCount, batchRefusal}
+use Rattle.drive.specs.Batch.{eventsOf, recordCount}
 use Rattle.drive.specs.declared.answer.Answer.{Answer}
 use Rattle.drive.specs.declared.drive.Drive.{Drive}
 use Rattle.drive.proofs.Along.{final-goes-on, answers-go-on}
@@ -23,7 +25,7 @@ use Rattle.drive.proofs.Turns.{thirteen, answer-count, event-count}
 use Rattle.events.specs.State.{driveIn, stateAfter}
 use Rattle.events.specs.Event.{machineIn}
 use Rattle.events.specs.Run.{runRows, RunOnWords}
-use Rattle.events.specs.Part.{part, partOf, gap, gapAt, gapsOf, partRows, partRefusal}
+use Rattle.events.specs.Part.{part, partOf, tickAt, gap, gapAt, gapsOf, partRows, partRefusal}
 use Rattle.events.specs.Stops.{Lending, PartCall, SameDrive, Counts, Joined, Difference, StopsOnRequest}
 use Rattle.events.specs.declared.part.Part.{Part}
 use Rattle.events.specs.declared.part.Part.the-variants.{Ran, Refused}
@@ -63,18 +65,18 @@ abbrev pub machineOf : Lending → Machine
 machineOf w = machineIn (w .state) (w .sectors) (w .staging)
 
 -- what it ran, and what it left
-pub record Went (w : Lending) (records : List ℕ) (from limit n : ℕ) (w′ : Lending) : Type 0 where
-  pub long : 21 ≤ length (w .state)
-  pub whole : length records % 8 ≡ 0
-  pub room : 13 * n ≤ length (w .answers)
-  pub count : n ≡ length (partOf records from limit)
-  pub told : take (13 * n) (w′ .answers) ≡ wordsOfAnswers (answers (machineOf w) (partOf records from limit))
-  pub gapped : take n (w′ .gaps) ≡ part from limit (gapsOf records)
+record Went (w : Lending) (records : List ℕ) (from limit n : ℕ) (w′ : Lending) : Type 0 where
+  long : 21 ≤ length (w .state)
+  whole : length records % 8 ≡ 0
+  room : 13 * n ≤ length (w .answers)
+  count : n ≡ length (partOf records from limit)
+  told : take (13 * n) (w′ .answers) ≡ wordsOfAnswers (answers (machineOf w) (partOf records from limit))
+  gapped : take n (w′ .gaps) ≡ part from limit (gapsOf records)
 
 pub gap-count : (records : List ℕ) (from limit : ℕ) → length (part from limit (gapsOf records)) ≡ length (partOf records from limit)
 gap-count records from limit = ap length (part-gaps records from limit) ∙ length-table (gapAt records) from _ ∙ sym (part-count records from limit)
 
-pub went : {w w′ : Lending} {records : List ℕ} {from limit n : ℕ} → PartCall w records from limit (Ran n) w′ → Went w records from limit n w′
+went : {w w′ : Lending} {records : List ℕ} {from limit n : ℕ} → PartCall w records from limit (Ran n) w′ → Went w records from limit n w′
 went {w} {records = records} {from} {limit} {n} call =
     let events = partOf records from limit in
     let rows = partRows (w .state) records from limit (w .answers) (w .gaps) in
@@ -202,6 +204,14 @@ nothing {w} call =
 
 -- ---- the gap
 
+ticks-fit : (records : List ℕ) → AllOctets records → (i : ℕ) → tickAt records i < 65536
+unfolding tickAt
+ticks-fit records all i =
+    let rest = drop (8 * i) records in
+    let two : length (take 2 rest) ≤ 2 = rw (length-take 2 rest) (min-le-left 2 (length rest)) in
+    let most : 256 ^ length (take 2 rest) ≤ 65536 = pow-le-pow-right (omega arith) two in
+    le-trans (number-fits (take 2 rest) (octets-taken 2 rest (octets-dropped (8 * i) records all))) most
+
 difference : (earlier later : ℕ) → earlier < 65536 → later < 65536 → Difference earlier later (gap earlier later)
 unfolding gap
 difference earlier later h k = record { reaches = omega arith; below = omega arith }
@@ -218,6 +228,7 @@ stops-on-request =
       parts-join = joined;
       whole-part = whole;
       nothing-of-0 = nothing;
+      ticks-fit = ticks-fit;
       gap-is-the-difference = difference;
       no-other-difference = no-other;
     }

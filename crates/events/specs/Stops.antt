@@ -4,12 +4,13 @@ use mathlib.Core.Path.{_≡_}
 use mathlib.Core.List.{List, _++_}
 use lib.ListN.{length, take, drop}
 use Rattle.laws.specs.Lists.{writtenOver}
+use Rattle.laws.specs.Octets.{AllOctets}
 use Rattle.drive.specs.Run.{answers}
 use Rattle.drive.specs.AnswerWords.{wordsOfAnswers}
 use Rattle.drive.specs.Batch.{eventsOf, recordCount}
 use Rattle.events.specs.Event.{machineIn}
 use Rattle.events.specs.Run.{RunOnWords}
-use Rattle.events.specs.Part.{part, partOf, gap, gapsOf, PartOnWords}
+use Rattle.events.specs.Part.{partOf, tickAt, gap, gapsOf, PartOnWords}
 use Rattle.events.specs.declared.part.Part.{Part}
 use Rattle.events.specs.declared.part.Part.the-variants.{Ran}
 
@@ -70,6 +71,8 @@ pub record StopsOnRequest : Type 0 where
       × (w′ .gaps ≡ writtenOver (w .gaps) (gapsOf records))
   -- "A limit of 0 runs nothing."
   pub nothing-of-0 : {w w′ : Lending} {records : List ℕ} {from n : ℕ} → PartCall w records from 0 (Ran n) w′ → (n ≡ 0) × (w′ ≡ w)
+  -- "ticks are 16 bits"
+  pub ticks-fit : (records : List ℕ) → AllOctets records → (i : ℕ) → tickAt records i < 65536
   -- "the gap is the later tick less the earlier one, going round", and no other number is.
   pub gap-is-the-difference : (earlier later : ℕ) → earlier < 65536 → later < 65536 → Difference earlier later (gap earlier later)
   pub no-other-difference : (earlier later n : ℕ) → earlier < 65536 → Difference earlier later n → n ≡ gap earlier later

@@ -81,18 +81,19 @@ abbrev Runs : List ℕ → ℕ → ℕ → List ℕ → List ℕ → Type 0
 Runs records count r state out = RunOnWords (stateWords (atRest bench)) records (disk zeros) zeros (replicate (13 * count) 0) r state (disk zeros) zeros out
 
 -- A selection at a tick.
-abbrev pub selectionAt : ℕ → ℕ → List ℕ
+abbrev selectionAt : ℕ → ℕ → List ℕ
 selectionAt tick port = octetsOf 2 tick ++ drop 2 (selection port)
 
 -- Both ports select at these ticks: port 1 is refused.
-abbrev pub bothSelect : ℕ → ℕ → List ℕ
+abbrev bothSelect : ℕ → ℕ → List ℕ
 bothSelect first second = selectionAt first 0 ++ selectionAt second 1
 
 -- What a part is lent: the words of a drive, and room for two answers and their gaps, with these words in it.
-abbrev pub lentWith : List ℕ → List ℕ → List ℕ → Lending
+abbrev lentWith : List ℕ → List ℕ → List ℕ → Lending
 lentWith state answers gaps = record { state = state; sectors = disk zeros; staging = zeros; answers = answers; gaps = gaps }
 
-abbrev pub lentAtRest : Lending
+-- With a drive at rest, and zeros.
+abbrev lentAtRest : Lending
 lentAtRest = lentWith (stateWords (atRest bench)) (replicate 26 0) (replicate 2 0)
 
 pub record WrongAnswers : Type 0 where

@@ -57,13 +57,13 @@ pub fn replay_part(
 }
 
 // How many of so many records there are from one on, within the limit.
-fn count_within(records: usize, from: usize, limit: usize) -> usize
-    ensures { λ r. ⌜ r ≡ min limit (records - from) ⌝ }
+fn count_within(record_count: usize, from: usize, limit: usize) -> usize
+    ensures { λ r. ⌜ r ≡ min limit («record_count» - from) ⌝ }
 {
-    if records <= from {
+    if record_count <= from {
         return 0;
     }
-    let left = records - from;
+    let left = record_count - from;
     if left < limit { left } else { limit }
 }
 
@@ -101,7 +101,7 @@ fn tick_at(records: &[u8], index: usize) -> u16
 }
 
 // The octets as they lie in memory are one load, and the middle of that pair written twice is the pair changed over. Said so, the compiler makes
-// eight gaps at a time; said as `high * 256 + low` it loads each octet by itself, twice the instructions.
+// eight gaps at a time; said as `high * 256 + low` it loads each octet by itself, nearly twice the instructions.
 fn word(high: u8, low: u8) -> u16
     ensures { λ r. ⌜ r ≡ high * 256 + low ⌝ }
 {

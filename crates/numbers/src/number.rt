@@ -8,7 +8,7 @@ pub enum Number {
     Not,
 }
 
-const MOST_DIGITS: usize = 10;
+pub const MOST_DIGITS: usize = 10;
 
 // The number that one to ten decimal digits spell, if 32 bits hold it. Anything else is none.
 pub fn number_of(digits: &[u8]) -> Number

@@ -8,7 +8,6 @@ use borrow.Author.Tests.{lt-ltb, le-ltb}
 use lib.Dec.{ltb}
 use lib.ListN.{length, getD, set}
 use Rattle.laws.specs.Pick.{pick}
-use Rattle.laws.specs.Rows.{unlessRefused}
 use Rattle.laws.specs.Lists.{writtenOver}
 use Rattle.laws.proofs.Rows.{reported, none-given, accepted, declined, rows-rest}
 use Rattle.events.specs.Part.{partOf, partRows, partRefusal, refusalIn, PartOnWords}

@@ -22,7 +22,7 @@ use Rattle.pantoglide.specs.Line.{lineRows, LineFollowed, refusalIn}
 
 -- Whatever meets the promise refuses with number n if and only if row n holds and no row tested earlier does.
 pub record Exactly : Type 0 where
-  -- The rows of the call itself, as those of `run_records`.
+  -- The rows of the call itself: those of each event are told in the words of its answer.
   pub pg-replay-exactly : {state records : List ℕ} {from limit : ℕ} {sectors staging answers gaps ran : List ℕ} {r : ℕ} {state′ sectors′ staging′ answers′ gaps′ ran′ : List ℕ}
       → ReplayOnWords state records from limit sectors staging answers gaps ran r state′ sectors′ staging′ answers′ gaps′ ran′
       → (n : ℕ) → r ≡ suc n ↔ Given (suc n) (replayRows state records from limit answers gaps ran)

@@ -9,14 +9,12 @@
 ghost use Prim.Native.Nat.{_≤_};
 ghost use lib.ListN.{length};
 
-const MOST_DIGITS: usize = 10;
-
 // The program's name, FROM and LIMIT.
 const ARGUMENT_COUNT: usize = 3;
 
 fn main() {
-    let mut from = [0u8; MOST_DIGITS];
-    let mut limit = [0u8; MOST_DIGITS];
+    let mut from = [0u8; numbers::MOST_DIGITS];
+    let mut limit = [0u8; numbers::MOST_DIGITS];
     let mut octets = [0u8; reading::INPUT_LENGTH];
     let mut text = [0u8; bench::LONGEST_REPORT];
     let from_length = argument(1, &mut from);

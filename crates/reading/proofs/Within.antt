@@ -8,7 +8,7 @@ use Rattle.bench.specs.Report.{Reported}
 use Rattle.bench.specs.declared.report.Replayed.{Replayed}
 use Rattle.bench.specs.declared.report.Replayed.the-variants.{Text, Refused}
 use Rattle.bench.proofs.Fits.{told-within}
-use Rattle.reading.specs.Input.{sizeTold}
+use Rattle.reading.specs.Told.{sizeTold}
 
 pub size-within : {report before after : List ℕ} (r : Replayed) → Reported report before after r → sizeTold r ≤ length before
 size-within (Text size) told = told-within told

@@ -4,12 +4,6 @@ use mathlib.Core.List.{List}
 use lib.ListN.{length, take}
 use Rattle.bench.specs.Report.{Reported}
 use Rattle.bench.specs.declared.report.Replayed.{Replayed}
-use Rattle.bench.specs.declared.report.Replayed.the-variants.{Text, Refused}
-
--- How many octets of text an answer tells.
-abbrev pub sizeTold : Replayed → ℕ
-sizeTold (Text size) = size
-sizeTold (Refused n) = 0
 
 -- The promise of `replay_input`, and of `part_input`: so many octets were read, and the text is what the replay promises of their report.
 pub record InputReplayed (report : List ℕ → List ℕ) (octets text₀ : List ℕ) (count : ℕ) (text₁ : List ℕ) : Type 0 where

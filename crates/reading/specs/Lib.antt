@@ -1,2 +1,4 @@
 pub mod Input
 pub mod WrongAnswers
+-- what a private function goes by
+pub mod Told

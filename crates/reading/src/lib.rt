@@ -9,7 +9,8 @@ ghost use lib.ListN.{length};
 ghost use Rattle.numbers.specs.Number.{numberIn};
 ghost use Rattle.bench.specs.Report.{reportOf, partReportOf};
 ghost use Rattle.bench.specs.declared.report.Wanted.the-variants.{All};
-ghost use Rattle.reading.specs.Input.{sizeTold, InputReplayed};
+ghost use Rattle.reading.specs.Input.{InputReplayed};
+ghost use Rattle.reading.specs.Told.{sizeTold};
 
 // The longest capture has 65,536 octets. One more is read, so that a longer one shows: if no more were read than may be there, the front of a capture
 // that is too long would be replayed as if it were whole.
@@ -20,7 +21,7 @@ pub fn replay_input(octets: &mut [u8], text: &mut [u8]) -> usize
     ensures { λ r. ⌜ InputReplayed (reportOf All) (now (octets .exit)) (now (text .entry)) r (now (text .exit)) ⌝ }
 {
     let count = read_if(true, octets);
-    let whole = is_at_end_if(true);
+    let whole = has_not_failed_if(true);
     let replayed = bench::replay(&octets[..count], text);
     tell(b"replay", whole, replayed, &text[..]);
     count
@@ -32,7 +33,7 @@ pub fn part_input(from: &[u8], limit: &[u8], octets: &mut [u8], text: &mut [u8])
 {
     let wanted = is_number(from) & is_number(limit);
     let count = read_if(wanted, octets);
-    let whole = is_at_end_if(wanted);
+    let whole = has_not_failed_if(wanted);
     let replayed = bench::replay_part(from, limit, &octets[..count], text);
     tell(b"part", whole, replayed, &text[..]);
     count
@@ -55,7 +56,7 @@ fn read_if(wanted: bool, octets: &mut [u8]) -> usize
 }
 
 // Behind the octets that were asked for a read tells an end from a failure.
-fn is_at_end_if(wanted: bool) -> bool {
+fn has_not_failed_if(wanted: bool) -> bool {
     if !wanted {
         return true;
     }

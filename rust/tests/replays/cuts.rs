@@ -3,7 +3,7 @@
 use crate::shared::random::Random;
 use crate::shared::streams::{likely_event, record};
 use crate::{Drive, BEFORE};
-use pantoglide::raw::RECORD_OCTETS;
+use pantoglide::raw::{ANSWER_WORDS, RECORD_OCTETS};
 use pantoglide::{Board, Capture};
 
 fn sample() -> &'static [u8] {
@@ -99,6 +99,6 @@ fn random_cuts_of_random_events_are_the_events_uncut() {
 fn refusals(start: &Drive, records: &[u8]) -> usize {
     let answers = start.clone().run(records);
     assert!(!answers.contains(&BEFORE), "an answer for every record");
-    let numbers = answers.chunks(13).map(|answer| answer[0]);
+    let numbers = answers.chunks(ANSWER_WORDS).map(|answer| answer[0]);
     numbers.filter(|&number| number != 0).count()
 }

@@ -17,8 +17,8 @@ is-number-requires-2 c κs = search needs
 read-if-requires : tie.Need-read-if-requires
 read-if-requires c κs = search needs
 
-is-at-end-if-requires : tie.Need-is-at-end-if-requires
-is-at-end-if-requires c κs = search needs
+has-not-failed-if-requires : tie.Need-has-not-failed-if-requires
+has-not-failed-if-requires c κs = search needs
 
 slice-reshare-prefix-replay-part : tie.Need-slice-reshare-prefix-replay-part
 slice-reshare-prefix-replay-part c = search needs
@@ -55,7 +55,7 @@ part-input-spec =
     is-number-requires
     is-number-requires-2
     read-if-requires
-    is-at-end-if-requires
+    has-not-failed-if-requires
     slice-reshare-prefix-replay-part
     slice-aggregate-replay-part
     replay-part-requires

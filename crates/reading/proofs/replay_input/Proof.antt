@@ -11,8 +11,8 @@ use Rattle.reading.proofs.replay_input.Tie as tie
 read-if-requires : tie.Need-read-if-requires
 read-if-requires c κs = search needs
 
-is-at-end-if-requires : tie.Need-is-at-end-if-requires
-is-at-end-if-requires c κs = search needs
+has-not-failed-if-requires : tie.Need-has-not-failed-if-requires
+has-not-failed-if-requires c κs = search needs
 
 slice-reshare-prefix-replay : tie.Need-slice-reshare-prefix-replay
 slice-reshare-prefix-replay c = search needs
@@ -47,7 +47,7 @@ replay-input-spec =
     tie.close
     (tie.spec
     read-if-requires
-    is-at-end-if-requires
+    has-not-failed-if-requires
     slice-reshare-prefix-replay
     slice-aggregate-replay
     replay-requires

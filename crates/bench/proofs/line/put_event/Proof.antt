@@ -1,11 +1,6 @@
 -- `bench::line::put_event` meets its contract: four pieces, one behind the other.
 -- Assumes nothing.
-use Prim.Native.Nat.{ℕ, _+_}
-use mathlib.Core.Path.{_≡_}
-use mathlib.Core.List.{List, _++_}
 use native.Mathlib.Omega.{arith}
-use lib.ListN.{length}
-use Rattle.bench.specs.Text.{field}
 use Rattle.bench.proofs.Pieces.{put-both}
 use Rattle.bench.proofs.Lines.{fields-size}
 use borrow.Author.Needs.{needs}

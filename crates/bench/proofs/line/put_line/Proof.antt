@@ -1,7 +1,6 @@
 -- `bench::line::put_line` meets its contract: the fields of the event, and the end of the line.
 -- Assumes nothing.
 use native.Mathlib.Omega.{arith}
-use lib.ListN.{length-append}
 use Rattle.bench.specs.Line.{lineOf}
 use Rattle.bench.proofs.Pieces.{put-both}
 use Rattle.bench.proofs.Lines.{line-end}

@@ -1,6 +1,5 @@
 -- `tick_at` meets its contract.
 -- Assumes nothing.
-use native.Mathlib.Omega.{arith}
 use mathlib.Core.Path.{sym, _∙_}
 use Rattle.events.proofs.Parts.{tick-read}
 use borrow.Author.Needs.{needs}
