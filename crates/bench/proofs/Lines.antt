@@ -16,8 +16,9 @@ use Rattle.drive.specs.declared.answer.Answer.{Answer}
 use Rattle.drive.specs.declared.answer.Outcome.{Outcome}
 use Rattle.drive.proofs.Calls.{demand-3-of-calls}
 use Rattle.drive.proofs.Turns.{events-step, event-count}
-use Rattle.bench.specs.Text.{newline, field, numberedLine}
-use Rattle.bench.specs.Line.{statusText, eventFields, eventText, lineOf, ownerLine}
+use Rattle.bench.specs.Text.{space, newline, decimal, field, numberedLine}
+use Rattle.bench.specs.Line.{statusText, eventFields, eventText, lineOf, withGap, ownerLine}
+use Rattle.bench.specs.Part.{ranWord, nextLine, partText}
 use Rattle.drive.specs.Batch.{eventOf, eventsIn, eventsOf}
 use Rattle.bench.specs.Run.{benchAtRest, eventsWord, linesFrom, linesOfRun, runReport}
 
@@ -28,6 +29,26 @@ status-size nothing = refl
 pub fields-size : (number port refusal : ℕ) (status : List ℕ)
     → length (eventFields number port refusal status) ≡ length (field number) + length (field port) + length (field refusal) + length status
 fields-size number port refusal status = simp length-append (omega arith)
+
+pub gap-size : (fields : List ℕ) (gap : ℕ) → length (withGap fields gap) ≡ length fields + 1 + length (decimal gap) + 1
+gap-size fields gap =
+    omega (
+      arith,
+      length-append (fields ++ (space ∷ []) ++ decimal gap) (newline ∷ []),
+      length-append (fields ++ (space ∷ [])) (decimal gap),
+      length-append fields (space ∷ []),
+    )
+
+pub text-size : (ran : ℕ) (lines : List ℕ) (owner count next : ℕ)
+    → length (partText ran lines owner count next) ≡ length (numberedLine ranWord ran) + length lines + length (ownerLine owner) + length (nextLine count next)
+text-size ran lines owner count next =
+    let first = numberedLine ranWord ran in
+    omega (
+      arith,
+      length-append (first ++ lines ++ ownerLine owner) (nextLine count next),
+      length-append (first ++ lines) (ownerLine owner),
+      length-append first lines,
+    )
 
 pub line-end : (number port : ℕ) (answer : Answer) → length (lineOf number port answer) ≡ length (eventText number port answer) + 1
 unfolding lineOf

@@ -2,7 +2,7 @@
 -- Assumes nothing.
 use Prim.Native.Nat.{ℕ, zero, suc, _+_, _-_, _*_, _<_, _≤_, min}
 use mathlib.Core.Path.{_≡_}
-use mathlib.Core.List.{List, [], _∷_, _++_}
+use mathlib.Core.List.{List, [], _∷_}
 use native.Mathlib.Nat.{min-le-right}
 use native.Mathlib.Omega.{arith}
 use borrow.Author.Tests.{ltb-true}
@@ -19,11 +19,11 @@ use Rattle.drive.specs.Batch.{eventOf, eventsIn, eventsOf, recordCount}
 use Rattle.drive.specs.declared.answer.Answer.{Answer}
 use Rattle.events.specs.Part.{part, partOf, gap, gapAt, gapsOf}
 use Rattle.events.proofs.Parts.{part-count, part-events, part-gaps}
-use Rattle.bench.specs.Text.{space, newline, decimal, field, numberedLine}
-use Rattle.bench.specs.Line.{statusText, eventText, gapLineOf, ownerLine}
+use Rattle.bench.specs.Text.{field}
+use Rattle.bench.specs.Line.{statusText, eventText, gapLineOf}
 use Rattle.bench.specs.Part.{ranWord, nextWord, gapLines, nextLine, benchBefore, partReport}
 use Rattle.bench.proofs.Digits.{decimal-size}
-use Rattle.bench.proofs.Lines.{status-size, fields-size}
+use Rattle.bench.proofs.Lines.{status-size, fields-size, gap-size, text-size}
 use Rattle.bench.proofs.Size.{field-size, numbered-size, port-size, owner-size}
 use Rattle.bench.proofs.Bench.{bench-answers}
 
@@ -37,12 +37,9 @@ gap-line-size : (number port : ℕ) (answer : Answer) (ticks : ℕ) → ticks < 
     → length (gapLineOf number port answer ticks) ≤ length (field number) + length (field port) + length (field (refusalIn answer)) + 9
 unfolding gapLineOf
 gap-line-size number port answer ticks h =
-    let fields = eventText number port answer in
     omega (
       arith,
-      length-append (fields ++ (space ∷ []) ++ decimal ticks) (newline ∷ []),
-      length-append (fields ++ (space ∷ [])) (decimal ticks),
-      length-append fields (space ∷ []),
+      gap-size (eventText number port answer) ticks,
       fields-size number port (refusalIn answer) (statusText (paper answer .status)),
       status-size (paper answer .status),
       decimal-size 4 ticks (omega arith),
@@ -81,11 +78,10 @@ part-size from limit records all h =
     let events = partOf records from limit in
     let count = min limit (recordCount records - from) in
     let before = benchBefore records from in
-    let first = numberedLine ranWord (length events) in
     let told = answers before events in
     let lines = gapLines (from + 1) events told (part from limit (gapsOf records)) in
-    let owner = ownerLine ((final before events) .drive .holding .owner) in
-    let next = nextLine (recordCount records) (from + length events) in
+    let owner = (final before events) .drive .holding .owner in
+    let next = from + length events in
     let size = part-count records from limit in
     let few : count ≤ recordCount records - from = min-le-right limit (recordCount records - from) in
     let all-lines : length lines ≤ 20 * count =
@@ -93,12 +89,10 @@ part-size from limit records all h =
     (lines-size records count (from + 1) from (drop (8 * from) records) _ (octets-dropped (8 * from) records all) (rw (part-events records from limit) at (bench-answers (take from (eventsOf records)) events)) (λ some. omega (arith, few, some))) in
     omega (
       arith,
-      length-append (first ++ lines ++ owner) next,
-      length-append (first ++ lines) owner,
-      length-append first lines,
+      text-size (length events) lines owner (recordCount records) next,
       numbered-size ranWord 3 (length events) (omega (arith, size, few)),
       all-lines,
       few,
-      owner-size ((final before events) .drive .holding .owner),
-      next-size (recordCount records) (from + length events) (omega arith),
+      owner-size owner,
+      next-size (recordCount records) next (omega arith),
     )

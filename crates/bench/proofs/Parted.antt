@@ -32,10 +32,10 @@ use Rattle.events.specs.declared.part.Part.the-variants.{Ran}
 use Rattle.events.proofs.Computing.{computing-words}
 use Rattle.events.proofs.Parts.{part-count, part-events}
 use Rattle.events.proofs.Stops.{machineOf, gap-count, not-refused, Stands, stands}
-use Rattle.bench.specs.Text.{numberedLine, hexDigit, twoHexDigits}
-use Rattle.bench.specs.Line.{gapLineOf, ownerLine}
+use Rattle.bench.specs.Text.{hexDigit, twoHexDigits}
+use Rattle.bench.specs.Line.{gapLineOf}
 use Rattle.bench.specs.Run.{benchAtRest}
-use Rattle.bench.specs.Part.{ranWord, gapLines, nextLine, benchBefore, partReport}
+use Rattle.bench.specs.Part.{gapLines, benchBefore, partText, partReport}
 use Rattle.bench.specs.Told.{statusToldBy, toldLine, toldLines, toldReport, Ready, Made}
 
 -- ---- a line, by the words of an answer
@@ -133,7 +133,7 @@ module _ {u v w : Lending} {records : List ℕ} {from limit : ℕ} {r₁ r₂ : 
   unfolding partReport
   report =
       let count = length (partOf records from limit) in
-      ap₂ (λ (lines : List ℕ) (owner : ℕ). numberedLine ranWord count ++ lines ++ ownerLine owner ++ nextLine (recordCount records) (from + count)) all-lines owner-told
+      ap₂ (λ (lines : List ℕ) (owner : ℕ). partText count lines owner (recordCount records) (from + count)) all-lines owner-told
 
 pub made : {records : List ℕ} {from limit r₀ : ℕ} {r₁ r₂ : Part}
     {state₀ sectors₀ staging₀ answers₀ gaps₀ state state₁ sectors₁ staging₁ answers₁ gaps₁ state₂ sectors₂ staging₂ answers₂ gaps₂ : List ℕ}

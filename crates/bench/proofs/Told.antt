@@ -1,27 +1,20 @@
 -- The lines of a part, by the words that were told: what is left after each, and how long they are.
 -- Assumes nothing.
-use Prim.Native.Nat.{ℕ, suc, _+_, _-_, _*_, _/_, _<_}
+use Prim.Native.Nat.{ℕ, suc, _+_, _-_, _*_, _<_}
 use mathlib.Core.Path.{_≡_}
-use mathlib.Core.List.{List, [], _∷_, _++_}
+use mathlib.Core.List.{List, [], _++_}
 use native.Mathlib.Omega.{arith}
-use lib.ListN.{length, getD, drop, length-append}
+use lib.ListN.{length, getD, drop}
 use lib.Seq.{drop-drop, getD-drop}
-use Rattle.bench.specs.Text.{space, newline, decimal, numberedLine}
-use Rattle.bench.specs.Line.{eventFields, ownerLine}
-use Rattle.bench.specs.Part.{ranWord, nextLine}
-use Rattle.bench.specs.Told.{statusToldBy, toldLine, toldLines, toldReport}
+use Rattle.bench.specs.Text.{decimal}
+use Rattle.bench.specs.Line.{eventFields}
+use Rattle.bench.specs.Told.{statusToldBy, toldLine, toldLines}
+use Rattle.bench.proofs.Lines.{gap-size}
 
 pub told-line-size : (number port refusal status gap : ℕ)
     → length (toldLine number port refusal status gap) ≡ length (eventFields number port refusal (statusToldBy status)) + 1 + length (decimal gap) + 1
 unfolding toldLine
-told-line-size number port refusal status gap =
-    let fields = eventFields number port refusal (statusToldBy status) in
-    omega (
-      arith,
-      length-append (fields ++ (space ∷ []) ++ decimal gap) (newline ∷ []),
-      length-append (fields ++ (space ∷ [])) (decimal gap),
-      length-append fields (space ∷ []),
-    )
+told-line-size number port refusal status gap = gap-size (eventFields number port refusal (statusToldBy status)) gap
 
 -- what is left to write once i of count lines are done
 abbrev pub told-left : List ℕ → ℕ → ℕ → List ℕ → List ℕ → ℕ → List ℕ
@@ -51,17 +44,3 @@ module _ (records : List ℕ) (from count : ℕ) (answers gaps : List ℕ) where
   pub told-none : (i : ℕ) → i ≡ count → told-left records from count answers gaps i ≡ []
   unfolding toldLines
   told-none i e = let done : count - i ≡ 0 = omega arith in rw done
-
-pub told-report-size : (from count owner : ℕ) (records answers gaps : List ℕ)
-    → length (toldReport from count owner records answers gaps)
-    ≡ length (numberedLine ranWord count) + length (toldLines (from + 1) count (drop (8 * from) records) answers gaps) + length (ownerLine owner)
-    + length (nextLine (length records / 8) (from + count))
-told-report-size from count owner records answers gaps =
-    let first = numberedLine ranWord count in
-    let lines = toldLines (from + 1) count (drop (8 * from) records) answers gaps in
-    omega (
-      arith,
-      length-append (first ++ lines ++ ownerLine owner) (nextLine (length records / 8) (from + count)),
-      length-append (first ++ lines) (ownerLine owner),
-      length-append first lines,
-    )

@@ -29,9 +29,12 @@ eventText number port answer = eventFields number port (refusalIn answer) (statu
 unfoldable pub lineOf : ℕ → ℕ → Answer → List ℕ
 lineOf number port answer = eventText number port answer ++ (newline ∷ [])
 
--- M-103: the same and the gap, "the ticks between neighbours", in decimal.
+-- M-103: a line that ends with a gap, "the ticks between neighbours", in decimal.
+abbrev pub withGap : List ℕ → ℕ → List ℕ
+withGap fields gap = fields ++ (space ∷ []) ++ decimal gap ++ (newline ∷ [])
+
 unfoldable pub gapLineOf : ℕ → ℕ → Answer → ℕ → List ℕ
-gapLineOf number port answer gap = eventText number port answer ++ (space ∷ []) ++ decimal gap ++ (newline ∷ [])
+gapLineOf number port answer gap = withGap (eventText number port answer) gap
 
 -- "owner "
 abbrev pub ownerWord : List ℕ

@@ -40,12 +40,14 @@ nextLine count next = pick (ltb next count) (numberedLine nextWord next) endLine
 abbrev pub benchBefore : List ℕ → ℕ → Machine
 benchBefore records from = final benchAtRest (take from (eventsOf records))
 
--- How many events were run, a line for each, numbered over the whole capture from 1, the owner behind the last, and where the next part begins.
+-- How many events were run, their lines, the owner behind the last, and of so many records where the next part begins.
+abbrev pub partText : ℕ → List ℕ → ℕ → ℕ → ℕ → List ℕ
+partText ran lines owner count next = numberedLine ranWord ran ++ lines ++ ownerLine owner ++ nextLine count next
+
+-- The lines are numbered over the whole capture, from 1.
 unfoldable pub partReport : ℕ → ℕ → List ℕ → List ℕ
 partReport from limit records =
     let events = partOf records from limit in
     let before = benchBefore records from in
-    numberedLine ranWord (length events)
-    ++ gapLines (from + 1) events (answers before events) (part from limit (gapsOf records))
-    ++ ownerLine ((final before events) .drive .holding .owner)
-    ++ nextLine (recordCount records) (from + length events)
+    let lines = gapLines (from + 1) events (answers before events) (part from limit (gapsOf records)) in
+    partText (length events) lines ((final before events) .drive .holding .owner) (recordCount records) (from + length events)

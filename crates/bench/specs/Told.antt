@@ -9,16 +9,16 @@ use Rattle.drive.specs.Batch.{recordCount}
 use Rattle.events.specs.Part.{partOf}
 use Rattle.events.specs.declared.part.Part.{Part}
 use Rattle.events.specs.declared.part.Part.the-variants.{Ran}
-use Rattle.bench.specs.Text.{space, newline, decimal, numberedLine, hexDigit}
-use Rattle.bench.specs.Line.{noStatus, eventFields, ownerLine}
-use Rattle.bench.specs.Part.{ranWord, nextLine, partReport}
+use Rattle.bench.specs.Text.{hexDigit}
+use Rattle.bench.specs.Line.{noStatus, eventFields, withGap}
+use Rattle.bench.specs.Part.{partText, partReport}
 
 -- The status as its word tells it: FFFF where there is none.
 unfoldable pub statusToldBy : ℕ → List ℕ
 statusToldBy word = pick (eqb word 0xFFFF) noStatus (hexDigit (word / 16 % 16) ∷ hexDigit (word % 16) ∷ [])
 
 unfoldable pub toldLine : ℕ → ℕ → ℕ → ℕ → ℕ → List ℕ
-toldLine number port refusal status gap = eventFields number port refusal (statusToldBy status) ++ (space ∷ []) ++ decimal gap ++ (newline ∷ [])
+toldLine number port refusal status gap = withGap (eventFields number port refusal (statusToldBy status)) gap
 
 -- So many lines, of the records, the answers' words and the gaps.
 unfoldable pub toldLines : ℕ → ℕ → List ℕ → List ℕ → List ℕ → List ℕ
@@ -30,10 +30,7 @@ toldLines number (suc count) records answers gaps =
 -- The report of a part that ran so many events.
 abbrev pub toldReport : ℕ → ℕ → ℕ → List ℕ → List ℕ → List ℕ → List ℕ
 toldReport from count owner records answers gaps =
-    numberedLine ranWord count
-    ++ toldLines (from + 1) count (drop (8 * from) records) answers gaps
-    ++ ownerLine owner
-    ++ nextLine (length records / 8) (from + count)
+    partText count (toldLines (from + 1) count (drop (8 * from) records) answers gaps) owner (recordCount records) (from + count)
 
 -- The records, the answers' words and the gaps are there.
 pub record There (from count : ℕ) (records answers gaps : List ℕ) : Type 0 where

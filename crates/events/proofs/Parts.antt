@@ -1,4 +1,4 @@
--- A part of a capture's records: how many events it has, and the gaps between ticks.
+-- A part of a capture's records: how many events it has, the gaps between ticks, and from what a batch did to the promise of `replay_part`.
 -- Assumes nothing.
 use Prim.Native.Nat.{ℕ, zero, suc, _+_, _-_, _*_, _/_, _%_, _^_, _<_, _≤_, min}
 use mathlib.Core.Path.{_≡_, refl, sym, ap, _∙_}

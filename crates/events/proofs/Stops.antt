@@ -94,6 +94,17 @@ went {w} {records = records} {from} {limit} {n} call =
       gapped = ap (take n) (call .gaps) ∙ front-told (w .gaps) _ _ (gap-count records from limit ∙ sym count);
     }
 
+-- with room for all of the records it is not refused
+pub not-refused : {w w′ : Lending} {records : List ℕ} {from limit : ℕ} {r : Part} → 21 ≤ length (w .state) → 13 * recordCount records ≤ length (w .answers)
+    → recordCount records ≤ length (w .gaps) → length records % 8 ≡ 0 → PartCall w records from limit r w′ → r ≡ Ran (length (partOf records from limit))
+not-refused {w} {records = records} {from} {limit} long told gapped whole call =
+    let count = length (partOf records from limit) in
+    let few : count ≤ recordCount records = rw (part-count records from limit) (omega (arith, min-le-right limit (recordCount records - from))) in
+    let free : partRefusal (w .state) records from limit (w .answers) (w .gaps) ≡ 0 =
+    none-given (partRows (w .state) records from limit (w .answers) (w .gaps))
+    (le-ltb (length (w .state)) 21 long, (le-ltb (length (w .answers)) (13 * count) (omega (arith, few)), (le-ltb (length (w .gaps)) count (omega (arith, few)), (not-f _ (eq-eqb (length records % 8) 0 whole), tt)))) in
+    call .answer ∙ rw free
+
 -- ---- what it counts
 
 counts : {w w′ : Lending} {records : List ℕ} {from limit n : ℕ} → PartCall w records from limit (Ran n) w′ → Counts w records from limit n
@@ -111,17 +122,6 @@ counts {w} {records = records} {from} {limit} {n} call =
     }
 
 -- ---- parts put end to end
-
--- with room for all of the records it is not refused
-pub not-refused : {w w′ : Lending} {records : List ℕ} {from limit : ℕ} {r : Part} → 21 ≤ length (w .state) → 13 * recordCount records ≤ length (w .answers)
-    → recordCount records ≤ length (w .gaps) → length records % 8 ≡ 0 → PartCall w records from limit r w′ → r ≡ Ran (length (partOf records from limit))
-not-refused {w} {records = records} {from} {limit} long told gapped whole call =
-    let count = length (partOf records from limit) in
-    let few : count ≤ recordCount records = rw (part-count records from limit) (omega (arith, min-le-right limit (recordCount records - from))) in
-    let free : partRefusal (w .state) records from limit (w .answers) (w .gaps) ≡ 0 =
-    none-given (partRows (w .state) records from limit (w .answers) (w .gaps))
-    (le-ltb (length (w .state)) 21 long, (le-ltb (length (w .answers)) (13 * count) (omega (arith, few)), (le-ltb (length (w .gaps)) count (omega (arith, few)), (not-f _ (eq-eqb (length records % 8) 0 whole), tt)))) in
-    call .answer ∙ rw free
 
 -- the drive after a part stands in the words that it left
 pub record Stands (w : Lending) (events : List Event) (v : Lending) : Type 0 where
