@@ -3,5 +3,8 @@ pub mod Said
 pub mod Step
 pub mod Reached
 pub mod History
+pub mod Turns
+pub mod ReadSoFar
+pub mod TurnByTurn
 pub mod Only
 pub mod WrongAnswers

@@ -126,7 +126,11 @@ numberSaid f new =
 pub record Started (r : Follower) : Type 0 where
   pub follower : r ≡ idle
 
--- The promise of `Follower::step`.
+-- The promise of `Follower::is_reached`.
+pub record ReachedSaid (f : Follower) (r : Bool) : Type 0 where
+  pub answer : r ≡ isReached f
+
+-- The promise of `Follower::step`, and of `step_plainly`.
 pub record Stepped (f : Follower) (new : ℕ) (r : Followed) : Type 0 where
   pub answer : r .answer ≡ (stepOf f new) .answer
   pub on-paper : paper (r .answer) ≡ refusedOr (stepRows f new) (numberSaid f new)

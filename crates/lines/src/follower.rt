@@ -3,7 +3,8 @@ use crate::line;
 use crate::table::entry;
 ghost use Prim.Native.Nat.{_<_};
 ghost use mathlib.Core.Path.{_≡_};
-ghost use Rattle.lines.specs.Follower.{isReached, lacksHistory, remembers, undefinedAt, whileLost, moved, Started, Stepped};
+ghost use Rattle.lines.specs.Follower.{isReached, lacksHistory, remembers, undefinedAt, whileLost, moved, Started, Stepped, ReachedSaid};
+ghost use Rattle.lines.specs.Reading.{OctetSaid};
 
 pub struct Follower {
     pub setting: u8,
@@ -25,6 +26,23 @@ pub enum Answer {
 pub struct Followed {
     pub answer: Answer,
     pub follower: Follower,
+}
+
+impl Answer {
+    // The answer as an octet: from 16 on, or the number of the refusal.
+    pub fn octet(self) -> u8
+        ensures { λ r. ⌜ OctetSaid self r ⌝ }
+    {
+        match self {
+            Answer::Same => 16,
+            Answer::Controllers => 17,
+            Answer::Drives => 18,
+            Answer::Undefined => 19,
+            Answer::Lost => 20,
+            Answer::Idle => 21,
+            Answer::Refused(n) => n,
+        }
+    }
 }
 
 impl Follower {
@@ -62,8 +80,8 @@ impl Follower {
     }
 
     // Does a trace from the start lead to this state?
-    fn is_reached(self) -> bool
-        ensures { λ r. ⌜ r ≡ isReached self ⌝ }
+    pub fn is_reached(self) -> bool
+        ensures { λ r. ⌜ ReachedSaid self r ⌝ }
     {
         let s = self.setting;
         if self.lost {
@@ -118,20 +136,29 @@ impl Follower {
         }
     }
 
-    fn lacks_history(self, setting: u8) -> bool
+    pub(crate) fn lacks_history(self, setting: u8) -> bool
         ensures { λ r. ⌜ r ≡ lacksHistory self setting ⌝ }
     {
-        !self.history
-            & ((self.setting == line::SLAVACK) & (setting == line::XFRRDY)
-                | (self.setting == line::SELECT) & (setting == line::IDLE))
+        if self.history {
+            return false;
+        }
+        let old = self.setting;
+        match old {
+            line::SELECT => setting == line::IDLE,
+            line::SLAVACK => setting == line::XFRRDY,
+            _ => false,
+        }
     }
 
-    fn at(self, setting: u8) -> Follower
+    pub(crate) fn at(self, setting: u8) -> Follower
         ensures { λ r. ⌜ r ≡ remembers self setting ⌝ }
     {
-        let history = (self.setting == line::IDLE) & (setting == line::SELECT)
-            | (self.setting == line::BUSACK) & (setting == line::MASTEND)
-            | (self.setting == line::MASTEND) & (setting == line::SLAVACK) & self.history;
+        let history = match setting {
+            line::SELECT => self.setting == line::IDLE,
+            line::MASTEND => self.setting == line::BUSACK,
+            line::SLAVACK => (self.setting == line::MASTEND) & self.history,
+            _ => false,
+        };
         Follower {
             setting,
             history,
@@ -141,7 +168,7 @@ impl Follower {
 }
 
 // IDLE where the setting is 0, else lost.
-fn undefined_at(setting: u8) -> Followed
+pub(crate) fn undefined_at(setting: u8) -> Followed
     ensures { λ r. ⌜ r ≡ undefinedAt setting ⌝ }
 {
     Followed {
@@ -154,7 +181,7 @@ fn undefined_at(setting: u8) -> Followed
     }
 }
 
-fn while_lost(setting: u8) -> Followed
+pub(crate) fn while_lost(setting: u8) -> Followed
     ensures { λ r. ⌜ r ≡ whileLost setting ⌝ }
 {
     if setting == line::IDLE {

@@ -2,6 +2,8 @@
 mod follower;
 mod line;
 mod moves;
+mod plain;
+mod reading;
 mod table;
 
 pub use follower::Answer;
@@ -27,3 +29,7 @@ pub use line::owner;
 pub use line::weight;
 pub use moves::Move;
 pub use moves::move_of;
+pub use plain::read_plainly;
+pub use plain::step_plainly;
+pub use reading::Traced;
+pub use reading::follow;

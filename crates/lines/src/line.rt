@@ -59,6 +59,8 @@ pub(crate) const LAST_SETTING: u8 = 31;
 // The refusals of this crate.
 pub(crate) const OVER_LAST_SETTING: u8 = 8;
 
+pub(crate) const ANSWERS_TOO_SHORT: u8 = 10;
+
 pub(crate) const STATE_NEVER_REACHED: u8 = 11;
 
 pub enum Side {

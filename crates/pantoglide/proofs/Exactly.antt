@@ -14,8 +14,9 @@ use Rattle.laws.specs.Pick.{pick}
 use Rattle.laws.specs.Rows.{unlessRefused}
 use Rattle.laws.proofs.Rows.{first-is-exact, first-up-to, rows-rest}
 use Rattle.lines.specs.Follower.{stepOf}
+use Rattle.lines.specs.Reading.{octetOf}
 use Rattle.pantoglide.specs.Replay.{replayRows}
-use Rattle.pantoglide.specs.Line.{followerIn, lineNumber, lineRows, lineRefusal, LineFollowed, refusalIn}
+use Rattle.pantoglide.specs.Line.{followerIn, lineRows, lineRefusal, LineFollowed, refusalIn}
 use Rattle.capture.specs.Capture.{captureRows}
 use Rattle.capture.specs.Encoding.{encodeRows}
 use Rattle.defects.specs.Offence.{Test, offenceAt, firstOf}
@@ -43,7 +44,7 @@ line-refusal : {follower : List ℕ} {setting r : ℕ} {follower′ : List ℕ} 
 line-refusal {follower} {setting} w =
     let f = followerIn (getD follower 0 0) in
     rw (w .answer)
-    (told-by (lineRefusal follower setting) (lineNumber (stepOf f setting .answer)) (first-up-to 11 (lineRows follower setting) refl)
+    (told-by (lineRefusal follower setting) (octetOf (stepOf f setting .answer)) (first-up-to 11 (lineRows follower setting) refl)
     (λ z. from-sixteen (step-ends f setting) (rows-rest (ltb (length follower) 1) 9 _ z)))
 
 -- a number that is not 0 is that of an offence that was found

@@ -1,5 +1,6 @@
 pub mod Lines
 pub mod LinesFollow
+pub mod LinesRead
 pub mod Replays
 pub mod Singles
 pub mod Demand3

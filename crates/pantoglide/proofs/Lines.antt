@@ -12,10 +12,11 @@ use Rattle.laws.specs.Rows.{first, unlessRefused}
 use Rattle.laws.proofs.Pick.{either}
 use Rattle.laws.proofs.Rows.{first-up-to, refused-as}
 use Rattle.lines.specs.Follower.{told, lacksHistory, undefinedAt, whileLost, movedBy, moved, stepRows, stepOf, Stepped}
+use Rattle.lines.specs.Reading.{octetOf}
 use Rattle.lines.specs.declared.follower.Follower.{Follower}
 use Rattle.lines.specs.declared.follower.Followed.{Followed}
 use Rattle.lines.specs.declared.follower.Answer.the-variants.{Refused}
-use Rattle.pantoglide.specs.Line.{followerIn, followerOctet, lineNumber, lineRefusal, LineFollowed}
+use Rattle.pantoglide.specs.Line.{followerIn, followerOctet, lineRefusal, LineFollowed}
 
 -- ---- a step by its refusal
 
@@ -24,10 +25,10 @@ abbrev pub taken : Follower → ℕ → Followed
 taken f new = pick (f .lost) (whileLost new) (moved f new)
 
 abbrev FromSixteen : Followed → Type 0
-FromSixteen r = 16 ≤ lineNumber (r .answer)
+FromSixteen r = 16 ≤ octetOf (r .answer)
 
 taken-from-sixteen : (f : Follower) (new : ℕ) → FromSixteen (taken f new)
-unfolding whileLost movedBy undefinedAt lineNumber
+unfolding whileLost movedBy undefinedAt octetOf
 taken-from-sixteen f new =
     either FromSixteen (f .lost) (either FromSixteen (eqb new 0) (omega arith) (omega arith))
     (either FromSixteen _ (omega arith)
@@ -38,12 +39,12 @@ pub data Ends (refusal number : ℕ) : Type 0 where
   answered : refusal ≡ 0 → 16 ≤ number → Ends refusal number
   refused : number ≡ refusal → 1 ≤ number → number < 16 → Ends refusal number
 
-ends-by : (f : Follower) (new refusal : ℕ) → refusal ≤ 11 → Ends refusal (lineNumber (unlessRefused refusal (told (Refused refusal) f) (taken f new) .answer))
-unfolding lineNumber
+ends-by : (f : Follower) (new refusal : ℕ) → refusal ≤ 11 → Ends refusal (octetOf (unlessRefused refusal (told (Refused refusal) f) (taken f new) .answer))
+unfolding octetOf
 ends-by f new zero h = answered refl (taken-from-sixteen f new)
 ends-by f new (suc n) h = refused refl (omega arith) (omega arith)
 
-pub step-ends : (f : Follower) (new : ℕ) → Ends (first (stepRows f new)) (lineNumber (stepOf f new .answer))
+pub step-ends : (f : Follower) (new : ℕ) → Ends (first (stepRows f new)) (octetOf (stepOf f new .answer))
 unfolding stepOf
 step-ends f new = ends-by f new (first (stepRows f new)) (first-up-to 11 (stepRows f new) refl)
 
@@ -58,7 +59,7 @@ pub with-octet : (follower : List ℕ) (setting : ℕ) → 1 ≤ length follower
 unfolding pick
 with-octet follower setting h = rw (le-ltb (length follower) 1 h)
 
-module _ (follower : List ℕ) (setting : ℕ) (r : Followed) (n : ℕ) (there : 1 ≤ length follower) (t : Stepped (followerIn (getD follower 0 0)) setting r) (e : n ≡ lineNumber (r .answer)) where
+module _ (follower : List ℕ) (setting : ℕ) (r : Followed) (n : ℕ) (there : 1 ≤ length follower) (t : Stepped (followerIn (getD follower 0 0)) setting r) (e : n ≡ octetOf (r .answer)) where
   ends : Ends (lineRefusal follower setting) n
   ends = rw (with-octet follower setting there, e, t .answer) (step-ends (followerIn (getD follower 0 0)) setting)
 
@@ -67,7 +68,7 @@ module _ (follower : List ℕ) (setting : ℕ) (r : Followed) (n : ℕ) (there :
     where
       by-end : Ends (lineRefusal follower setting) n → LineFollowed follower setting n (set follower 0 octet)
       by-end (answered z h) =
-          record { answer = rw z (e ∙ ap lineNumber (t .answer)); follower = rw z (ap (set follower 0) (o ∙ ap followerOctet (t .follower))) }
+          record { answer = rw z (e ∙ ap octetOf (t .answer)); follower = rw z (ap (set follower 0) (o ∙ ap followerOctet (t .follower))) }
       by-end (refused s p q) = absurd (omega arith)
 
   pub line-refused : n < 16 → LineFollowed follower setting n follower

@@ -5,13 +5,14 @@ use lib.ListN.{getD}
 use Rattle.laws.proofs.Differ.{told-apart, differ-at}
 use Rattle.lines.specs.Moves.{entryOf}
 use Rattle.lines.specs.Follower.{lacksHistory, remembers, movedBy, isReached, stepOf}
+use Rattle.lines.specs.Reading.{octetOf}
 use Rattle.defects.proofs.Computing.{computing-maps}
 use Rattle.events.proofs.Computing.{computing-words}
-use Rattle.pantoglide.specs.Line.{settingIn, followerIn, followerOctet, lineNumber}
+use Rattle.pantoglide.specs.Line.{settingIn, followerIn, followerOctet}
 use Rattle.pantoglide.specs.WrongAnswers.{WrongAnswers}
 
 pub wrong-answers : WrongAnswers
-unfolding computing-words computing-maps entryOf lacksHistory remembers movedBy isReached stepOf settingIn followerIn followerOctet lineNumber
+unfolding computing-words computing-maps entryOf lacksHistory remembers movedBy isReached stepOf settingIn followerIn followerOctet octetOf
 wrong-answers =
     record {
       cylindersForHeads = λ h. told-apart 2 1 refl (ap (λ words. getD words 0 0) (h .state));

@@ -1,4 +1,5 @@
 pub mod Line
+pub mod Lines
 pub mod Replay
 pub mod Singles
 pub mod Exactly

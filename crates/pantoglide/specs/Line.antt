@@ -8,8 +8,7 @@ use Rattle.laws.specs.Pick.{pick}
 use Rattle.laws.specs.Rows.{Row, first, _when_, unlessRefused}
 use Rattle.laws.specs.Octets.{bit}
 use Rattle.lines.specs.Follower.{idle, stepRows, stepOf}
-use Rattle.lines.specs.declared.follower.Answer.{Answer}
-use Rattle.lines.specs.declared.follower.Answer.the-variants.{Same, Controllers, Drives, Undefined, Lost, Idle, Refused}
+use Rattle.lines.specs.Reading.{octetOf}
 use Rattle.lines.specs.declared.follower.Follower.{Follower}
 
 -- "one octet, 0 at the start. Bits 0 to 4 are the setting of the lines; bit 5 is set where the history is there that a later move needs", and bit 6
@@ -23,16 +22,6 @@ followerIn octet = record { setting = settingIn octet; history = bit 5 octet; lo
 unfoldable pub followerOctet : Follower → ℕ
 followerOctet f = f .setting % 32 + pick (f .history) 32 0 + pick (f .lost) 64 0
 
--- The answers are from 16 on, `PG_MOVE_SAME` to `PG_MOVE_IDLE`; a refusal is its number.
-unfoldable pub lineNumber : Answer → ℕ
-lineNumber Same = 16
-lineNumber Controllers = 17
-lineNumber Drives = 18
-lineNumber Undefined = 19
-lineNumber Lost = 20
-lineNumber Idle = 21
-lineNumber (Refused n) = n
-
 -- "Returns 10 if follower_length is 0; otherwise 11 if no trace from the start leads to *follower; otherwise 8 if the setting is over 31": the
 -- follower's own rows behind the first.
 abbrev pub lineRows : List ℕ → ℕ → List Row
@@ -43,7 +32,7 @@ lineRefusal follower setting = first (lineRows follower setting)
 
 -- The promise of `pg_line`: a refusal changes nothing, and no octet but the first is changed.
 pub record LineFollowed (follower₀ : List ℕ) (setting r : ℕ) (follower₁ : List ℕ) : Type 0 where
-  pub answer : r ≡ unlessRefused (lineRefusal follower₀ setting) (lineRefusal follower₀ setting) (lineNumber (stepOf (followerIn (getD follower₀ 0 0)) setting .answer))
+  pub answer : r ≡ unlessRefused (lineRefusal follower₀ setting) (lineRefusal follower₀ setting) (octetOf (stepOf (followerIn (getD follower₀ 0 0)) setting .answer))
   pub follower : follower₁ ≡ unlessRefused (lineRefusal follower₀ setting) follower₀ (set follower₀ 0 (followerOctet (stepOf (followerIn (getD follower₀ 0 0)) setting .follower)))
 
 -- The number of a refusal, 0 for the answers from 16 on.

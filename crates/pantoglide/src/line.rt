@@ -1,10 +1,9 @@
 // The line follower as one octet.
-use lines::Answer;
 use lines::Follower;
 ghost use Prim.Native.Nat.{_≤_};
 ghost use mathlib.Core.Path.{_≡_};
 ghost use Rattle.laws.specs.Pick.{pick};
-ghost use Rattle.pantoglide.specs.Line.{settingIn, followerIn, followerOctet, lineNumber, LineFollowed};
+ghost use Rattle.pantoglide.specs.Line.{settingIn, followerIn, followerOctet, LineFollowed};
 
 // The least number that is an answer and no refusal.
 const SAME: u8 = 16;
@@ -23,17 +22,17 @@ pub extern "C" fn pg_line(follower: &mut [u8], setting: u8) -> u8
     if follower.len() < 1 {
         return parts::SLICE_TOO_SHORT;
     }
-    let followed = follower_in(follower[0]).step(setting);
+    let followed = lines::step_plainly(follower_in(follower[0]), setting);
     let answer = followed.answer;
     let next = followed.follower;
-    let number = line_number(answer);
+    let number = answer.octet();
     if SAME <= number {
         follower[0] = follower_octet(next);
     }
     number
 }
 
-fn follower_in(octet: u8) -> Follower
+pub(crate) fn follower_in(octet: u8) -> Follower
     ensures { λ r. ⌜ r ≡ followerIn octet ⌝ }
 {
     Follower {
@@ -52,21 +51,7 @@ fn setting_in(octet: u8) -> u8
     octet % 32
 }
 
-fn line_number(answer: Answer) -> u8
-    ensures { λ r. ⌜ r ≡ lineNumber answer ⌝ }
-{
-    match answer {
-        Answer::Same => SAME,
-        Answer::Controllers => 17,
-        Answer::Drives => 18,
-        Answer::Undefined => 19,
-        Answer::Lost => 20,
-        Answer::Idle => 21,
-        Answer::Refused(n) => n,
-    }
-}
-
-fn follower_octet(follower: Follower) -> u8
+pub(crate) fn follower_octet(follower: Follower) -> u8
     ensures { λ r. ⌜ r ≡ followerOctet follower ⌝ }
 {
     let history = mark(follower.history, HISTORY);

@@ -14,11 +14,11 @@ slice-read-follower-in c = search needs
 follower-in-requires : tie.Need-follower-in-requires
 follower-in-requires c κs = search needs
 
-step-requires : tie.Need-step-requires
-step-requires c κs = search needs
+step-plainly-requires : tie.Need-step-plainly-requires
+step-plainly-requires c κs = search needs
 
-line-number-requires : tie.Need-line-number-requires
-line-number-requires c κs = search needs
+octet-requires : tie.Need-octet-requires
+octet-requires c κs = search needs
 
 follower-octet-requires : tie.Need-follower-octet-requires
 follower-octet-requires c κs = search needs
@@ -30,10 +30,10 @@ same-length : tie.Need-same-length
 same-length c = search needs
 
 returns-2 : tie.Need-returns-2
-returns-2 c = line-told _ _ _ _ (c .before .before .before .before .before .before .before .if1 .left) (rw (c .before .before .before .before .before .follower-in .ensures) at (c .before .before .before .before .step .ensures)) (c .before .before .line-number .ensures) _ (c .before .if2 .taken) (c .follower-octet .ensures)
+returns-2 c = line-told _ _ _ _ (c .before .before .before .before .before .before .before .if1 .left) (rw (c .before .before .before .before .before .follower-in .ensures) at (c .before .before .before .before .step-plainly .ensures)) (c .before .before .octet .ensures .answer) _ (c .before .if2 .taken) (c .follower-octet .ensures)
 
 returns-3 : tie.Need-returns-3
-returns-3 c = line-refused _ _ _ _ (c .before .before .before .before .before .before .if1 .left) (rw (c .before .before .before .before .follower-in .ensures) at (c .before .before .before .step .ensures)) (c .before .line-number .ensures) (c .if2 .left)
+returns-3 c = line-refused _ _ _ _ (c .before .before .before .before .before .before .if1 .left) (rw (c .before .before .before .before .follower-in .ensures) at (c .before .before .before .step-plainly .ensures)) (c .before .octet .ensures .answer) (c .if2 .left)
 
 pub pg-line-spec : {M : Type 1} → statement M
 pg-line-spec =
@@ -42,8 +42,8 @@ pg-line-spec =
     returns
     slice-read-follower-in
     follower-in-requires
-    step-requires
-    line-number-requires
+    step-plainly-requires
+    octet-requires
     follower-octet-requires
     slice-write-follower
     same-length

@@ -13,12 +13,12 @@ is-reached-requires : tie.Need-is-reached-requires
 is-reached-requires c κs = search needs
 
 returns : tie.Need-returns
-returns c = stepped (sym (unreached-refused _ _ (sym (c .before .is-reached .ensures) ∙ not-true _ (c .if1 .taken))))
+returns c = stepped (sym (unreached-refused _ _ (sym (c .before .is-reached .ensures .answer) ∙ not-true _ (c .if1 .taken))))
 
 returns-2 : tie.Need-returns-2
 unfolding pick
 returns-2 c =
-    let reached = sym (c .before .before .is-reached .ensures) ∙ not-false _ (c .before .if1 .left) in
+    let reached = sym (c .before .before .is-reached .ensures .answer) ∙ not-false _ (c .before .if1 .left) in
     stepped (sym (step-reached _ _ reached ∙ rw (lt-ltb _ _ (c .if2 .taken))))
 
 while-lost-requires : tie.Need-while-lost-requires
@@ -27,16 +27,16 @@ while-lost-requires c κs = search needs
 returns-3 : tie.Need-returns-3
 unfolding pick
 returns-3 c =
-    let reached = sym (c .before .before .before .before .is-reached .ensures) ∙ not-false _ (c .before .before .before .if1 .left) in
+    let reached = sym (c .before .before .before .before .is-reached .ensures .answer) ∙ not-false _ (c .before .before .before .if1 .left) in
     stepped (c .while-lost .ensures ∙ sym (step-reached _ _ reached ∙ rw (le-ltb _ _ (c .before .before .if2 .left), c .before .if3 .taken)))
 
 moved-requires : tie.Need-moved-requires
-moved-requires c κs = (reached-below-32 _ (sym (c .before .before .before .is-reached .ensures) ∙ not-false _ (c .before .before .if1 .left)), search needs)
+moved-requires c κs = (reached-below-32 _ (sym (c .before .before .before .is-reached .ensures .answer) ∙ not-false _ (c .before .before .if1 .left)), search needs)
 
 returns-4 : tie.Need-returns-4
 unfolding pick
 returns-4 c =
-    let reached = sym (c .before .before .before .before .is-reached .ensures) ∙ not-false _ (c .before .before .before .if1 .left) in
+    let reached = sym (c .before .before .before .before .is-reached .ensures .answer) ∙ not-false _ (c .before .before .before .if1 .left) in
     stepped (c .moved .ensures ∙ sym (step-reached _ _ reached ∙ rw (le-ltb _ _ (c .before .before .if2 .left), c .before .if3 .left)))
 
 pub step-spec : {M : Type 1} → statement M

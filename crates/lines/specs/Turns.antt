@@ -1,0 +1,61 @@
+-- M-104: "a second follower without it, where the controller's turn hands over to the drive's turn and back, each taking the moves that are its own and
+-- passing on what remains of the trace." It goes by the two lines of moves.
+use Prim.Native.Nat.{ℕ}
+use mathlib.Core.Bool.{Bool, false, not, _&&_}
+use mathlib.Core.List.{List, [], _∷_, map}
+use lib.Dec.{eqb, ltb}
+use Rattle.laws.specs.Pick.{pick}
+use Rattle.lines.specs.Moves.{Pair, isListed, controllersMoves, drivesMoves}
+use Rattle.lines.specs.Follower.{told, lacksHistory, remembers, undefinedAt, whileLost, isReached}
+use Rattle.lines.specs.Reading.{Read}
+use Rattle.lines.specs.declared.follower.Follower.{Follower}
+use Rattle.lines.specs.declared.follower.Followed.{Followed}
+use Rattle.lines.specs.declared.follower.Answer.{Answer}
+use Rattle.lines.specs.declared.follower.Answer.the-variants.{Same, Controllers, Drives, Refused}
+
+infix 10 _then_
+-- A setting that a side takes in its turn, where `own` tells whether it is a move of its own: "a listed move with its history
+-- answers with its side, and a repeated setting answers "same" and changes nothing".
+unfoldable pub takes : Answer → Bool → Follower → ℕ → Followed
+takes side own f new =
+    pick (ltb 31 new) (told (Refused 8) f)
+    (pick (f .lost) (whileLost new)
+    (pick own (told side (remembers f new))
+    (pick (eqb (f .setting) new) (told Same f) (undefinedAt new))))
+
+abbrev pub controllerTakes : Follower → ℕ → Followed
+controllerTakes f new = takes Controllers (isListed controllersMoves (f .setting) new && not (lacksHistory f new)) f new
+
+abbrev pub driveTakes : Follower → ℕ → Followed
+driveTakes f new = takes Drives (isListed drivesMoves (f .setting) new) f new
+
+-- Is what comes one of these moves? The setting alone does not tell: 16 has moves of both sides.
+abbrev pub comes : List Pair → Follower → List ℕ → Bool
+comes moves f [] = false
+comes moves f (new ∷ rest) = isListed moves (f .setting) new
+
+-- What is said of a setting, and what is read of the rest by the follower behind it.
+abbrev pub _then_ : Followed → (Follower → Read) → Read
+said then rest = record { answers = said .answer ∷ rest (said .follower) .answers; last = rest (said .follower) .last }
+
+abbrev pub nothingLeft : Follower → Read
+nothingLeft f = record { answers = []; last = f }
+
+-- A side takes what comes, a setting at least, until a move of the other side comes.
+unfoldable mutual
+  pub controllersTurn : Follower → List ℕ → Read
+  controllersTurn f [] = nothingLeft f
+  controllersTurn f (new ∷ rest) = controllerTakes f new then λ f′. pick (comes drivesMoves f′ rest) (drivesTurn f′ rest) (controllersTurn f′ rest)
+
+  pub drivesTurn : Follower → List ℕ → Read
+  drivesTurn f [] = nothingLeft f
+  drivesTurn f (new ∷ rest) = driveTakes f new then λ f′. pick (comes controllersMoves f′ rest) (controllersTurn f′ rest) (drivesTurn f′ rest)
+
+-- "a follower state that no trace from the start can reach is refused (11)": every setting is.
+abbrev pub refusedThroughout : Follower → List ℕ → Read
+refusedThroughout f trace = record { answers = map (λ new. Refused 11) trace; last = f }
+
+-- The controller has the first turn, unless a move of the drive comes.
+unfoldable pub readPlainly : Follower → List ℕ → Read
+readPlainly f trace =
+    pick (isReached f) (pick (comes drivesMoves f trace) (drivesTurn f trace) (controllersTurn f trace)) (refusedThroughout f trace)
