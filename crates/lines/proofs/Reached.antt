@@ -62,7 +62,7 @@ step-stays f new e = rw (step-reached f new e) (by-setting (ltb 31 new) refl)
     by-setting true o = e
     by-setting false o = let h = ltb-false 31 new o in taken-stays (f .history) (f .lost) (f .setting) new e (omega arith)
 
-pub trace-stays : (f : Follower) (trace : List ℕ) → isReached f ≡ true → isReached (after f trace) ≡ true
+trace-stays : (f : Follower) (trace : List ℕ) → isReached f ≡ true → isReached (after f trace) ≡ true
 unfolding after
 trace-stays f [] e = e
 trace-stays f (new ∷ trace) e = trace-stays ((stepOf f new) .follower) trace (step-stays f new e)

@@ -5,7 +5,7 @@ use mathlib.Core.Path.{_≡_, refl, sym, ap, _∙_}
 use mathlib.Core.List.{List, [], _∷_, _++_, map, map-append}
 use native.Mathlib.Omega.{arith}
 use borrow.Author.Tests.{lt-ltb, le-ltb}
-use lib.ListN.{length, getD, take, drop, set, replicate, length-map, length-drop, length-replicate, replicate-append-replicate}
+use lib.ListN.{length, getD, take, drop, set, length-map, length-drop}
 use lib.Seq.{take-add, take-all, length-take-le, sets-eq}
 use Rattle.laws.specs.Pick.{pick}
 use Rattle.laws.specs.Lists.{writtenOver, writtenAt}
@@ -112,13 +112,3 @@ told-of read trace room₀ last room h l =
 pub no-room : (read : Read) (trace room : List ℕ) → length room < length trace → TraceRead read trace room (Refused 10) room
 unfolding pick
 no-room read trace room h = let short = lt-ltb (length room) (length trace) h in record { answer = rw short; on-paper = rw short; answers = rw short }
-
--- ---- the same answer to every setting
-
-pub refused-more : (room₀ room : List ℕ) (i n : ℕ) → i < length room₀ → length room ≡ length room₀ → room ≡ writtenOver room₀ (replicate i n)
-    → set room i n ≡ writtenOver room₀ (replicate (i + 1) n)
-refused-more room₀ room i n h kept e =
-    let front = replicate i n in
-    let put : set room i n ≡ writtenAt room i (n ∷ []) = sets-eq (n ∷ []) room i (omega (arith, kept)) in
-    let behind = ap (λ (k : ℕ). writtenAt (writtenOver room₀ front) k (n ∷ [])) (sym (length-replicate i n)) ∙ written-next room₀ front (n ∷ []) in
-    put ∙ rw e (behind ∙ ap (writtenOver room₀) (replicate-append-replicate i 1 n))

@@ -2,7 +2,7 @@
 -- passing on what remains of the trace." It goes by the two lines of moves.
 use Prim.Native.Nat.{ℕ}
 use mathlib.Core.Bool.{Bool, false, not, _&&_}
-use mathlib.Core.List.{List, [], _∷_, map}
+use mathlib.Core.List.{List, [], _∷_}
 use lib.Dec.{eqb, ltb}
 use Rattle.laws.specs.Pick.{pick}
 use Rattle.lines.specs.Moves.{Pair, isListed, controllersMoves, drivesMoves}
@@ -18,10 +18,11 @@ infix 10 _then_
 -- answers with its side, and a repeated setting answers "same" and changes nothing".
 unfoldable pub takes : Answer → Bool → Follower → ℕ → Followed
 takes side own f new =
-    pick (ltb 31 new) (told (Refused 8) f)
+    pick (not (isReached f)) (told (Refused 11) f)
+    (pick (ltb 31 new) (told (Refused 8) f)
     (pick (f .lost) (whileLost new)
     (pick own (told side (remembers f new))
-    (pick (eqb (f .setting) new) (told Same f) (undefinedAt new))))
+    (pick (eqb (f .setting) new) (told Same f) (undefinedAt new)))))
 
 abbrev pub controllerTakes : Follower → ℕ → Followed
 controllerTakes f new = takes Controllers (isListed controllersMoves (f .setting) new && not (lacksHistory f new)) f new
@@ -51,11 +52,6 @@ unfoldable mutual
   drivesTurn f [] = nothingLeft f
   drivesTurn f (new ∷ rest) = driveTakes f new then λ f′. pick (comes controllersMoves f′ rest) (controllersTurn f′ rest) (drivesTurn f′ rest)
 
--- "a follower state that no trace from the start can reach is refused (11)": every setting is.
-abbrev pub refusedThroughout : Follower → List ℕ → Read
-refusedThroughout f trace = record { answers = map (λ new. Refused 11) trace; last = f }
-
 -- The controller has the first turn, unless a move of the drive comes.
 unfoldable pub readPlainly : Follower → List ℕ → Read
-readPlainly f trace =
-    pick (isReached f) (pick (comes drivesMoves f trace) (drivesTurn f trace) (controllersTurn f trace)) (refusedThroughout f trace)
+readPlainly f trace = pick (comes drivesMoves f trace) (drivesTurn f trace) (controllersTurn f trace)

@@ -8,11 +8,10 @@ use crate::line;
 use crate::reading::Traced;
 ghost use Prim.Native.Nat.{_<_, _≤_};
 ghost use mathlib.Core.Path.{_≡_};
-ghost use mathlib.Core.Bool.{true};
-ghost use lib.ListN.{length, replicate};
-ghost use Rattle.laws.specs.Lists.{writtenOver};
+ghost use lib.ListN.{length};
 ghost use Rattle.lines.specs.Moves.{isListed, controllersMoves, drivesMoves};
-ghost use Rattle.lines.specs.Follower.{isReached, Stepped};
+ghost use Rattle.lines.specs.Follower.{told, Stepped};
+ghost use Rattle.lines.specs.declared.follower.Answer.the-variants.{Refused};
 ghost use Rattle.lines.specs.Reading.{Leaves, stepByStep, TraceRead};
 ghost use Rattle.lines.specs.Turns.{takes, controllerTakes, driveTakes, controllersTurn, drivesTurn, readPlainly};
 
@@ -26,10 +25,6 @@ pub fn read_plainly(follower: Follower, trace: &[u8], answers: &mut [u8]) -> Tra
     if answers.len() < trace.len() {
         return Traced::Refused(line::ANSWERS_TOO_SHORT);
     }
-    if !follower.is_reached() {
-        refuse_all(trace.len(), answers);
-        return Traced::Last(follower);
-    }
     Traced::Last(read_stretches(follower, trace, answers))
 }
 
@@ -37,11 +32,9 @@ pub fn read_plainly(follower: Follower, trace: &[u8], answers: &mut [u8]) -> Tra
 pub fn step_plainly(follower: Follower, setting: u8) -> Followed
     ensures { λ r. ⌜ Stepped follower setting r ⌝ }
 {
+    // Asked first, it need not be asked again in the turn.
     if !follower.is_reached() {
-        return Followed {
-            answer: Answer::Refused(line::STATE_NEVER_REACHED),
-            follower,
-        };
+        return never_reached(follower);
     }
     if is_drives(follower.setting, setting) {
         return drive_takes(follower, setting);
@@ -49,20 +42,8 @@ pub fn step_plainly(follower: Follower, setting: u8) -> Followed
     controller_takes(follower, setting)
 }
 
-// No setting leads a follower that no trace reaches to one that a trace does.
-fn refuse_all(count: usize, answers: &mut [u8])
-    requires { ⌜ count ≤ length (now answers) ⌝ }
-    ensures { λ _. ⌜ now (answers .exit) ≡ writtenOver (now (answers .entry)) (replicate count 11) ⌝ }
-{
-    let mut i = 0;
-    while i < count {
-        answers[i] = line::STATE_NEVER_REACHED;
-        i += 1;
-    }
-}
-
 fn read_stretches(follower: Follower, trace: &[u8], answers: &mut [u8]) -> Follower
-    requires { ⌜ (isReached follower ≡ true) × (length (now trace) ≤ length (now answers)) ⌝ }
+    requires { ⌜ length (now trace) ≤ length (now answers) ⌝ }
     ensures { λ r. ⌜ Leaves (stepByStep follower (now (trace .entry))) (now (answers .entry)) r (now (answers .exit)) ⌝ }
 {
     let mut last = follower;
@@ -87,7 +68,7 @@ fn end_of_stretch(at: usize, length: usize) -> usize
 
 // The controller has the first turn, unless a move of the drive comes.
 fn read_stretch(follower: Follower, stretch: &[u8], answers: &mut [u8]) -> Follower
-    requires { ⌜ (isReached follower ≡ true) × (0 < length (now stretch)) × (length (now stretch) ≤ length (now answers)) ⌝ }
+    requires { ⌜ (0 < length (now stretch)) × (length (now stretch) ≤ length (now answers)) ⌝ }
     ensures { λ r. ⌜ Leaves (stepByStep follower (now (stretch .entry))) (now (answers .entry)) r (now (answers .exit)) ⌝ }
 {
     if is_drives(follower.setting, stretch[0]) {
@@ -148,10 +129,22 @@ fn drive_takes(follower: Follower, new: u8) -> Followed
     takes(Answer::Drives, own, follower, new)
 }
 
+fn never_reached(follower: Follower) -> Followed
+    ensures { λ r. ⌜ r ≡ told (Refused 11) follower ⌝ }
+{
+    Followed {
+        answer: Answer::Refused(line::STATE_NEVER_REACHED),
+        follower,
+    }
+}
+
 // A setting in the turn of a side, a move of its own or none of anybody's.
 fn takes(side: Answer, own: bool, follower: Follower, new: u8) -> Followed
     ensures { λ r. ⌜ r ≡ takes side own follower new ⌝ }
 {
+    if !follower.is_reached() {
+        return never_reached(follower);
+    }
     if line::LAST_SETTING < new {
         return Followed {
             answer: Answer::Refused(line::OVER_LAST_SETTING),

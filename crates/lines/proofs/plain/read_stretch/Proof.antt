@@ -23,7 +23,7 @@ returns c =
     let asked : tie.After-is-drives = search in
     let start : tie.Start = search in
     let drives = sym (asked .is-drives .ensures) ∙ c .before .before .before .before .if1 .taken in
-    rw (drives-first _ _ (start .pre .0) (start .pre .1) drives) at (c .before .before .drives-turn .ensures)
+    rw (drives-first (start .args .follower) (start .args .stretch .now) (start .pre .0) drives) at (c .before .before .drives-turn .ensures)
 
 controllers-turn-requires : tie.Need-controllers-turn-requires
 controllers-turn-requires c κs = search needs
@@ -36,7 +36,7 @@ returns-2 c =
     let asked : tie.After-is-drives = search in
     let start : tie.Start = search in
     let controllers = sym (asked .is-drives .ensures) ∙ c .before .before .before .before .if1 .left in
-    rw (controllers-first _ _ (start .pre .0) (start .pre .1) controllers) at (c .before .before .controllers-turn .ensures)
+    rw (controllers-first (start .args .follower) (start .args .stretch .now) (start .pre .0) controllers) at (c .before .before .controllers-turn .ensures)
 
 pub read-stretch-spec : {M : Type 1} → statement M
 read-stretch-spec =

@@ -4,7 +4,6 @@ use Prim.Native.Nat.{_-_}
 use native.Mathlib.Omega.{arith}
 use borrow.Author.Needs.{needs}
 use lib.ListN.{length}
-use Rattle.lines.proofs.Reached.{trace-stays}
 use Rattle.lines.proofs.ReadSoFar.{ReadTo, read-none, stretch-read, all-left}
 use Rattle.lines.proofs.plain.read_stretches.Statement.{statement}
 use Rattle.lines.proofs.plain.read_stretches.Tie as tie
@@ -18,7 +17,7 @@ abbrev μ-loop : tie.MeasureT-loop
 loop-holds : tie.Need-loop-holds Inv-loop μ-loop
 loop-holds c =
     let start : tie.Start Inv-loop μ-loop = search in
-    read-none _ _ _ (start .pre .1)
+    read-none _ _ _ (start .pre)
 
 end-of-stretch-requires : tie.Need-end-of-stretch-requires Inv-loop μ-loop
 end-of-stretch-requires c κs = search needs
@@ -44,15 +43,11 @@ part-read-stretch-end-2 c = search needs
 read-stretch-requires : tie.Need-read-stretch-requires Inv-loop μ-loop
 read-stretch-requires c κs =
     let here : tie.At-loop Inv-loop μ-loop = search in
-    let start : tie.Start Inv-loop μ-loop = search in
     let inv = here .loop .inv in
     let stretch-length = c .before .read-stretch-arg .given .1 in
     let room-length = c .read-stretch-arg2 .given .1 in
-    let end = c .before .before .end-of-stretch .ensures in (
-      rw (inv .reached) (trace-stays (start .args .follower) _ (start .pre .0)),
-      omega (arith, stretch-length, end .0),
-      omega (arith, stretch-length, room-length, end .0, end .1, inv .enough, inv .kept),
-    )
+    let end = c .before .before .end-of-stretch .ensures in
+    (omega (arith, stretch-length, end .0), omega (arith, stretch-length, room-length, end .0, end .1, inv .enough, inv .kept))
 
 loop-less : tie.Need-loop-less Inv-loop μ-loop
 loop-less c = search needs
