@@ -2,25 +2,32 @@
 -- Assumes nothing.
 use Prim.Native.Nat.{ℕ, suc}
 use mathlib.Core.Path.{_≡_, refl}
+use mathlib.Core.Bool.{Bool}
+use mathlib.Core.List.{List}
 use mathlib.Core.Logic.{_↔_}
 use lib.Dec.{eqb}
 use Rattle.laws.specs.Pick.{pick}
 use Rattle.laws.specs.Rows.{Given, first}
 use Rattle.laws.proofs.Only.{answer-only}
 use Rattle.laws.proofs.Pick.{either}
-use Rattle.laws.proofs.Rows.{first-is-exact, reported}
+use Rattle.laws.proofs.Rows.{exactly, first-is-exact, reported}
 use Rattle.lines.specs.Line.{WeightSaid, OwnerSaid}
 use Rattle.lines.specs.Moves as pairs
 use Rattle.lines.specs.Moves.{entryOf, saidBy, moveRows, moveOf, MoveSaid}
 use Rattle.lines.specs.Follower as follower
-use Rattle.lines.specs.Follower.{told, lacksHistory, movedBy, undefinedAt, whileLost, moved, stepRows, stepOf, Started, Stepped}
+use Rattle.lines.specs.Follower.{told, lacksHistory, movedBy, undefinedAt, whileLost, moved, stepRows, stepOf, Started, Stepped, ReachedSaid}
+use Rattle.lines.specs.Reading as reading
+use Rattle.lines.specs.Reading.{Read, readRows, OctetSaid, TraceRead}
 use Rattle.lines.specs.declared.line.Line.{Line}
 use Rattle.lines.specs.declared.line.Side.{Side}
 use Rattle.lines.specs.declared.moves.Move.{Move}
 use Rattle.lines.specs.declared.moves.Move.the-variants as moves
 use Rattle.lines.specs.declared.follower.Follower.{Follower}
 use Rattle.lines.specs.declared.follower.Followed.{Followed}
+use Rattle.lines.specs.declared.follower.Answer.{Answer}
 use Rattle.lines.specs.declared.follower.Answer.the-variants as answer
+use Rattle.lines.specs.declared.reading.Traced.{Traced}
+use Rattle.lines.specs.declared.reading.Traced.the-variants as traced
 
 pub weight-only : {line : Line} {r r′ : ℕ} → WeightSaid line r → WeightSaid line r′ → r ≡ r′
 weight-only h k = answer-only (h .answer) (k .answer)
@@ -36,6 +43,17 @@ start-only h k = answer-only (h .follower) (k .follower)
 
 pub step-only : {f : Follower} {new : ℕ} {r r′ : Followed} → Stepped f new r → Stepped f new r′ → r ≡ r′
 step-only h k = λ i. record { answer = answer-only (h .answer) (k .answer) i; follower = answer-only (h .follower) (k .follower) i }
+
+pub is-reached-only : {f : Follower} {r r′ : Bool} → ReachedSaid f r → ReachedSaid f r′ → r ≡ r′
+is-reached-only h k = answer-only (h .answer) (k .answer)
+
+pub octet-only : {said : Answer} {r r′ : ℕ} → OctetSaid said r → OctetSaid said r′ → r ≡ r′
+octet-only h k = answer-only (h .answer) (k .answer)
+
+-- of `follow` and of `read_plainly`
+pub trace-read-only : {read : Read} {trace answers : List ℕ} {r r′ : Traced} {answers′ answers″ : List ℕ} → TraceRead read trace answers r answers′
+    → TraceRead read trace answers r′ answers″ → (r ≡ r′) × (answers′ ≡ answers″)
+trace-read-only h k = (answer-only (h .answer) (k .answer), answer-only (h .answers) (k .answers))
 
 -- ---- refusals
 
@@ -70,3 +88,8 @@ step-refusal f new =
 
 pub step-exactly : {f : Follower} {new : ℕ} {r : Followed} → Stepped f new r → (n : ℕ) → follower.refusalIn (r .answer) ≡ suc n ↔ Given (suc n) (stepRows f new)
 step-exactly {f} {new} h n = rw (h .answer, step-refusal f new) (first-is-exact n (stepRows f new))
+
+pub trace-read-exactly : {read : Read} {trace answers : List ℕ} {r : Traced} {answers′ : List ℕ} → TraceRead read trace answers r answers′
+    → (n : ℕ) → reading.refusalIn r ≡ suc n ↔ Given (suc n) (readRows trace answers)
+trace-read-exactly {read} {trace} {answers} {r} h n =
+    exactly reading.refusalIn traced.Refused (traced.Last (read .last)) r (readRows trace answers) (λ m. refl) refl (h .answer) n

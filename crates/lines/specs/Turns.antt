@@ -14,8 +14,8 @@ use Rattle.lines.specs.declared.follower.Answer.{Answer}
 use Rattle.lines.specs.declared.follower.Answer.the-variants.{Same, Controllers, Drives, Refused}
 
 infix 10 _then_
--- A setting that a side takes in its turn, where `own` tells whether it is a move of its own: "a listed move with its history
--- answers with its side, and a repeated setting answers "same" and changes nothing".
+-- A setting that a side takes in its turn; `own` tells whether it is a move of its own. "A setting over 31 is refused (8); a follower state that no trace
+-- from the start can reach is refused (11), tested first." "a listed move with its history answers with its side, and a repeated setting answers "same""
 unfoldable pub takes : Answer → Bool → Follower → ℕ → Followed
 takes side own f new =
     pick (not (isReached f)) (told (Refused 11) f)
@@ -24,6 +24,7 @@ takes side own f new =
     (pick own (told side (remembers f new))
     (pick (eqb (f .setting) new) (told Same f) (undefinedAt new)))))
 
+-- Only moves of the controller need history.
 abbrev pub controllerTakes : Follower → ℕ → Followed
 controllerTakes f new = takes Controllers (isListed controllersMoves (f .setting) new && not (lacksHistory f new)) f new
 
