@@ -14,7 +14,7 @@ use Rattle.laws.proofs.Lists.{every-one-of, every, every-below, everyBelow, Eac
 use Rattle.lines.specs.Moves.{entryOf}
 use Rattle.lines.specs.Follower.{isReached, seenSettings, settingsWithHistory, _with-history_, moved, movedBy, lacksHistory, remembers, undefinedAt, idle, lost, told, whileLost, stepOf}
 use Rattle.lines.specs.Traces.{after, Reached, ReachedExactly}
-use Rattle.lines.proofs.Step.{step-reached}
+use Rattle.lines.proofs.Step.{step-reached, unreached-refused}
 use Rattle.lines.specs.declared.follower.Follower.{Follower}
 use Rattle.lines.specs.declared.follower.Answer.the-variants.{Idle, Lost, Refused}
 
@@ -62,10 +62,16 @@ step-stays f new e = rw (step-reached f new e) (by-setting (ltb 31 new) refl)
     by-setting true o = e
     by-setting false o = let h = ltb-false 31 new o in taken-stays (f .history) (f .lost) (f .setting) new e (omega arith)
 
-trace-stays : (f : Follower) (trace : List ℕ) → isReached f ≡ true → isReached (after f trace) ≡ true
+pub trace-stays : (f : Follower) (trace : List ℕ) → isReached f ≡ true → isReached (after f trace) ≡ true
 unfolding after
 trace-stays f [] e = e
 trace-stays f (new ∷ trace) e = trace-stays ((stepOf f new) .follower) trace (step-stays f new e)
+
+-- and none changes a follower that is not one of them
+pub trace-refused : (f : Follower) (trace : List ℕ) → isReached f ≡ false → after f trace ≡ f
+unfolding after
+trace-refused f [] e = refl
+trace-refused f (new ∷ trace) e = rw (unreached-refused f new e) (trace-refused f trace e)
 
 pub idle-reached : isReached idle ≡ true
 unfolding isReached pick

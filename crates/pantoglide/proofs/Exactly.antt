@@ -1,4 +1,4 @@
--- Each refusal of `pg_replay`, of `pg_line`, of the calls for captures and of those for the defect map is given exactly when its row holds and no row
+-- Each refusal of `pg_replay`, of the calls for the lines, of the calls for captures and of those for the defect map is given exactly when its row holds and no row
 -- tested earlier does.
 -- Assumes nothing.
 use Prim.Native.Nat.{ℕ, zero, suc, _≤_}
@@ -16,6 +16,7 @@ use Rattle.laws.proofs.Rows.{first-is-exact, first-up-to, rows-rest}
 use Rattle.lines.specs.Follower.{stepOf}
 use Rattle.lines.specs.Reading.{octetOf}
 use Rattle.pantoglide.specs.Replay.{replayRows}
+use Rattle.pantoglide.specs.Lines.{linesRows}
 use Rattle.pantoglide.specs.Line.{followerIn, lineRows, lineRefusal, LineFollowed, refusalIn}
 use Rattle.capture.specs.Capture.{captureRows}
 use Rattle.capture.specs.Encoding.{encodeRows}
@@ -75,6 +76,7 @@ exactly-when =
       pg-replay-exactly = λ {state} {records} {from} {limit} {answers = answers} {gaps} {ran} w n.
           rw (w .refusal) (first-is-exact n (replayRows state records from limit answers gaps ran));
       pg-line-exactly = λ {follower} {setting} w n. rw (line-refusal w) (first-is-exact n (lineRows follower setting));
+      pg-lines-exactly = λ {follower = follower} {trace} {answers} w n. rw (w .refusal) (first-is-exact n (linesRows follower trace answers));
       pg-capture-exactly = λ {octets} w n. rw (w .refusal) (first-is-exact n (captureRows octets));
       pg-make-capture-exactly = λ {notes} {records} {out₀} w n. rw (w .refusal) (first-is-exact n (encodeRows notes records out₀));
       pg-decode-defect-exactly = λ {octets} w n. rw (w .refusal) (first-is-exact n (defectRows octets));

@@ -36,7 +36,7 @@ octet-back s true false h = by-bits _ s 1 0 (omega arith) (omega arith) (omega a
 octet-back s false true h = by-bits _ s 0 1 (omega arith) (omega arith) (omega arith) (omega arith)
 octet-back s false false h = by-bits _ s 0 0 (omega arith) (omega arith) (omega arith) (omega arith)
 
-read-back : (f : Follower) → f .setting < 32 → followerIn (followerOctet f) ≡ f
+pub read-back : (f : Follower) → f .setting < 32 → followerIn (followerOctet f) ≡ f
 unfolding followerOctet
 read-back f h = octet-back (f .setting) (f .history) (f .lost) h
 

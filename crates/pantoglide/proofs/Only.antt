@@ -8,7 +8,10 @@ use Rattle.laws.proofs.Only.{answer-only}
 use Rattle.pantoglide.specs.Capture.{CaptureFound, CaptureMade}
 use Rattle.parts.specs.declared.setup.Setup.{Setup}
 use Rattle.pantoglide.specs.Defects.{DefectTold, DefectMade, PlaceTold, MapTold, MapMade, MapReadOff, MapPut}
+use Rattle.lines.specs.Reading.{Read}
+use Rattle.lines.specs.declared.follower.Follower.{Follower}
 use Rattle.pantoglide.specs.Line.{LineFollowed}
+use Rattle.pantoglide.specs.Lines.{LinesRead}
 use Rattle.pantoglide.specs.Replay.{ReplayOnWords}
 
 pub pg-replay-only : {state records : List ℕ} {from limit : ℕ} {sectors staging answers gaps ran : List ℕ} {r r′ : ℕ}
@@ -30,6 +33,14 @@ pg-replay-only h k =
 pub pg-line-only : {follower : List ℕ} {setting r r′ : ℕ} {follower′ follower″ : List ℕ} → LineFollowed follower setting r follower′
     → LineFollowed follower setting r′ follower″ → (r ≡ r′) × (follower′ ≡ follower″)
 pg-line-only h k = (answer-only (h .answer) (k .answer), answer-only (h .follower) (k .follower))
+
+-- of `pg_lines` and of `pg_lines_plain`
+pub pg-lines-only : {read : Follower → List ℕ → Read} {follower trace answers : List ℕ} {r r′ : ℕ} {follower′ follower″ answers′ answers″ : List ℕ}
+    → LinesRead read follower trace answers r follower′ answers′ → LinesRead read follower trace answers r′ follower″ answers″
+    → (r ≡ r′) × (follower′ ≡ follower″) × (answers′ ≡ answers″)
+pg-lines-only h k =
+    let e = answer-only (h .refusal) (k .refusal) in
+    (e, answer-only (rw e at (h .follower)) (k .follower), answer-only (rw e at (h .answers)) (k .answers))
 
 pub pg-capture-only : {octets : List ℕ} {first₀ count₀ r r′ first₁ count₁ first₂ count₂ : ℕ} → CaptureFound octets first₀ count₀ r first₁ count₁
     → CaptureFound octets first₀ count₀ r′ first₂ count₂ → (r ≡ r′) × (first₁ ≡ first₂) × (count₁ ≡ count₂)

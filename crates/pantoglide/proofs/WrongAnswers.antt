@@ -5,11 +5,31 @@ use lib.ListN.{getD}
 use Rattle.laws.proofs.Differ.{told-apart, differ-at}
 use Rattle.lines.specs.Moves.{entryOf}
 use Rattle.lines.specs.Follower.{lacksHistory, remembers, movedBy, isReached, stepOf}
-use Rattle.lines.specs.Reading.{octetOf}
+use Rattle.lines.specs.Reading.{octetOf, stepByStep}
+use Rattle.lines.specs.Turns.{readPlainly}
 use Rattle.defects.proofs.Computing.{computing-maps}
 use Rattle.events.proofs.Computing.{computing-words}
 use Rattle.pantoglide.specs.Line.{settingIn, followerIn, followerOctet}
-use Rattle.pantoglide.specs.WrongAnswers.{WrongAnswers}
+use Rattle.pantoglide.specs.WrongAnswers.{WrongLines, WrongAnswers}
+use Rattle.pantoglide.proofs.LinesAlike.{lines-alike}
+
+wrong-lines : WrongLines stepByStep
+unfolding computing-words isReached settingIn followerIn
+wrong-lines =
+    record {
+      noFollowerWrittenBack = λ h. differ-at 0 refl (h .follower);
+      readAsFarAsThereIsRoom = λ h. told-apart 0 10 refl (h .refusal);
+      traceRefused = λ h. told-apart 8 0 refl (h .refusal);
+    }
+
+-- what the table's call does not promise, the plain one does not promise either
+wrong-plain-lines : WrongLines readPlainly
+wrong-plain-lines =
+    record {
+      noFollowerWrittenBack = λ h. wrong-lines .noFollowerWrittenBack (lines-alike .alike h);
+      readAsFarAsThereIsRoom = λ h. wrong-lines .readAsFarAsThereIsRoom (lines-alike .alike h);
+      traceRefused = λ h. wrong-lines .traceRefused (lines-alike .alike h);
+    }
 
 pub wrong-answers : WrongAnswers
 unfolding computing-words computing-maps entryOf lacksHistory remembers movedBy isReached stepOf settingIn followerIn followerOctet octetOf
@@ -29,6 +49,8 @@ wrong-answers =
       refusedYetCounted = λ h. told-apart 0 7 refl (h .count);
       tornRecordsTaken = λ h. told-apart 0 8 refl (h .refusal);
       trailerNotCounted = λ h. told-apart 24 32 refl (h .size);
+      linesByTheTable = wrong-lines;
+      linesPlainly = wrong-plain-lines;
       historyForgotten = λ h. told-apart 0x10 0x30 refl (ap (λ words. getD words 0 0) (h .follower));
       headForgotten = λ h. told-apart 7 1 refl (h .head);
       refusedYetWritten = λ h. told-apart 0 7 refl (h .cylinder);

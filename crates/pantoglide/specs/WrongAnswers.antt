@@ -21,11 +21,15 @@ use Rattle.events.specs.Power.{PoweredUpOnWords}
 use Rattle.events.specs.Event.{eventOfOctets, EventOnWords}
 use Rattle.events.specs.Run.{RunOnWords}
 use Rattle.events.specs.WrongAnswers.{sector, zeros, disk, selection}
+use Rattle.lines.specs.Reading.{Read, stepByStep}
+use Rattle.lines.specs.Turns.{readPlainly}
+use Rattle.lines.specs.declared.follower.Follower.{Follower}
 use Rattle.defects.specs.Cases.{narrow, small, noDefects, copyThree, behindTheLastCylinder, orderBroken}
 use Rattle.defects.specs.WrongAnswers.{lent, itsOctets, crcOfOneLess, blank, onTheLastTrack, onTheFirstTrack}
 use Rattle.pantoglide.specs.Capture.{CaptureFound, CaptureMade}
 use Rattle.pantoglide.specs.Defects.{DefectTold, DefectMade, PlaceTold, MapTold, MapMade, MapReadOff, MapPut}
 use Rattle.pantoglide.specs.Line.{LineFollowed}
+use Rattle.pantoglide.specs.Lines.{LinesRead}
 use Rattle.pantoglide.specs.Replay.{ReplayOnWords}
 
 -- The words of the bench drive at rest.
@@ -43,6 +47,15 @@ reservation =
     ++ (0 ∷ 0 ∷ 0 ∷ 3 ∷ 0x01 ∷ 0 ∷ 0 ∷ 0 ∷ [])
     ++ (0 ∷ 0 ∷ 0 ∷ 4 ∷ 0x14 ∷ 0x14 ∷ 0 ∷ 0 ∷ [])
     ++ (0 ∷ 0 ∷ 0 ∷ 2 ∷ 0 ∷ 0 ∷ 0 ∷ 0 ∷ [])
+
+-- Of `pg_lines` and `pg_lines_plain`, by whatever they read.
+pub record WrongLines (read : Follower → List ℕ → Read) : Type 0 where
+  -- The octet of no follower is read and written back: bit 7 is gone.
+  pub noFollowerWrittenBack : LinesRead read (0x80 ∷ []) (16 ∷ []) (0 ∷ []) 0 (0 ∷ []) (11 ∷ []) → ⊥
+  -- Two settings are read into room for one.
+  pub readAsFarAsThereIsRoom : LinesRead read (0 ∷ []) (16 ∷ 24 ∷ []) (0 ∷ []) 0 (0x30 ∷ []) (17 ∷ []) → ⊥
+  -- A setting over 31 is refused, as by `pg_line`.
+  pub traceRefused : LinesRead read (0 ∷ []) (32 ∷ 16 ∷ []) (0 ∷ 0 ∷ []) 8 (0 ∷ []) (0 ∷ 0 ∷ []) → ⊥
 
 pub record WrongAnswers : Type 0 where
   -- ---- `pg_power_up`
@@ -77,6 +90,9 @@ pub record WrongAnswers : Type 0 where
   pub bit7Taken : LineFollowed (0x80 ∷ []) 16 17 (0x30 ∷ []) → ⊥
   -- The history is forgotten: the next move to IDLE would be undefined.
   pub historyForgotten : LineFollowed (0 ∷ []) 16 17 (0x10 ∷ []) → ⊥
+  -- ---- `pg_lines`, `pg_lines_plain`
+  pub linesByTheTable : WrongLines stepByStep
+  pub linesPlainly : WrongLines readPlainly
   -- ---- `pg_capture`
   -- The first record of document 01's own capture is taken for notes.
   pub firstRecordForNotes : CaptureFound (threeEvents ++ itsTrailer) 0 0 0 8 2 → ⊥
