@@ -11,9 +11,8 @@ use Rattle.laws.specs.Pick.{pick}
 use Rattle.laws.specs.Lists.{writtenOver, writtenAt}
 use Rattle.laws.proofs.Lists.{stored}
 use Rattle.laws.proofs.Windows.{part-back, written-next}
-use Rattle.lines.specs.Moves.{Pair, isListed, controllersMoves, drivesMoves}
 use Rattle.lines.specs.Reading.{octetOf, Read, Leaves}
-use Rattle.lines.specs.Turns.{controllerTakes, driveTakes, _then_, nothingLeft, controllersTurn, drivesTurn}
+use Rattle.lines.specs.Turns.{isControllers, isDrives, controllerTakes, driveTakes, _then_, nothingLeft, controllersTurn, drivesTurn}
 use Rattle.lines.specs.declared.follower.Follower.{Follower}
 use Rattle.lines.specs.declared.follower.Followed.{Followed}
 
@@ -26,40 +25,40 @@ pub as-long : (room mid : List ℕ) (x : ℕ) → let put = set room 0 x in
     length mid ≡ length (take (length put - 1) (drop 1 put)) → length (take 1 put ++ (mid ++ drop (length put - 1) (drop 1 put))) ≡ length room
 as-long room mid x e = same-len-mid 1 (length (set room 0 x) - 1) (set room 0 x) mid e ∙ length-set room 0 x
 
--- ---- a side: how it takes a setting, its turn and the other's, and the moves at which it hands over
+-- ---- a side: how it takes a setting, its turn and the other's, and the other's moves, at which it hands over
 
 pub record Side : Type 0 where
   pub takesIt : Follower → ℕ → Followed
   pub turn : Follower → List ℕ → Read
   pub other : Follower → List ℕ → Read
-  pub moves : List Pair
+  pub isMove : Follower → ℕ → Bool
   pub ends : (f : Follower) (new : ℕ) → turn f (new ∷ []) ≡ (takesIt f new then nothingLeft)
   pub goes : (f : Follower) (new next : ℕ) (rest : List ℕ)
-      → turn f (new ∷ next ∷ rest) ≡ (takesIt f new then λ f′. pick (isListed moves (f′ .setting) next) (other f′ (next ∷ rest)) (turn f′ (next ∷ rest)))
+      → turn f (new ∷ next ∷ rest) ≡ (takesIt f new then λ f′. pick (isMove f′ next) (other f′ (next ∷ rest)) (turn f′ (next ∷ rest)))
 
 pub controllers-end : (f : Follower) (new : ℕ) → controllersTurn f (new ∷ []) ≡ (controllerTakes f new then nothingLeft)
 unfolding controllersTurn pick
 controllers-end f new = refl
 
 pub controllers-go : (f : Follower) (new next : ℕ) (rest : List ℕ)
-    → controllersTurn f (new ∷ next ∷ rest) ≡ (controllerTakes f new then λ f′. pick (isListed drivesMoves (f′ .setting) next) (drivesTurn f′ (next ∷ rest)) (controllersTurn f′ (next ∷ rest)))
+    → controllersTurn f (new ∷ next ∷ rest) ≡ (controllerTakes f new then λ f′. pick (isDrives f′ next) (drivesTurn f′ (next ∷ rest)) (controllersTurn f′ (next ∷ rest)))
 unfolding controllersTurn
 controllers-go f new next rest = refl
 
 abbrev pub controllers : Side
-controllers = record { takesIt = controllerTakes; turn = controllersTurn; other = drivesTurn; moves = drivesMoves; ends = controllers-end; goes = controllers-go }
+controllers = record { takesIt = controllerTakes; turn = controllersTurn; other = drivesTurn; isMove = isDrives; ends = controllers-end; goes = controllers-go }
 
 pub drives-end : (f : Follower) (new : ℕ) → drivesTurn f (new ∷ []) ≡ (driveTakes f new then nothingLeft)
 unfolding drivesTurn pick
 drives-end f new = refl
 
 pub drives-go : (f : Follower) (new next : ℕ) (rest : List ℕ)
-    → drivesTurn f (new ∷ next ∷ rest) ≡ (driveTakes f new then λ f′. pick (isListed controllersMoves (f′ .setting) next) (controllersTurn f′ (next ∷ rest)) (drivesTurn f′ (next ∷ rest)))
+    → drivesTurn f (new ∷ next ∷ rest) ≡ (driveTakes f new then λ f′. pick (isControllers f′ next) (controllersTurn f′ (next ∷ rest)) (drivesTurn f′ (next ∷ rest)))
 unfolding drivesTurn
 drives-go f new next rest = refl
 
 abbrev pub drives : Side
-drives = record { takesIt = driveTakes; turn = drivesTurn; other = controllersTurn; moves = controllersMoves; ends = drives-end; goes = drives-go }
+drives = record { takesIt = driveTakes; turn = drivesTurn; other = controllersTurn; isMove = isControllers; ends = drives-end; goes = drives-go }
 
 module _ (side : Side) where
   pub turn-ended : (f : Follower) (trace room : List ℕ) (taken : Followed) (x : ℕ) → 0 < length trace → length trace < 2 → length trace ≤ length room
@@ -70,7 +69,7 @@ module _ (side : Side) where
 
   pub turn-goes-on : (f : Follower) (trace left room : List ℕ) (taken : Followed) (x : ℕ) (hands : Bool) (last : Follower) (mid : List ℕ)
       → 2 ≤ length trace → length trace ≤ length room → left ≡ drop 1 trace → taken ≡ side .takesIt f (getD trace 0 0) → x ≡ octetOf (taken .answer)
-      → hands ≡ isListed (side .moves) (taken .follower .setting) (getD left 0 0)
+      → hands ≡ side .isMove (taken .follower) (getD left 0 0)
       → let put = set room 0 x in
       Leaves (pick hands (side .other (taken .follower) left) (side .turn (taken .follower) left)) (take (length put - 1) (drop 1 put)) last mid
       → Leaves (side .turn f trace) room last (take 1 put ++ (mid ++ drop (length put - 1) (drop 1 put)))

@@ -2,23 +2,22 @@
 use Prim.Native.Nat.{ℕ}
 use mathlib.Core.Path.{_≡_}
 use mathlib.Core.Bool.{true, false}
-use mathlib.Core.List.{List, [], _∷_}
-use Rattle.lines.specs.Moves.{isListed, controllersMoves, drivesMoves}
+use mathlib.Core.List.{List}
 use Rattle.lines.specs.Follower.{stepOf}
 use Rattle.lines.specs.Traces.{after, answers}
 use Rattle.lines.specs.Reading.{stepByStep, TraceRead}
-use Rattle.lines.specs.Turns.{controllerTakes, driveTakes, comes, controllersTurn, drivesTurn, readPlainly}
+use Rattle.lines.specs.Turns.{isControllers, isDrives, controllerTakes, driveTakes, comes, controllersTurn, drivesTurn, readPlainly}
 use Rattle.lines.specs.declared.follower.Follower.{Follower}
 use Rattle.lines.specs.declared.reading.Traced.{Traced}
 
 -- The turns' own definition is the step, setting by setting and over a whole trace: of either side, unless a move of the other side comes.
 pub record PlainDefinitionIsTheStep : Type 0 where
-  pub controller-takes : (f : Follower) (new : ℕ) → isListed drivesMoves (f .setting) new ≡ false → controllerTakes f new ≡ stepOf f new
-  pub drive-takes : (f : Follower) (new : ℕ) → isListed controllersMoves (f .setting) new ≡ false → driveTakes f new ≡ stepOf f new
-  pub controllers-turn : (f : Follower) (trace : List ℕ) → comes drivesMoves f trace ≡ false → controllersTurn f trace ≡ stepByStep f trace
-  pub drives-turn : (f : Follower) (trace : List ℕ) → comes controllersMoves f trace ≡ false → drivesTurn f trace ≡ stepByStep f trace
-  -- no move is both sides', so one of the two turns has it
-  pub one-sided : (f : Follower) (trace : List ℕ) → comes drivesMoves f trace ≡ true → comes controllersMoves f trace ≡ false
+  pub controller-takes : (f : Follower) (new : ℕ) → isDrives f new ≡ false → controllerTakes f new ≡ stepOf f new
+  pub drive-takes : (f : Follower) (new : ℕ) → isControllers f new ≡ false → driveTakes f new ≡ stepOf f new
+  pub controllers-turn : (f : Follower) (trace : List ℕ) → comes isDrives f trace ≡ false → controllersTurn f trace ≡ stepByStep f trace
+  pub drives-turn : (f : Follower) (trace : List ℕ) → comes isControllers f trace ≡ false → drivesTurn f trace ≡ stepByStep f trace
+  -- No move is both sides', so one of the two turns has it.
+  pub one-sided : (f : Follower) (trace : List ℕ) → comes isDrives f trace ≡ true → comes isControllers f trace ≡ false
 
 -- Of every follower and every trace; and whatever the one call may answer, the other may.
 pub record PlainIsTheTable : Type 0 where

@@ -5,7 +5,7 @@ use mathlib.Core.Bool.{Bool, false, not, _&&_}
 use mathlib.Core.List.{List, [], _∷_}
 use lib.Dec.{eqb, ltb}
 use Rattle.laws.specs.Pick.{pick}
-use Rattle.lines.specs.Moves.{Pair, isListed, controllersMoves, drivesMoves}
+use Rattle.lines.specs.Moves.{isListed, controllersMoves, drivesMoves}
 use Rattle.lines.specs.Follower.{told, lacksHistory, remembers, undefinedAt, whileLost, isReached}
 use Rattle.lines.specs.Reading.{Read}
 use Rattle.lines.specs.declared.follower.Follower.{Follower}
@@ -14,27 +14,35 @@ use Rattle.lines.specs.declared.follower.Answer.{Answer}
 use Rattle.lines.specs.declared.follower.Answer.the-variants.{Same, Controllers, Drives, Refused}
 
 infix 10 _then_
--- A setting that a side takes in its turn; `own` tells whether it is a move of its own. "A setting over 31 is refused (8); a follower state that no trace
--- from the start can reach is refused (11), tested first." "a listed move with its history answers with its side, and a repeated setting answers "same""
-unfoldable pub takes : Answer → Bool → Follower → ℕ → Followed
-takes side own f new =
-    pick (not (isReached f)) (told (Refused 11) f)
-    (pick (ltb 31 new) (told (Refused 8) f)
-    (pick (f .lost) (whileLost new)
-    (pick own (told side (remembers f new))
-    (pick (eqb (f .setting) new) (told Same f) (undefinedAt new)))))
+-- A move of the controller's: listed, "with its history", and none while the follower is lost.
+abbrev pub isControllers : Follower → ℕ → Bool
+isControllers f new = not (f .lost) && (isListed controllersMoves (f .setting) new && not (lacksHistory f new))
 
--- Only moves of the controller need history.
+-- A move of the drive's. No other move needs history; and a follower that is lost is at 0, where the drive has no move.
+abbrev pub isDrives : Follower → ℕ → Bool
+isDrives f new = isListed drivesMoves (f .setting) new
+
+-- "A setting over 31 is refused (8)", "While lost it answers ..", "a repeated setting answers "same" and changes nothing", "Any other move is undefined".
+unfoldable pub nobodysMove : Follower → ℕ → Followed
+nobodysMove f new =
+    pick (ltb 31 new) (told (Refused 8) f)
+    (pick (f .lost) (whileLost new)
+    (pick (eqb (f .setting) new) (told Same f) (undefinedAt new)))
+
+-- A setting in the turn of a side: `own` tells whether it is a move of its own.
+unfoldable pub takes : Answer → Bool → Follower → ℕ → Followed
+takes side own f new = pick (not (isReached f)) (told (Refused 11) f) (pick own (told side (remembers f new)) (nobodysMove f new))
+
 abbrev pub controllerTakes : Follower → ℕ → Followed
-controllerTakes f new = takes Controllers (isListed controllersMoves (f .setting) new && not (lacksHistory f new)) f new
+controllerTakes f new = takes Controllers (isControllers f new) f new
 
 abbrev pub driveTakes : Follower → ℕ → Followed
-driveTakes f new = takes Drives (isListed drivesMoves (f .setting) new) f new
+driveTakes f new = takes Drives (isDrives f new) f new
 
--- Is what comes one of these moves? The setting alone does not tell: 16 has moves of both sides.
-abbrev pub comes : List Pair → Follower → List ℕ → Bool
-comes moves f [] = false
-comes moves f (new ∷ rest) = isListed moves (f .setting) new
+-- Does a move of this side come? Where the lines are does not tell: at 16 either side has one.
+abbrev pub comes : (Follower → ℕ → Bool) → Follower → List ℕ → Bool
+comes isMove f [] = false
+comes isMove f (new ∷ rest) = isMove f new
 
 -- What is said of a setting, and what is read of the rest by the follower behind it.
 abbrev pub _then_ : Followed → (Follower → Read) → Read
@@ -47,12 +55,12 @@ nothingLeft f = record { answers = []; last = f }
 unfoldable mutual
   pub controllersTurn : Follower → List ℕ → Read
   controllersTurn f [] = nothingLeft f
-  controllersTurn f (new ∷ rest) = controllerTakes f new then λ f′. pick (comes drivesMoves f′ rest) (drivesTurn f′ rest) (controllersTurn f′ rest)
+  controllersTurn f (new ∷ rest) = controllerTakes f new then λ f′. pick (comes isDrives f′ rest) (drivesTurn f′ rest) (controllersTurn f′ rest)
 
   pub drivesTurn : Follower → List ℕ → Read
   drivesTurn f [] = nothingLeft f
-  drivesTurn f (new ∷ rest) = driveTakes f new then λ f′. pick (comes controllersMoves f′ rest) (controllersTurn f′ rest) (drivesTurn f′ rest)
+  drivesTurn f (new ∷ rest) = driveTakes f new then λ f′. pick (comes isControllers f′ rest) (controllersTurn f′ rest) (drivesTurn f′ rest)
 
 -- The controller has the first turn, unless a move of the drive comes.
 unfoldable pub readPlainly : Follower → List ℕ → Read
-readPlainly f trace = pick (comes drivesMoves f trace) (drivesTurn f trace) (controllersTurn f trace)
+readPlainly f trace = pick (comes isDrives f trace) (drivesTurn f trace) (controllersTurn f trace)

@@ -8,12 +8,13 @@ use crate::line;
 use crate::reading::Traced;
 ghost use Prim.Native.Nat.{_<_, _≤_};
 ghost use mathlib.Core.Path.{_≡_};
+ghost use mathlib.Core.Bool.{not, _&&_};
 ghost use lib.ListN.{length};
 ghost use Rattle.lines.specs.Moves.{isListed, controllersMoves, drivesMoves};
-ghost use Rattle.lines.specs.Follower.{told, Stepped};
+ghost use Rattle.lines.specs.Follower.{_with-history_, told, lacksHistory, remembers, Stepped};
 ghost use Rattle.lines.specs.declared.follower.Answer.the-variants.{Refused};
 ghost use Rattle.lines.specs.Reading.{Leaves, stepByStep, TraceRead};
-ghost use Rattle.lines.specs.Turns.{takes, controllerTakes, driveTakes, controllersTurn, drivesTurn, readPlainly};
+ghost use Rattle.lines.specs.Turns.{nobodysMove, controllerTakes, driveTakes, controllersTurn, drivesTurn, readPlainly};
 
 // A turn calls the next one before it is done, so the stack grows with the settings that are read so. A trace is cut into stretches of so many.
 const STRETCH: usize = 16;
@@ -32,14 +33,16 @@ pub fn read_plainly(follower: Follower, trace: &[u8], answers: &mut [u8]) -> Tra
 pub fn step_plainly(follower: Follower, setting: u8) -> Followed
     ensures { λ r. ⌜ Stepped follower setting r ⌝ }
 {
-    // Asked first, it need not be asked again in the turn.
     if !follower.is_reached() {
         return never_reached(follower);
     }
     if is_drives(follower.setting, setting) {
-        return drive_takes(follower, setting);
+        return moved(follower, setting, Answer::Drives);
     }
-    controller_takes(follower, setting)
+    if !follower.lost & is_controllers(follower.setting, follower.history, setting) {
+        return moved(follower, setting, Answer::Controllers);
+    }
+    nobodys_move(follower, setting)
 }
 
 fn read_stretches(follower: Follower, trace: &[u8], answers: &mut [u8]) -> Follower
@@ -109,7 +112,7 @@ fn drives_turn(follower: Follower, rest: &[u8], answers: &mut [u8]) -> Follower
     }
     let left = &rest[1..];
     let places = &mut answers[1..];
-    if is_controllers(next.setting, left[0]) {
+    if !next.lost & is_controllers(next.setting, next.history, left[0]) {
         return controllers_turn(next, left, places);
     }
     drives_turn(next, left, places)
@@ -118,67 +121,37 @@ fn drives_turn(follower: Follower, rest: &[u8], answers: &mut [u8]) -> Follower
 fn controller_takes(follower: Follower, new: u8) -> Followed
     ensures { λ r. ⌜ r ≡ controllerTakes follower new ⌝ }
 {
-    let own = is_controllers(follower.setting, new) & !follower.lacks_history(new);
-    takes(Answer::Controllers, own, follower, new)
+    if !follower.is_reached() {
+        return never_reached(follower);
+    }
+    if !follower.lost & is_controllers(follower.setting, follower.history, new) {
+        return moved(follower, new, Answer::Controllers);
+    }
+    nobodys_move(follower, new)
 }
 
 fn drive_takes(follower: Follower, new: u8) -> Followed
     ensures { λ r. ⌜ r ≡ driveTakes follower new ⌝ }
 {
-    let own = is_drives(follower.setting, new);
-    takes(Answer::Drives, own, follower, new)
-}
-
-fn never_reached(follower: Follower) -> Followed
-    ensures { λ r. ⌜ r ≡ told (Refused 11) follower ⌝ }
-{
-    Followed {
-        answer: Answer::Refused(line::STATE_NEVER_REACHED),
-        follower,
-    }
-}
-
-// A setting in the turn of a side, a move of its own or none of anybody's.
-fn takes(side: Answer, own: bool, follower: Follower, new: u8) -> Followed
-    ensures { λ r. ⌜ r ≡ takes side own follower new ⌝ }
-{
     if !follower.is_reached() {
         return never_reached(follower);
     }
-    if line::LAST_SETTING < new {
-        return Followed {
-            answer: Answer::Refused(line::OVER_LAST_SETTING),
-            follower,
-        };
+    if is_drives(follower.setting, new) {
+        return moved(follower, new, Answer::Drives);
     }
-    if follower.lost {
-        return while_lost(new);
-    }
-    if own {
-        return Followed {
-            answer: side,
-            follower: follower.at(new),
-        };
-    }
-    if follower.setting == new {
-        return Followed {
-            answer: Answer::Same,
-            follower,
-        };
-    }
-    undefined_at(new)
+    nobodys_move(follower, new)
 }
 
-// "controller: 0→4, 4→0, 0→1, 1→0, 0→16, 16→0, 24→25, 27→26, 24→28, 30→31, 29→28, 30→26, 20→16, 24→8"
-fn is_controllers(old: u8, new: u8) -> bool
-    ensures { λ r. ⌜ r ≡ isListed controllersMoves old new ⌝ }
+// "controller: 0→4, 4→0, 0→1, 1→0, 0→16, 16→0, 24→25, 27→26, 24→28, 30→31, 29→28, 30→26, 20→16, 24→8", and "Two moves also need history."
+fn is_controllers(old: u8, history: bool, new: u8) -> bool
+    ensures { λ r. ⌜ r ≡ (isListed controllersMoves old new && not (lacksHistory (old with-history history) new)) ⌝ }
 {
     match old {
         0 => (new == 4) | (new == 1) | (new == 16),
         4 => new == 0,
         1 => new == 0,
-        16 => new == 0,
-        24 => (new == 25) | (new == 28) | (new == 8),
+        16 => (new == 0) & history,
+        24 => (new == 25) | ((new == 28) & history) | (new == 8),
         27 => new == 26,
         30 => (new == 31) | (new == 26),
         29 => new == 28,
@@ -200,4 +173,43 @@ fn is_drives(old: u8, new: u8) -> bool
         8 => new == 0,
         _ => false,
     }
+}
+
+fn never_reached(follower: Follower) -> Followed
+    ensures { λ r. ⌜ r ≡ told (Refused 11) follower ⌝ }
+{
+    Followed {
+        answer: Answer::Refused(line::STATE_NEVER_REACHED),
+        follower,
+    }
+}
+
+fn moved(follower: Follower, new: u8, side: Answer) -> Followed
+    ensures { λ r. ⌜ r ≡ told side (remembers follower new) ⌝ }
+{
+    Followed {
+        answer: side,
+        follower: follower.at(new),
+    }
+}
+
+fn nobodys_move(follower: Follower, new: u8) -> Followed
+    ensures { λ r. ⌜ r ≡ nobodysMove follower new ⌝ }
+{
+    if line::LAST_SETTING < new {
+        return Followed {
+            answer: Answer::Refused(line::OVER_LAST_SETTING),
+            follower,
+        };
+    }
+    if follower.lost {
+        return while_lost(new);
+    }
+    if follower.setting == new {
+        return Followed {
+            answer: Answer::Same,
+            follower,
+        };
+    }
+    undefined_at(new)
 }

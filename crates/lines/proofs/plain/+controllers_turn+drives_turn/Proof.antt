@@ -1,7 +1,8 @@
 -- The proof of the cycle of calls {controllers_turn, drives_turn}. The measure of either is what remains of the trace: each call takes a setting of it.
 -- Assumes nothing.
 use Prim.Native.Nat.{ℕ, _-_, _<_}
-use mathlib.Core.Path.{_≡_, refl, sym, _∙_}
+use mathlib.Core.Path.{ap}
+use mathlib.Core.Bool.{Bool, not, _&&_}
 use native.Mathlib.Omega.{arith}
 use borrow.Author.Needs.{needs}
 use borrow.Fn.Kinds.{In}
@@ -9,6 +10,7 @@ use borrow.Fn.PlainCycle.{Measures, is, falls, and}
 use lib.ListN.{length, take, drop, length-set}
 use Rattle.laws.specs.Pick.{pick}
 use Rattle.laws.proofs.Runs.{rest-whole}
+use Rattle.lines.specs.Follower.{lacksHistory}
 use Rattle.lines.proofs.TurnByTurn.{controllers, drives, as-long, turn-ended, turn-goes-on}
 use Rattle.lines.proofs.plain.controllers_turn.Reads as controllers-turn
 use Rattle.lines.proofs.plain.controllers_turn.Kinds as controllers-turn-kinds
@@ -224,51 +226,51 @@ drives-is-controllers-requires t c κs = search needs
 
 drives-controllers-turn-requires : (t : ℕ) → drives-turn-lts.Need-controllers-turn-requires (drives-claims t) (drives-turn-at t) drives-turn.Post
 drives-controllers-turn-requires t c κs =
-    let start = c .before .before .before .before .before .before .before .before .before .before .before .before in
-    let left-length = c .before .before .before .before .left .given .1 in
-    let places-length = c .before .before .before .places .given .1 in
-    (omega (arith, left-length, start .pre .0, start .pre .1 .0), (omega (arith, left-length, c .before .before .before .before .before .if1 .left), omega (arith, left-length, places-length, length-set (start .args .answers .now) 0 (c .before .before .before .before .before .before .octet .result), start .pre .1 .1)))
+    let start = c .before .before .before .before .before .before .before .before .before .before .before .before .before in
+    let left-length = c .before .before .before .before .before .left .given .1 in
+    let places-length = c .before .before .before .before .places .given .1 in
+    (omega (arith, left-length, start .pre .0, start .pre .1 .0), (omega (arith, left-length, c .before .before .before .before .before .before .if1 .left), omega (arith, left-length, places-length, length-set (start .args .answers .now) 0 (c .before .before .before .before .before .before .before .octet .result), start .pre .1 .1)))
 
 drives-same-length-2 : (t : ℕ) → drives-turn-lts.Need-same-length-2 (drives-claims t) (drives-turn-at t) drives-turn.Post
 drives-same-length-2 t c =
-    let start = c .before .before .before .before .before .before .before .before .before .before .before .before .before .before .before in
-    as-long (start .args .answers .now) (c .before .before .controllers-turn .last .1 .1 .0) (c .before .before .before .before .before .before .before .before .before .octet .result) (c .before .before .controllers-turn .kept .1 .1 .0)
+    let start = c .before .before .before .before .before .before .before .before .before .before .before .before .before .before .before .before in
+    as-long (start .args .answers .now) (c .before .before .controllers-turn .last .1 .1 .0) (c .before .before .before .before .before .before .before .before .before .before .octet .result) (c .before .before .controllers-turn .kept .1 .1 .0)
 
 drives-returns-2 : (t : ℕ) → drives-turn-lts.Need-returns-2 (drives-claims t) (drives-turn-at t) drives-turn.Post
-unfolding pick
+unfolding pick lacksHistory
 drives-returns-2 t c =
-    let start = c .before .before .before .before .before .before .before .before .before .before .before .before .before .before .before in
-    let taken = c .before .before .before .before .before .before .before .before .before .before .before in
-    let put = c .before .before .before .before .before .before .before .before .before in
+    let start = c .before .before .before .before .before .before .before .before .before .before .before .before .before .before .before .before in
+    let taken = c .before .before .before .before .before .before .before .before .before .before .before .before in
+    let put = c .before .before .before .before .before .before .before .before .before .before in
     let asked = c .before .before .before .before in
     let called = c .before .before in
     let rest = start .args .rest .now in
-    turn-goes-on drives (start .args .follower) rest (take (length rest - 1) (drop 1 rest)) (start .args .answers .now) (taken .drive-takes .result) (put .octet .result) (asked .is-controllers .result) (called .controllers-turn .result) (called .controllers-turn .last .1 .1 .0)
-    (c .before .before .before .before .before .before .before .before .if1 .left) (start .pre .1 .1) (rest-whole rest 1) (taken .drive-takes .ensures) (put .octet .ensures .answer) (asked .is-controllers .ensures) (rw (c .before .before .before .if2 .taken) (called .controllers-turn .ensures))
+    turn-goes-on drives (start .args .follower) rest (take (length rest - 1) (drop 1 rest)) (start .args .answers .now) (taken .drive-takes .result) (put .octet .result) (not (taken .drive-takes .result .follower .lost) && asked .is-controllers .result) (called .controllers-turn .result) (called .controllers-turn .last .1 .1 .0)
+    (c .before .before .before .before .before .before .before .before .before .if1 .left) (start .pre .1 .1) (rest-whole rest 1) (taken .drive-takes .ensures) (put .octet .ensures .answer) (ap (λ (own : Bool). not (taken .drive-takes .result .follower .lost) && own) (asked .is-controllers .ensures)) (rw (c .before .before .before .if2 .taken) (called .controllers-turn .ensures))
 
 drives-drives-turn-requires : (t : ℕ) → drives-turn-lts.Need-drives-turn-requires (drives-claims t) (drives-turn-at t) drives-turn.Post
 drives-drives-turn-requires t c κs =
-    let start = c .before .before .before .before .before .before .before .before .before .before .before .before in
-    let left-length = c .before .before .before .before .left .given .1 in
-    let places-length = c .before .before .before .places .given .1 in
-    (omega (arith, left-length, start .pre .0, start .pre .1 .0), (omega (arith, left-length, c .before .before .before .before .before .if1 .left), omega (arith, left-length, places-length, length-set (start .args .answers .now) 0 (c .before .before .before .before .before .before .octet .result), start .pre .1 .1)))
+    let start = c .before .before .before .before .before .before .before .before .before .before .before .before .before in
+    let left-length = c .before .before .before .before .before .left .given .1 in
+    let places-length = c .before .before .before .before .places .given .1 in
+    (omega (arith, left-length, start .pre .0, start .pre .1 .0), (omega (arith, left-length, c .before .before .before .before .before .before .if1 .left), omega (arith, left-length, places-length, length-set (start .args .answers .now) 0 (c .before .before .before .before .before .before .before .octet .result), start .pre .1 .1)))
 
 drives-same-length-3 : (t : ℕ) → drives-turn-lts.Need-same-length-3 (drives-claims t) (drives-turn-at t) drives-turn.Post
 drives-same-length-3 t c =
-    let start = c .before .before .before .before .before .before .before .before .before .before .before .before .before .before .before in
-    as-long (start .args .answers .now) (c .before .before .drives-turn .last .1 .1 .0) (c .before .before .before .before .before .before .before .before .before .octet .result) (c .before .before .drives-turn .kept .1 .1 .0)
+    let start = c .before .before .before .before .before .before .before .before .before .before .before .before .before .before .before .before in
+    as-long (start .args .answers .now) (c .before .before .drives-turn .last .1 .1 .0) (c .before .before .before .before .before .before .before .before .before .before .octet .result) (c .before .before .drives-turn .kept .1 .1 .0)
 
 drives-returns-3 : (t : ℕ) → drives-turn-lts.Need-returns-3 (drives-claims t) (drives-turn-at t) drives-turn.Post
-unfolding pick
+unfolding pick lacksHistory
 drives-returns-3 t c =
-    let start = c .before .before .before .before .before .before .before .before .before .before .before .before .before .before .before in
-    let taken = c .before .before .before .before .before .before .before .before .before .before .before in
-    let put = c .before .before .before .before .before .before .before .before .before in
+    let start = c .before .before .before .before .before .before .before .before .before .before .before .before .before .before .before .before in
+    let taken = c .before .before .before .before .before .before .before .before .before .before .before .before in
+    let put = c .before .before .before .before .before .before .before .before .before .before in
     let asked = c .before .before .before .before in
     let called = c .before .before in
     let rest = start .args .rest .now in
-    turn-goes-on drives (start .args .follower) rest (take (length rest - 1) (drop 1 rest)) (start .args .answers .now) (taken .drive-takes .result) (put .octet .result) (asked .is-controllers .result) (called .drives-turn .result) (called .drives-turn .last .1 .1 .0)
-    (c .before .before .before .before .before .before .before .before .if1 .left) (start .pre .1 .1) (rest-whole rest 1) (taken .drive-takes .ensures) (put .octet .ensures .answer) (asked .is-controllers .ensures) (rw (c .before .before .before .if2 .left) (called .drives-turn .ensures))
+    turn-goes-on drives (start .args .follower) rest (take (length rest - 1) (drop 1 rest)) (start .args .answers .now) (taken .drive-takes .result) (put .octet .result) (not (taken .drive-takes .result .follower .lost) && asked .is-controllers .result) (called .drives-turn .result) (called .drives-turn .last .1 .1 .0)
+    (c .before .before .before .before .before .before .before .before .before .if1 .left) (start .pre .1 .1) (rest-whole rest 1) (taken .drive-takes .ensures) (put .octet .ensures .answer) (ap (λ (own : Bool). not (taken .drive-takes .result .follower .lost) && own) (asked .is-controllers .ensures)) (rw (c .before .before .before .if2 .left) (called .drives-turn .ensures))
 
 pub +controllers-turn+drives-turn-spec : {M : Type 1} → statement M
 +controllers-turn+drives-turn-spec =

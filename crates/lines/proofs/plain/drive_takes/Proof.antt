@@ -1,17 +1,53 @@
 -- `drive_takes` meets its contract.
 -- Assumes nothing.
+use mathlib.Core.Path.{sym, ap, _∙_}
+use mathlib.Core.Bool.{not}
 use borrow.Author.Needs.{needs}
+use Rattle.laws.proofs.Pick.{pick-t, pick-f}
+use Rattle.lines.specs.Turns.{takes}
 use Rattle.lines.proofs.plain.drive_takes.Statement.{statement}
 use Rattle.lines.proofs.plain.drive_takes.Tie as tie
+
+is-reached-requires : tie.Need-is-reached-requires
+is-reached-requires c κs = search needs
+
+never-reached-requires : tie.Need-never-reached-requires
+never-reached-requires c κs = search needs
+
+returns : tie.Need-returns
+unfolding takes
+returns c = pick-t _ _ _ _ _ (ap not (sym (c .before .before .is-reached .ensures .answer)) ∙ c .before .if1 .taken) (c .never-reached .ensures)
 
 is-drives-requires : tie.Need-is-drives-requires
 is-drives-requires c κs = search needs
 
-takes-requires : tie.Need-takes-requires
-takes-requires c κs = search needs
+moved-requires : tie.Need-moved-requires
+moved-requires c κs = search needs
 
-returns : tie.Need-returns
-returns c = rw (← (c .before .is-drives .ensures)) (c .takes .ensures)
+returns-2 : tie.Need-returns-2
+unfolding takes
+returns-2 c =
+    pick-f _ _ _ _ _ (ap not (sym (c .before .before .before .before .is-reached .ensures .answer)) ∙ c .before .before .before .if1 .left)
+    (pick-t _ _ _ _ _ (sym (c .before .before .is-drives .ensures) ∙ c .before .if2 .taken) (c .moved .ensures))
+
+nobodys-move-requires : tie.Need-nobodys-move-requires
+nobodys-move-requires c κs = search needs
+
+returns-3 : tie.Need-returns-3
+unfolding takes
+returns-3 c =
+    pick-f _ _ _ _ _ (ap not (sym (c .before .before .before .before .is-reached .ensures .answer)) ∙ c .before .before .before .if1 .left)
+    (pick-f _ _ _ _ _ (sym (c .before .before .is-drives .ensures) ∙ c .before .if2 .left) (c .nobodys-move .ensures))
 
 pub drive-takes-spec : {M : Type 1} → statement M
-drive-takes-spec = tie.close (tie.spec is-drives-requires takes-requires returns)
+drive-takes-spec =
+    tie.close
+    (tie.spec
+    is-reached-requires
+    never-reached-requires
+    returns
+    is-drives-requires
+    moved-requires
+    returns-2
+    nobodys-move-requires
+    returns-3)
