@@ -1,10 +1,12 @@
 /* How deep a call writes, on a stack of its own that was filled with a pattern before. For Linux on
- * x86-64; c/stack.c and c/map_stack.c say what is done with it. */
+ * x86-64; c/stack.c, c/line_stack.c and c/map_stack.c say what is done with it. */
 #ifndef DEPTH_H
 #define DEPTH_H
 
 #include <stddef.h>
 #include <stdint.h>
+#include <stdio.h>
+#include <stdlib.h>
 #include <string.h>
 #include <ucontext.h>
 
@@ -12,7 +14,8 @@
 
 /* In place of each call of the archive one that returns at once and writes nothing. */
 __asm__(".text\nnothing_power_up:\nnothing_event:\nnothing_run:\nnothing_replay:\n"
-        "nothing_line:\nnothing_capture:\nnothing_make_capture:\n"
+        "nothing_line:\nnothing_lines:\nnothing_lines_plain:\nnothing_capture:\n"
+        "nothing_make_capture:\n"
         "nothing_decode_defect:\nnothing_encode_defect:\nnothing_map_place:\nnothing_decode_map:\n"
         "nothing_encode_map:\nnothing_read_map:\nnothing_write_map:\nxorl %eax, %eax\nret\n");
 __typeof__(pg_power_up) nothing_power_up;
@@ -20,6 +23,8 @@ __typeof__(pg_event) nothing_event;
 __typeof__(pg_run) nothing_run;
 __typeof__(pg_replay) nothing_replay;
 __typeof__(pg_line) nothing_line;
+__typeof__(pg_lines) nothing_lines;
+__typeof__(pg_lines_plain) nothing_lines_plain;
 __typeof__(pg_capture) nothing_capture;
 __typeof__(pg_make_capture) nothing_make_capture;
 __typeof__(pg_decode_defect) nothing_decode_defect;
@@ -62,6 +67,10 @@ static size_t depth_over(uint8_t pattern, void (*call)(void)) {
     swapcontext(&here, &there);
     while (stack[untouched] == pattern) {
         untouched++;
+    }
+    if (untouched == 0) {
+        fprintf(stderr, "a call takes more stack than there is to measure it on\n");
+        exit(EXIT_FAILURE);
     }
     return sizeof stack - untouched;
 }

@@ -1,5 +1,5 @@
 /* Measures how much stack the archive's calls for defect maps take, in octets, as c/stack.c does for
- * the others: the return address, and all that a call writes below it.
+ * those of the drive: the return address, and all that a call writes below it.
  *
  * The deepest of these counts: each call made whole, with every slice shorter by one and with a
  * set-up outside its limits; maps with each octet and each word of theirs wrong, and of each length;

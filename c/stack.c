@@ -1,7 +1,8 @@
-/* Measures how much stack the calls of the archive take, in octets. Each call is made on a stack of
- * its own that was filled with a pattern before; how deep the pattern was written over shows
- * afterwards. What the caller itself takes, measured with a call that returns at once, is taken
- * off, so that a figure is the return address, all that the call writes below it, and nothing else.
+/* Measures how much stack the archive's calls of the drive and for captures take, in octets. Each
+ * call is made on a stack of its own that was filled with a pattern before; how deep the pattern
+ * was written over shows afterwards. What the caller itself takes, measured with a call that
+ * returns at once, is taken off, so that a figure is the return address, all that the call writes
+ * below it, and nothing else.
  *
  * The deepest of these counts: every refusal, parts of two records, what hosts do, one after
  * another, then every code of a command or a response and every function, and then octets at
@@ -27,7 +28,7 @@ enum { SECTOR_WORDS = HEADER + FIELD_1 + FIELD_2, RANDOM_CALLS = 20000, MANY = 2
 #define LENGTH(array) (sizeof(array) / sizeof(array)[0])
 
 /* What calls change and the next call may look at. */
-struct drive { uint16_t state[PG_STATE_WORDS], sectors[DRIVE_WORDS]; uint8_t follower; };
+struct drive { uint16_t state[PG_STATE_WORDS], sectors[DRIVE_WORDS]; };
 
 static struct drive drive, saved;
 static uint16_t *const state = drive.state;
@@ -36,9 +37,9 @@ static uint16_t gap[1];
 static uint64_t ran[1];
 static uint8_t many_records[MANY * PG_RECORD_OCTETS];
 static uint16_t many_answers[MANY * PG_ANSWER_WORDS], many_gaps[MANY];
-static uint8_t setting, record[PG_RECORD_OCTETS], two_records[2 * PG_RECORD_OCTETS];
+static uint8_t record[PG_RECORD_OCTETS], two_records[2 * PG_RECORD_OCTETS];
 static uint8_t capture[2 * PG_RECORD_OCTETS + PG_TRAILER_OCTETS];
-static size_t state_length, sector_length, answer_length, record_length, follower_length;
+static size_t state_length, sector_length, answer_length, record_length;
 static size_t capture_length, first_record, record_count, size;
 static size_t two_records_length, from, limit, gap_length, ran_length;
 
@@ -71,10 +72,6 @@ static void replay_many(void) {
                  many_gaps, MANY, ran, ran_length);
 }
 
-static void line(void) {
-    CALL(line)(&drive.follower, follower_length, setting);
-}
-
 static void find(void) {
     CALL(capture)(capture, capture_length, &first_record, &record_count);
 }
@@ -85,7 +82,7 @@ static void make(void) {
 }
 
 static size_t deepest_power_up, deepest_event, deepest_run, deepest_replay;
-static size_t deepest_find, deepest_make, deepest_line;
+static size_t deepest_find, deepest_make;
 
 static void note(size_t *deepest, void (*wrapped)(void)) {
     size_t depth = depth_of(wrapped, &drive, &saved, sizeof drive);
@@ -117,7 +114,6 @@ static void whole_slices(void) {
     two_records_length = sizeof two_records;
     from = limit = gap_length = ran_length = 1;
     capture_length = sizeof capture;
-    follower_length = 1;
 }
 
 static void power_ups(void) {
@@ -237,21 +233,6 @@ static void random_events(void) {
     }
 }
 
-/* Every octet with every setting. */
-static void lines(void) {
-    int octet, new_setting;
-
-    for (octet = 0; octet < 256; octet++) {
-        for (new_setting = 0; new_setting < 33; new_setting++) {
-            drive.follower = (uint8_t)octet;
-            setting = (uint8_t)new_setting;
-            note(&deepest_line, line);
-        }
-    }
-    follower_length = 0;
-    note(&deepest_line, line);
-}
-
 /* Captures made whole, of records that are not whole, and in too little room; then found with
  * each octet of the trailer and each length. */
 static void captures(void) {
@@ -287,11 +268,9 @@ int main(void) {
     }
     codes();
     random_events();
-    lines();
     captures();
     printf("pg_power_up %zu\npg_event %zu\n", deepest_power_up, deepest_event);
     printf("pg_run %zu\npg_replay %zu\n", deepest_run, deepest_replay);
     printf("pg_capture %zu\npg_make_capture %zu\n", deepest_find, deepest_make);
-    printf("pg_line %zu\n", deepest_line);
     return EXIT_SUCCESS;
 }

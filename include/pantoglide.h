@@ -1,12 +1,13 @@
-/* Pantoglide 2.3: the proved drive behind a C interface.
+/* Pantoglide 2.4: the proved drive behind a C interface.
  *
  * Two hosts share a drive, one on each of two IPI-2 ports, 0 and 1. The firmware hands each thing
  * that a host does to pg_event, with the words of the drive; the call does what the drive would do
  * and tells what to answer. This header is all that a caller needs to read. The rules are those of
  * the paper that the project calls document 01, with commands and responses as request M-100 adds
  * them, exceptions that a host ignores as M-102 mends them, a replay that stops on request as M-103
- * adds it, and the maker's defect map as M-108 adds it. All take them from three papers on IPI: 001
- * (a drive's manual), 003 (the physical level) and 004 (IPI-2). Octets are in hex.
+ * adds it, a second reader of the lines as M-104 adds it, and the maker's defect map as M-108 adds
+ * it. All take them from three papers on IPI: 001 (a drive's manual), 003 (the physical level) and
+ * 004 (IPI-2). Octets are in hex.
  *
  *
  * WHAT IT NEEDS
@@ -18,15 +19,16 @@
  *
  * The most stack that a call takes, in octets, its return address included and its arguments not:
  *
- *     pg_power_up 24          pg_event 296          pg_run 232        pg_line 1032
- *     pg_capture 8            pg_make_capture 8     pg_replay 280
+ *     pg_power_up 24          pg_event 296          pg_run 232        pg_replay 280
+ *     pg_capture 8            pg_make_capture 8
+ *     pg_line 8               pg_lines 1080         pg_lines_plain 1646
  *     pg_decode_map 5392      pg_encode_map 3008    pg_read_map 5392  pg_write_map 3008
  *     pg_decode_defect 8      pg_encode_defect 16   pg_map_place 8
  *
- * c/stack.c and c/map_stack.c measured it: on a stack filled with a pattern, how deep each call
- * writes, over every kind, code, function, status and refusal. Part of it lies below the stack
- * pointer, in the 128 octets that the ABI of x86-64 grants a function there (the red zone), so code
- * that interrupts a call on the same stack has to leave those alone.
+ * c/stack.c, c/line_stack.c and c/map_stack.c measured it: on a stack filled with a pattern, how
+ * deep each call writes, over every kind, code, function, status, setting and refusal. Part of it
+ * lies below the stack pointer, in the 128 octets that the ABI of x86-64 grants a function there
+ * (the red zone), so code that interrupts a call on the same stack has to leave those alone.
  *
  * Every input gets one of the answers named here, nothing has to be checked beforehand, and all
  * calls end.
@@ -70,7 +72,7 @@ extern "C" {
 /* The version of this header and of the archive it belongs to. The major number grows where a
  * program that was written for the last one may need a change; CHANGELOG.md says which. */
 #define PG_VERSION_MAJOR 2
-#define PG_VERSION_MINOR 3
+#define PG_VERSION_MINOR 4
 
 /* ---- The drive ---------------------------------------------------------------------------- */
 
@@ -383,7 +385,8 @@ enum {
 #define PG_PENDING_TARGET_MISSING 0x0010                  /* octet 2, BUS CONTROL CONTEXT */
 
 /* The refusals. A refused call changes nothing, but that pg_decode_map and pg_read_map tell in
- * *offset where a map's offence lies. The answers 16 to 21 of pg_line are no refusals. */
+ * *offset where a map's offence lies. The answers 16 to 21 to a setting of the lines are no
+ * refusals. */
 enum {
     PG_ACCEPTED = 0,
     PG_REFUSED_NO_SUCH_PORT = 1,      /* The port is neither 0 nor 1. */
@@ -729,7 +732,8 @@ enum {
 #define PG_FOLLOWER_HISTORY 0x20
 #define PG_FOLLOWER_LOST 0x40
 
-/* What pg_line answers. */
+/* What a setting is answered with, unless it is refused: pg_line returns it, pg_lines and
+ * pg_lines_plain write it. */
 enum {
     PG_MOVE_SAME = 16,         /* The setting is what it was; nothing changes. */
     PG_MOVE_CONTROLLERS = 17,  /* A listed move of the controller's, with its history. */
@@ -745,6 +749,23 @@ enum {
  * otherwise 8 if the setting is over 31; and then nothing is changed. Otherwise moves *follower on
  * and returns 16 to 21. */
 uint8_t pg_line(uint8_t *follower, size_t follower_length, uint8_t setting);
+
+/* The lines of a port had these settings, one after another. Any octets are a trace, also none.
+ *
+ * Returns 10 if follower_length is 0 or answers is shorter than the trace, and then nothing is
+ * changed. Otherwise returns 0. Setting number i, from 0, has its answer in answers[i], which is
+ * what the call of pg_line for trace[i] would have returned, and *follower is what so many calls
+ * would have made of it. So a setting over 31 is answered with 8, and the trace goes on behind it;
+ * and if no trace from the start leads to *follower, every answer is 11 and *follower stays as it
+ * is. Octets of answers behind the trace's length stay as they were.
+ *
+ * pg_lines goes by the table of the 1,024 pairs of settings. pg_lines_plain has no table: by turns
+ * the controller and the drive take the moves that are their own. Both do the same on every input.
+ * Neither takes more stack for a longer trace. */
+uint8_t pg_lines(uint8_t *follower, size_t follower_length, const uint8_t *trace,
+                 size_t trace_length, uint8_t *answers, size_t answers_length);
+uint8_t pg_lines_plain(uint8_t *follower, size_t follower_length, const uint8_t *trace,
+                       size_t trace_length, uint8_t *answers, size_t answers_length);
 
 #ifdef __cplusplus
 }

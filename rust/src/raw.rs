@@ -1,9 +1,11 @@
 //! The archive's calls on slices. `include/pantoglide.h` says what each returns and changes.
 
 mod defects;
+mod lines;
 
 pub use defects::{decode_defect, encode_defect, map_place, Numbers, DEFECT_OCTETS};
 pub use defects::{decode_map, encode_map, read_map, write_map};
+pub use lines::{line, lines, lines_plain};
 
 /// Words of a state.
 pub const STATE_WORDS: usize = 21;
@@ -96,7 +98,6 @@ mod archive {
             out_length: usize,
             size: *mut usize,
         ) -> u8;
-        pub fn pg_line(follower: *mut u8, follower_length: usize, setting: u8) -> u8;
     }
 }
 
@@ -257,11 +258,4 @@ pub fn make_capture(notes: &[u8], records: &[u8], out: &mut [u8], size: &mut usi
             size,
         )
     }
-}
-
-/// One setting of the lines: 16 to 21 and the follower moved on, or 10, 11 or 8 and nothing
-/// changed.
-#[inline(always)]
-pub fn line(follower: &mut [u8], setting: u8) -> u8 {
-    unsafe { archive::pg_line(follower.as_mut_ptr(), follower.len(), setting) }
 }

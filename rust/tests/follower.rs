@@ -1,5 +1,5 @@
-//! The line follower: every state and setting against the plain list of moves, and which states
-//! traces reach.
+//! The line follower: every state and setting against the plain list of moves, which states traces
+//! reach, and worked traces by the wrapper's calls. `tests/traces` has the readers of whole traces.
 
 use pantoglide::{raw, Follower, Move, Refusal};
 use shared::plain;
@@ -45,13 +45,19 @@ fn accepts_exactly_the_states_that_traces_reach() {
     }
 }
 
-/// The answers to a trace from the start.
+/// The answers to a trace from the start, the same by single settings and by both readers.
 fn trace(settings: &[u8]) -> Vec<Move> {
     let mut follower = Follower::default();
-    let answers = settings.iter().map(|&setting| follower.line(setting));
-    answers
-        .collect::<Result<_, _>>()
-        .expect("settings up to 31")
+    let moves = settings.iter().map(|&setting| follower.line(setting));
+    let moves = moves.collect::<Result<Vec<_>, _>>();
+    for follow in [Follower::follow, Follower::follow_plainly] {
+        let (mut reader, mut answers) = (Follower::default(), vec![0; settings.len()]);
+        assert_eq!(follow(&mut reader, settings, &mut answers), Ok(()));
+        let told = answers.into_iter().map(Move::from_answer);
+        assert_eq!(told.collect::<Result<Vec<_>, _>>(), moves);
+        assert_eq!(reader, follower);
+    }
+    moves.expect("settings up to 31")
 }
 
 #[test]
@@ -110,4 +116,32 @@ fn finds_back_from_lost_by_idle_alone() {
     let mut follower = Follower::default();
     assert_eq!(follower.line(32), Err(Refusal::Malformed));
     assert_eq!(follower, Follower::default());
+}
+
+#[test]
+fn a_trace_needs_room_for_its_answers() {
+    for follow in [Follower::follow, Follower::follow_plainly] {
+        let (mut follower, mut answers) = (Follower::default(), [0xEE; 3]);
+        let returned = follow(&mut follower, &[16, 24, 25, 27], &mut answers);
+        assert_eq!(returned, Err(Refusal::TooShort));
+        assert_eq!((follower, answers), (Follower::default(), [0xEE; 3]));
+        assert_eq!(follow(&mut follower, &[16, 40], &mut answers), Ok(()));
+        assert_eq!((follower.octet(), answers), (0x30, [17, 8, 0xEE]));
+    }
+}
+
+#[test]
+fn a_refused_setting_is_an_answer() {
+    for follow in [Follower::follow, Follower::follow_plainly] {
+        let (mut unreached, mut answers) = (Follower::from_octet(2), [0; 2]);
+        assert_eq!(follow(&mut unreached, &[0, 40], &mut answers), Ok(()));
+        assert_eq!(answers.map(Move::from_answer), [Err(Refusal::Unsound); 2]);
+        assert_eq!(unreached, Follower::from_octet(2));
+    }
+    assert_eq!(Move::from_answer(8), Err(Refusal::Malformed));
+    for octet in 0..=255 {
+        let number = Move::from_answer(octet).map(|told| told as u8);
+        let is_move = (16..=21).contains(&octet);
+        assert_eq!(number.ok(), is_move.then_some(octet));
+    }
 }

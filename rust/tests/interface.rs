@@ -52,13 +52,14 @@ fn calls(code: &str) -> BTreeSet<&str> {
 
 #[test]
 fn the_calls_are_the_headers() {
-    let [drive, defects] = [
+    let bound = [
         include_str!("../src/raw.rs"),
         include_str!("../src/raw/defects.rs"),
+        include_str!("../src/raw/lines.rs"),
     ];
-    let bound = calls(drive).union(&calls(defects)).copied().collect();
+    let bound = bound.into_iter().flat_map(calls).collect();
     assert_eq!(calls(&header_code()), bound);
-    assert_eq!(bound.len(), 14);
+    assert_eq!(bound.len(), 16);
 }
 
 #[test]

@@ -14,7 +14,6 @@ use Rattle.lines.specs.Follower.{stepOf}
 use Rattle.lines.specs.Traces.{after, answers}
 use Rattle.lines.specs.Reading.{octetOf, Read, Leaves, stepByStep, TraceRead}
 use Rattle.lines.specs.declared.follower.Follower.{Follower}
-use Rattle.lines.specs.declared.follower.Answer.{Answer}
 use Rattle.lines.specs.declared.reading.Traced.the-variants.{Last, Refused}
 
 -- ---- two pieces

@@ -1,7 +1,7 @@
 -- What the code of a turn leaves: it takes a setting, puts its octet in front, and leaves the rest to whose turn it is. The same of either side.
 -- Assumes nothing.
 use Prim.Native.Nat.{ℕ, _-_, _≤_, _<_}
-use mathlib.Core.Path.{_≡_, refl, sym, ap, _∙_}
+use mathlib.Core.Path.{_≡_, refl, ap, _∙_}
 use mathlib.Core.Bool.{Bool}
 use mathlib.Core.List.{List, [], _∷_, _++_, map}
 use native.Mathlib.Omega.{arith}
@@ -19,6 +19,11 @@ use Rattle.lines.specs.declared.follower.Followed.{Followed}
 -- an octet in front, and a part behind it
 behind-the-first : (room part : List ℕ) (x : ℕ) → 1 ≤ length room → writtenAt (set room 0 x) 1 part ≡ writtenOver room (x ∷ part)
 behind-the-first room part x h = ap (λ (l : List ℕ). writtenAt l 1 part) (stored room (x ∷ []) h) ∙ written-next room (x ∷ []) part
+
+-- what a call below is asked: less remains, a setting at least, and there is room for it
+pub remains : (room : List ℕ) (x : ℕ) {count left places t : ℕ} → count ≡ t → 2 ≤ count → count ≤ length room → count - 1 ≡ left → length (set room 0 x) - 1 ≡ places
+    → (left < t) × ((0 < left) × (left ≤ places))
+remains room x e h k l p = (omega arith, (omega arith, omega (arith, length-set room 0 x)))
 
 -- what was lent behind the first comes back as long as it was
 pub as-long : (room mid : List ℕ) (x : ℕ) → let put = set room 0 x in

@@ -3,7 +3,7 @@ use crate::line;
 use crate::table::entry;
 ghost use Prim.Native.Nat.{_<_};
 ghost use mathlib.Core.Path.{_≡_};
-ghost use Rattle.lines.specs.Follower.{isReached, lacksHistory, remembers, undefinedAt, whileLost, moved, Started, Stepped, ReachedSaid};
+ghost use Rattle.lines.specs.Follower.{lacksHistory, remembers, undefinedAt, whileLost, moved, Started, Stepped, ReachedSaid};
 ghost use Rattle.lines.specs.Reading.{OctetSaid};
 
 pub struct Follower {

@@ -1,7 +1,6 @@
 // A whole trace of settings by the table: so many steps, and an octet for each answer.
 use crate::follower::Follower;
 use crate::line;
-ghost use mathlib.Core.Path.{_≡_};
 ghost use Rattle.lines.specs.Reading.{stepByStep, TraceRead};
 
 pub enum Traced {

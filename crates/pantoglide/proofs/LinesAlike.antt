@@ -1,7 +1,7 @@
 -- `lines-alike`: the two calls for a trace promise the same, and the octet behind it is read back as the follower behind it.
 -- Assumes nothing.
 use Prim.Native.Nat.{ℕ, _≤_}
-use mathlib.Core.Path.{_≡_, refl, sym, _∙_}
+use mathlib.Core.Path.{_≡_, refl, sym}
 use mathlib.Core.Bool.{Bool, true, false}
 use mathlib.Core.List.{List}
 use borrow.Author.Tests.{ltb-false}
@@ -16,7 +16,7 @@ use Rattle.lines.proofs.Reached.{reached-below-32, trace-stays, trace-refused}
 use Rattle.lines.proofs.Turns.{plainly}
 use Rattle.lines.specs.declared.follower.Follower.{Follower}
 use Rattle.pantoglide.specs.Line.{followerIn, followerOctet}
-use Rattle.pantoglide.specs.Lines.{linesRows, octetLeft, LinesRead, LinesAlike}
+use Rattle.pantoglide.specs.Lines.{linesRows, LinesRead, LinesAlike}
 use Rattle.pantoglide.proofs.LinesFollow.{read-back}
 
 module _ {octets trace answers octets′ answers′ : List ℕ} (w : LinesRead stepByStep octets trace answers 0 octets′ answers′) where

@@ -6,7 +6,7 @@ use mathlib.Core.List.{List}
 use borrow.Author.Tests.{lt-ltb, le-ltb}
 use lib.ListN.{length, getD}
 use Rattle.laws.specs.Pick.{pick}
-use Rattle.laws.specs.Rows.{first, unlessRefused}
+use Rattle.laws.specs.Rows.{first}
 use Rattle.laws.proofs.Rows.{reported, none-given, accepted, declined}
 use Rattle.lines.specs.Reading.{Read, readRows, refusalIn, TraceRead}
 use Rattle.lines.specs.declared.follower.Follower.{Follower}

@@ -1,5 +1,5 @@
 -- `pg_lines` and `pg_lines_plain`: a whole trace behind a follower's octet, read by the table and without it.
-use Prim.Native.Nat.{ℕ, _≤_}
+use Prim.Native.Nat.{ℕ}
 use mathlib.Core.Path.{_≡_}
 use mathlib.Core.List.{List, _∷_, map}
 use lib.Dec.{ltb}

@@ -30,6 +30,7 @@ impl Follower {
     };
 
     /// Nothing where no trace from the start leads to the octet.
+    #[inline(always)]
     fn from_octet(octet: u8) -> Option<Follower> {
         if octet == LOST_MARK {
             return Some(Follower::Lost);
@@ -44,6 +45,7 @@ impl Follower {
         }
     }
 
+    #[inline(always)]
     fn octet(self) -> u8 {
         match self {
             Follower::Lost => LOST_MARK,
@@ -51,6 +53,7 @@ impl Follower {
         }
     }
 
+    #[inline(always)]
     fn follow(self, new: u8) -> (Follower, u8) {
         let Follower::At { setting, history } = self else {
             return match new {
@@ -78,6 +81,7 @@ impl Follower {
     }
 }
 
+#[inline(always)]
 fn side_of_move(old: u8, new: u8) -> u8 {
     match (old, new) {
         (0, 4) | (4, 0) | (0, 1) | (1, 0) | (0, 16) | (16, 0) | (24, 25) => CONTROLLERS,
@@ -101,4 +105,25 @@ pub fn line(follower: &mut [u8], setting: u8) -> u8 {
     let (new, answer) = old.follow(setting);
     *octet = new.octet();
     answer
+}
+
+/// The settings of a trace one after another, with an answer for each (request M-104).
+#[inline(never)]
+pub fn lines(follower: &mut [u8], trace: &[u8], answers: &mut [u8]) -> u8 {
+    let room = answers.get_mut(..trace.len());
+    let (Some(octet), Some(answers)) = (follower.first_mut(), room) else {
+        return Refusal::TooShort as u8;
+    };
+    let Some(mut follower) = Follower::from_octet(*octet) else {
+        answers.fill(Refusal::Unsound as u8);
+        return 0;
+    };
+    for (&setting, answer) in trace.iter().zip(answers) {
+        *answer = Refusal::Malformed as u8;
+        if setting <= 31 {
+            (follower, *answer) = follower.follow(setting);
+        }
+    }
+    *octet = follower.octet();
+    0
 }

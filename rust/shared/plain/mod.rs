@@ -1,4 +1,4 @@
-//! Document 01 with requests M-100, M-102, M-103 and M-108 once more, in plain safe Rust and
+//! Document 01 with requests M-100, M-102, M-103, M-104 and M-108 once more, in plain safe Rust and
 //! independent of the proved code: what the tests compare the archive with, and what the speed
 //! program measures it against.
 //!
@@ -19,7 +19,7 @@ mod words;
 
 pub use capture::{capture, make_capture};
 pub use defects::{decode_map, encode_map, map_place, read_map, write_map, Defect, Map};
-pub use follower::line;
+pub use follower::{line, lines};
 pub use replay::{replay, ReplayCall};
 pub use setup::Setup;
 pub use words::{event, power_up, run, ANSWER_WORDS, RECORD_OCTETS, STATE_WORDS};

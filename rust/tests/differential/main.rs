@@ -16,6 +16,7 @@ mod words;
 
 use pantoglide::raw::STATE_WORDS;
 use setups::{powered_up, Scale};
+use shared::events_to_compare;
 use shared::random::Random;
 use shared::streams::{likely_event, record};
 use stream::Stream;
@@ -28,13 +29,6 @@ mod shared;
 
 const TOO_SHORT: u8 = 10;
 const UNSOUND: u8 = 11;
-
-fn events_to_compare() -> usize {
-    match std::env::var("PANTOGLIDE_EVENTS") {
-        Ok(number) => number.parse().expect("PANTOGLIDE_EVENTS is a number"),
-        Err(_) => 100_000,
-    }
-}
 
 #[test]
 fn events_and_runs_agree() {

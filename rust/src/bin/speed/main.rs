@@ -19,7 +19,15 @@ use workloads::Workload;
 mod shared;
 
 const SIDES: [Side; 3] = [Side::Rattle, Side::Plain, Side::Nothing];
-const CALLS: [Call; 5] = [Call::Single, Call::Run, Call::Replay, Call::Line, Call::Map];
+const CALLS: [Call; 7] = [
+    Call::Single,
+    Call::Run,
+    Call::Replay,
+    Call::Line,
+    Call::Lines,
+    Call::LinesPlain,
+    Call::Map,
+];
 
 fn main() {
     let numbers: Vec<usize> = std::env::args()
@@ -59,6 +67,8 @@ fn title(call: Call) -> &'static str {
         Call::Run => "pg_run, per record; the plain side tests rows 11 and 10 once in a run",
         Call::Replay => "pg_replay, per record; the plain side tests rows 11 and 10 once in a part",
         Call::Line => "pg_line; both sides judge the follower's octet at every setting",
+        Call::Lines => "pg_lines, per setting; the plain side judges the octet once in a trace",
+        Call::LinesPlain => "pg_lines_plain, per setting; the plain side is that of pg_lines",
         Call::Map => "pg_decode_map and the like, per octet of the map",
     }
 }
@@ -66,8 +76,8 @@ fn title(call: Call) -> &'static str {
 /// Decimal places of instructions and of nanoseconds.
 fn places(call: Call) -> [usize; 2] {
     match call {
-        Call::Single | Call::Run | Call::Replay | Call::Line => [1, 2],
         Call::Map => [2, 3],
+        _ => [1, 2],
     }
 }
 

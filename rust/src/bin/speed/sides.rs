@@ -23,6 +23,8 @@ pub enum Call {
     Run,
     Replay,
     Line,
+    Lines,
+    LinesPlain,
     Map,
 }
 
@@ -35,14 +37,16 @@ pub struct Bench<'a> {
     /// What replays tell beside the answers.
     gaps: Vec<u16>,
     ran: [u64; 1],
-    /// What calls for maps write octets to, and what the last one told.
+    /// What calls for traces and maps write octets to.
     room: Vec<u8>,
+    /// What the last call for a map told.
     told: Result<usize, u8>,
 }
 
 type EventCall = fn(&mut [u16], u8, u8, u8, u8, u8, u8, &mut [u16], &mut [u16], &mut [u16]) -> u8;
 type RunCall = fn(&mut [u16], &[u8], &mut [u16], &mut [u16], &mut [u16]) -> u8;
 type LineCall = fn(&mut [u8], u8) -> u8;
+type LinesCall = fn(&mut [u8], &[u8], &mut [u8]) -> u8;
 
 #[allow(clippy::too_many_arguments)] // it stands in for a call with as many
 #[inline(never)]
@@ -88,6 +92,11 @@ fn no_line(_: &mut [u8], _: u8) -> u8 {
 }
 
 #[inline(never)]
+fn no_lines(_: &mut [u8], _: &[u8], _: &mut [u8]) -> u8 {
+    0
+}
+
+#[inline(never)]
 fn no_map(_: &FullMap, _: &mut [u16], _: &mut [u8]) -> Result<usize, u8> {
     Ok(0)
 }
@@ -101,7 +110,7 @@ impl<'a> Bench<'a> {
             answers: vec![0; ANSWER_WORDS * RUN_RECORDS],
             gaps: vec![0; RUN_RECORDS],
             ran: [0],
-            room: vec![0; workload.requests(Call::Map)],
+            room: vec![0; workload.requests(Call::Lines) + workload.requests(Call::Map)],
             told: Ok(0),
         }
     }
@@ -125,6 +134,10 @@ impl<'a> Bench<'a> {
                 (Call::Line, Side::Rattle) => self.lines(raw::line),
                 (Call::Line, Side::Plain) => self.lines(plain::line),
                 (Call::Line, Side::Nothing) => self.lines(no_line),
+                (Call::Lines, Side::Rattle) => self.trace(raw::lines),
+                (Call::LinesPlain, Side::Rattle) => self.trace(raw::lines_plain),
+                (Call::Lines | Call::LinesPlain, Side::Plain) => self.trace(plain::lines),
+                (Call::Lines | Call::LinesPlain, Side::Nothing) => self.trace(no_lines),
                 (Call::Map, Side::Rattle) => self.map(|map| map.rattle),
                 (Call::Map, Side::Plain) => self.map(|map| map.plain),
                 (Call::Map, Side::Nothing) => self.map(|_| no_map),
@@ -204,6 +217,13 @@ impl<'a> Bench<'a> {
         for (&setting, answer) in self.workload.settings.iter().zip(&mut self.answers) {
             *answer = black_box(line(&mut self.follower, setting)).into();
         }
+    }
+
+    #[inline(never)]
+    fn trace(&mut self, lines: LinesCall) {
+        let lines = black_box(lines);
+        let returned = lines(&mut self.follower, &self.workload.settings, &mut self.room);
+        assert_eq!(returned, 0, "{}", self.workload.name);
     }
 
     #[inline(never)]

@@ -42,7 +42,7 @@ pub struct Words {
 pub fn of(call: Call) -> Vec<Workload> {
     match call {
         Call::Single | Call::Run | Call::Replay => events(),
-        Call::Line => vec![
+        Call::Line | Call::Lines | Call::LinesPlain => vec![
             settings("f  words handed over", traces::words_handed_over()),
             settings("g  mixed settings", traces::mixed()),
         ],
@@ -192,11 +192,11 @@ fn map_request((name, rattle, plain): (&'static str, MapCall, MapCall)) -> Workl
 }
 
 impl Workload {
-    /// How many calls, records of calls, or octets of a map one cycle has.
+    /// How many calls, records or settings of calls, or octets of a map one cycle has.
     pub fn requests(&self, call: Call) -> usize {
         match call {
             Call::Single | Call::Run | Call::Replay => self.records.len(),
-            Call::Line => self.settings.len(),
+            Call::Line | Call::Lines | Call::LinesPlain => self.settings.len(),
             Call::Map => self.map.as_ref().map_or(0, |map| map.octets.len()),
         }
     }

@@ -11,7 +11,7 @@ use lib.ListN.{length, take, drop, length-set}
 use Rattle.laws.specs.Pick.{pick}
 use Rattle.laws.proofs.Runs.{rest-whole}
 use Rattle.lines.specs.Follower.{lacksHistory}
-use Rattle.lines.proofs.TurnByTurn.{controllers, drives, as-long, turn-ended, turn-goes-on}
+use Rattle.lines.proofs.TurnByTurn.{controllers, drives, as-long, remains, turn-ended, turn-goes-on}
 use Rattle.lines.proofs.plain.controllers_turn.Reads as controllers-turn
 use Rattle.lines.proofs.plain.controllers_turn.Kinds as controllers-turn-kinds
 use Rattle.lines.proofs.plain.+controllers_turn+drives_turn.Lts-controllers_turn as controllers-turn-lts
@@ -129,9 +129,7 @@ controllers-is-drives-requires t c κs = search needs
 controllers-drives-turn-requires : (t : ℕ) → controllers-turn-lts.Need-drives-turn-requires (controllers-claims t) (controllers-turn-at t) controllers-turn.Post
 controllers-drives-turn-requires t c κs =
     let start = c .before .before .before .before .before .before .before .before .before .before .before .before in
-    let left-length = c .before .before .before .before .left .given .1 in
-    let places-length = c .before .before .before .places .given .1 in
-    (omega (arith, left-length, start .pre .0, start .pre .1 .0), (omega (arith, left-length, c .before .before .before .before .before .if1 .left), omega (arith, left-length, places-length, length-set (start .args .answers .now) 0 (c .before .before .before .before .before .before .octet .result), start .pre .1 .1)))
+    remains (start .args .answers .now) (c .before .before .before .before .before .before .octet .result) (start .pre .0) (c .before .before .before .before .before .if1 .left) (start .pre .1 .1) (c .before .before .before .before .left .given .1) (c .before .before .before .places .given .1)
 
 controllers-same-length-2 : (t : ℕ) → controllers-turn-lts.Need-same-length-2 (controllers-claims t) (controllers-turn-at t) controllers-turn.Post
 controllers-same-length-2 t c =
@@ -153,9 +151,7 @@ controllers-returns-2 t c =
 controllers-controllers-turn-requires : (t : ℕ) → controllers-turn-lts.Need-controllers-turn-requires (controllers-claims t) (controllers-turn-at t) controllers-turn.Post
 controllers-controllers-turn-requires t c κs =
     let start = c .before .before .before .before .before .before .before .before .before .before .before .before in
-    let left-length = c .before .before .before .before .left .given .1 in
-    let places-length = c .before .before .before .places .given .1 in
-    (omega (arith, left-length, start .pre .0, start .pre .1 .0), (omega (arith, left-length, c .before .before .before .before .before .if1 .left), omega (arith, left-length, places-length, length-set (start .args .answers .now) 0 (c .before .before .before .before .before .before .octet .result), start .pre .1 .1)))
+    remains (start .args .answers .now) (c .before .before .before .before .before .before .octet .result) (start .pre .0) (c .before .before .before .before .before .if1 .left) (start .pre .1 .1) (c .before .before .before .before .left .given .1) (c .before .before .before .places .given .1)
 
 controllers-same-length-3 : (t : ℕ) → controllers-turn-lts.Need-same-length-3 (controllers-claims t) (controllers-turn-at t) controllers-turn.Post
 controllers-same-length-3 t c =
@@ -227,9 +223,7 @@ drives-is-controllers-requires t c κs = search needs
 drives-controllers-turn-requires : (t : ℕ) → drives-turn-lts.Need-controllers-turn-requires (drives-claims t) (drives-turn-at t) drives-turn.Post
 drives-controllers-turn-requires t c κs =
     let start = c .before .before .before .before .before .before .before .before .before .before .before .before .before in
-    let left-length = c .before .before .before .before .before .left .given .1 in
-    let places-length = c .before .before .before .before .places .given .1 in
-    (omega (arith, left-length, start .pre .0, start .pre .1 .0), (omega (arith, left-length, c .before .before .before .before .before .before .if1 .left), omega (arith, left-length, places-length, length-set (start .args .answers .now) 0 (c .before .before .before .before .before .before .before .octet .result), start .pre .1 .1)))
+    remains (start .args .answers .now) (c .before .before .before .before .before .before .before .octet .result) (start .pre .0) (c .before .before .before .before .before .before .if1 .left) (start .pre .1 .1) (c .before .before .before .before .before .left .given .1) (c .before .before .before .before .places .given .1)
 
 drives-same-length-2 : (t : ℕ) → drives-turn-lts.Need-same-length-2 (drives-claims t) (drives-turn-at t) drives-turn.Post
 drives-same-length-2 t c =
@@ -251,9 +245,7 @@ drives-returns-2 t c =
 drives-drives-turn-requires : (t : ℕ) → drives-turn-lts.Need-drives-turn-requires (drives-claims t) (drives-turn-at t) drives-turn.Post
 drives-drives-turn-requires t c κs =
     let start = c .before .before .before .before .before .before .before .before .before .before .before .before .before in
-    let left-length = c .before .before .before .before .before .left .given .1 in
-    let places-length = c .before .before .before .before .places .given .1 in
-    (omega (arith, left-length, start .pre .0, start .pre .1 .0), (omega (arith, left-length, c .before .before .before .before .before .before .if1 .left), omega (arith, left-length, places-length, length-set (start .args .answers .now) 0 (c .before .before .before .before .before .before .before .octet .result), start .pre .1 .1)))
+    remains (start .args .answers .now) (c .before .before .before .before .before .before .before .octet .result) (start .pre .0) (c .before .before .before .before .before .before .if1 .left) (start .pre .1 .1) (c .before .before .before .before .before .left .given .1) (c .before .before .before .before .places .given .1)
 
 drives-same-length-3 : (t : ℕ) → drives-turn-lts.Need-same-length-3 (drives-claims t) (drives-turn-at t) drives-turn.Post
 drives-same-length-3 t c =

@@ -7,7 +7,7 @@ use borrow.Author.Needs.{needs}
 use borrow.Author.Tests.{not-true}
 use Rattle.laws.proofs.Pick.{pick-t, pick-f}
 use Rattle.lines.specs.Follower.{lacksHistory}
-use Rattle.lines.specs.Turns.{takes, isControllers}
+use Rattle.lines.specs.Turns.{takes}
 use Rattle.lines.proofs.Step.{unreached-refused, stepped}
 use Rattle.lines.proofs.Turns.{controller-takes, drive-takes, not-the-controllers}
 use Rattle.lines.proofs.plain.step_plainly.Statement.{statement}
