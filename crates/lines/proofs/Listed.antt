@@ -5,16 +5,20 @@ use mathlib.Core.Path.{_≡_, refl, sym, ap₂, _∙_}
 use mathlib.Core.Bool.{true≢false, false}
 use native.Mathlib.Omega.{arith}
 use lib.Dec.{eqb}
-use lib.ListN.{getD}
+use lib.ListN.{length, getD}
 use Rattle.laws.specs.Pick.{pick}
 use Rattle.laws.proofs.Pick.{either, cases}
-use Rattle.laws.proofs.Lists.{table-at}
+use Rattle.laws.proofs.Lists.{length-table, table-at}
 use Rattle.lines.specs.Moves.{entryOf, movesTable, TableIsTheList, OneLineMoves}
 
 in-table : (old new : ℕ) → old < 32 → new < 32 → getD movesTable (32 * old + new) 0 ≡ entryOf old new
 unfolding movesTable
 in-table old new h k =
     table-at (λ at. entryOf (at / 32) (at % 32)) 1024 (32 * old + new) (omega arith) ∙ ap₂ entryOf (omega arith) (omega arith)
+
+pub count-of-pairs : length movesTable ≡ 1024
+unfolding movesTable
+count-of-pairs = length-table (λ at. entryOf (at / 32) (at % 32)) 0 1024
 
 pub table-is-the-list : TableIsTheList
 unfolding movesTable entryOf pick

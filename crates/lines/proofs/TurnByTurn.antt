@@ -21,9 +21,9 @@ behind-the-first : (room part : List ℕ) (x : ℕ) → 1 ≤ length room → wr
 behind-the-first room part x h = ap (λ (l : List ℕ). writtenAt l 1 part) (stored room (x ∷ []) h) ∙ written-next room (x ∷ []) part
 
 -- what a call below is asked: less remains, a setting at least, and there is room for it
-pub remains : (room : List ℕ) (x : ℕ) {count left places t : ℕ} → count ≡ t → 2 ≤ count → count ≤ length room → count - 1 ≡ left → length (set room 0 x) - 1 ≡ places
-    → (left < t) × ((0 < left) × (left ≤ places))
-remains room x e h k l p = (omega arith, (omega arith, omega (arith, length-set room 0 x)))
+pub remains : (room : List ℕ) (x : ℕ) {count left places t : ℕ} → count ≡ t → 2 ≤ count → count ≤ 16 → count ≤ length room → count - 1 ≡ left → length (set room 0 x) - 1 ≡ places
+    → (left < t) × ((0 < left) × (left ≤ 16) × (left ≤ places))
+remains room x e h few k l p = (omega arith, (omega arith, omega arith, omega (arith, length-set room 0 x)))
 
 -- what was lent behind the first comes back as long as it was
 pub as-long : (room mid : List ℕ) (x : ℕ) → let put = set room 0 x in
@@ -32,7 +32,7 @@ as-long room mid x e = same-len-mid 1 (length (set room 0 x) - 1) (set room 0 x)
 
 -- ---- a side: how it takes a setting, its turn and the other's, and the other's moves, at which it hands over
 
-pub record Side : Type 0 where
+pub record Turn : Type 0 where
   pub takesIt : Follower → ℕ → Followed
   pub turn : Follower → List ℕ → Read
   pub other : Follower → List ℕ → Read
@@ -50,7 +50,7 @@ pub controllers-go : (f : Follower) (new next : ℕ) (rest : List ℕ)
 unfolding controllersTurn
 controllers-go f new next rest = refl
 
-abbrev pub controllers : Side
+abbrev pub controllers : Turn
 controllers = record { takesIt = controllerTakes; turn = controllersTurn; other = drivesTurn; isMove = isDrives; ends = controllers-end; goes = controllers-go }
 
 pub drives-end : (f : Follower) (new : ℕ) → drivesTurn f (new ∷ []) ≡ (driveTakes f new then nothingLeft)
@@ -62,10 +62,10 @@ pub drives-go : (f : Follower) (new next : ℕ) (rest : List ℕ)
 unfolding drivesTurn
 drives-go f new next rest = refl
 
-abbrev pub drives : Side
+abbrev pub drives : Turn
 drives = record { takesIt = driveTakes; turn = drivesTurn; other = controllersTurn; isMove = isControllers; ends = drives-end; goes = drives-go }
 
-module _ (side : Side) where
+module _ (side : Turn) where
   pub turn-ended : (f : Follower) (trace room : List ℕ) (taken : Followed) (x : ℕ) → 0 < length trace → length trace < 2 → length trace ≤ length room
       → taken ≡ side .takesIt f (getD trace 0 0) → x ≡ octetOf (taken .answer) → Leaves (side .turn f trace) room (taken .follower) (set room 0 x)
   turn-ended f [] room taken x some few h t o = absurd (omega arith)

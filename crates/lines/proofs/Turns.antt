@@ -102,7 +102,7 @@ drives-said false false false true false same r w s c d u other low here one mov
 drives-said false false false false lacks true r w s c d u other low here one moves = refl
 drives-said false false false false lacks false r w s c d u other low here one moves = refl
 
--- a follower that is lost is at 0, where the drive has no move
+-- a follower that is lost, and that a trace reaches, is at 0, where the drive has no move
 lost-at-0 : (history : Bool) (setting new : ℕ) → isReached (record { setting = setting; history = history; lost = true }) ≡ true → isListed drivesMoves setting new ≡ false
 unfolding isReached pick
 lost-at-0 history setting new e = rw (eqb-true setting 0 (and-l (eqb setting 0) (not history) e))
@@ -200,5 +200,5 @@ plain-is-the-table =
     record {
       same-answers = λ f trace. ap (λ (read : Read). read .answers) (plainly f trace);
       same-last = λ f trace. ap (λ (read : Read). read .last) (plainly f trace);
-      same-call = λ f {trace} h. rw (plainly f trace) at h;
+      same-call = λ f trace. (λ h. rw (plainly f trace) at h, λ h. rw (plainly f trace) h);
     }

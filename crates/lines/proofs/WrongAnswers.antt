@@ -28,11 +28,11 @@ wrong-by-the-table =
 wrong-plainly : WrongReadings readPlainly
 wrong-plainly =
     record {
-      drives-move-as-the-controllers = λ h. wrong-by-the-table .drives-move-as-the-controllers (plain-is-the-table .same-call _ h);
-      history-forgotten-at-a-hand-over = λ h. wrong-by-the-table .history-forgotten-at-a-hand-over (plain-is-the-table .same-call _ h);
-      lost-stretch-ended-by-1 = λ h. wrong-by-the-table .lost-stretch-ended-by-1 (plain-is-the-table .same-call _ h);
-      trace-ended-by-32 = λ h. wrong-by-the-table .trace-ended-by-32 (plain-is-the-table .same-call _ h);
-      octet-behind-cleared = λ h. wrong-by-the-table .octet-behind-cleared (plain-is-the-table .same-call _ h);
+      drives-move-as-the-controllers = λ h. wrong-by-the-table .drives-move-as-the-controllers (plain-is-the-table .same-call _ _ .0 h);
+      history-forgotten-at-a-hand-over = λ h. wrong-by-the-table .history-forgotten-at-a-hand-over (plain-is-the-table .same-call _ _ .0 h);
+      lost-stretch-ended-by-1 = λ h. wrong-by-the-table .lost-stretch-ended-by-1 (plain-is-the-table .same-call _ _ .0 h);
+      trace-ended-by-32 = λ h. wrong-by-the-table .trace-ended-by-32 (plain-is-the-table .same-call _ _ .0 h);
+      octet-behind-cleared = λ h. wrong-by-the-table .octet-behind-cleared (plain-is-the-table .same-call _ _ .0 h);
     }
 
 pub wrong-answers : WrongAnswers

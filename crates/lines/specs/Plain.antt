@@ -3,6 +3,7 @@ use Prim.Native.Nat.{ℕ}
 use mathlib.Core.Path.{_≡_}
 use mathlib.Core.Bool.{true, false}
 use mathlib.Core.List.{List}
+use mathlib.Core.Logic.{_↔_}
 use Rattle.lines.specs.Follower.{stepOf}
 use Rattle.lines.specs.Traces.{after, answers}
 use Rattle.lines.specs.Reading.{stepByStep, TraceRead}
@@ -19,9 +20,9 @@ pub record PlainDefinitionIsTheStep : Type 0 where
   -- No move is both sides', so one of the two turns has it.
   pub one-sided : (f : Follower) (trace : List ℕ) → comes isDrives f trace ≡ true → comes isControllers f trace ≡ false
 
--- Of every follower and every trace; and whatever the one call may answer, the other may.
+-- Of every follower and every trace; and what the one call may answer, the other may, and the other way round.
 pub record PlainIsTheTable : Type 0 where
   pub same-answers : (f : Follower) (trace : List ℕ) → readPlainly f trace .answers ≡ answers f trace
   pub same-last : (f : Follower) (trace : List ℕ) → readPlainly f trace .last ≡ after f trace
-  pub same-call : (f : Follower) {trace answers₀ : List ℕ} {r : Traced} {answers₁ : List ℕ}
-      → TraceRead (readPlainly f trace) trace answers₀ r answers₁ → TraceRead (stepByStep f trace) trace answers₀ r answers₁
+  pub same-call : (f : Follower) (trace : List ℕ) {answers₀ : List ℕ} {r : Traced} {answers₁ : List ℕ}
+      → TraceRead (readPlainly f trace) trace answers₀ r answers₁ ↔ TraceRead (stepByStep f trace) trace answers₀ r answers₁

@@ -32,9 +32,13 @@ pub record Read : Type 0 where
   pub answers : List Answer
   pub last : Follower
 
--- What a reader leaves: the follower, and in the room lent for the answers their octets in front. The octets behind them stay.
+-- The room that is lent for the answers: their octets in front, and what was behind them.
+abbrev pub answersIn : List ℕ → Read → List ℕ
+answersIn room read = writtenOver room (map octetOf (read .answers))
+
+-- What a reader leaves.
 abbrev pub Leaves : Read → List ℕ → Follower → List ℕ → Type 0
-Leaves read room₀ last room₁ = (last ≡ read .last) × (room₁ ≡ writtenOver room₀ (map octetOf (read .answers)))
+Leaves read room₀ last room₁ = (last ≡ read .last) × (room₁ ≡ answersIn room₀ read)
 
 -- By the table: so many steps.
 abbrev pub stepByStep : Follower → List ℕ → Read
@@ -49,12 +53,13 @@ abbrev pub paper : Traced → Paper Follower
 paper (traced.Last f) = tells f
 paper (traced.Refused n) = refusedWith n
 
+-- The number that an answer refuses with, 0 where it refuses nothing.
 abbrev pub refusalIn : Traced → ℕ
 refusalIn (traced.Last f) = 0
 refusalIn (traced.Refused n) = n
 
--- The promise of `follow` and of `read_plainly`: octets behind the answers stay, and a refusal changes nothing.
+-- The promise of `follow` and of `read_plainly`: a refusal changes nothing.
 pub record TraceRead (read : Read) (trace answers₀ : List ℕ) (r : Traced) (answers₁ : List ℕ) : Type 0 where
   pub answer : r ≡ unlessRefused (first (readRows trace answers₀)) (traced.Refused (first (readRows trace answers₀))) (traced.Last (read .last))
   pub on-paper : paper r ≡ refusedOr (readRows trace answers₀) (read .last)
-  pub answers : answers₁ ≡ unlessRefused (first (readRows trace answers₀)) answers₀ (writtenOver answers₀ (map octetOf (read .answers)))
+  pub answers : answers₁ ≡ unlessRefused (first (readRows trace answers₀)) answers₀ (answersIn answers₀ read)

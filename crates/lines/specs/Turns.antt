@@ -18,11 +18,11 @@ infix 10 _then_
 abbrev pub isControllers : Follower → ℕ → Bool
 isControllers f new = not (f .lost) && (isListed controllersMoves (f .setting) new && not (lacksHistory f new))
 
--- A move of the drive's. No other move needs history; and a follower that is lost is at 0, where the drive has no move.
+-- A move of the drive's: it needs no history. A follower that is lost is at 0, if a trace reaches it, and there the drive has no move.
 abbrev pub isDrives : Follower → ℕ → Bool
 isDrives f new = isListed drivesMoves (f .setting) new
 
--- "A setting over 31 is refused (8)", "While lost it answers ..", "a repeated setting answers "same" and changes nothing", "Any other move is undefined".
+-- "A setting over 31 is refused (8)", "While lost it answers "lost" to every setting from 1 to 31", "a repeated setting answers "same" and changes nothing", "Any other move is undefined".
 unfoldable pub nobodysMove : Follower → ℕ → Followed
 nobodysMove f new =
     pick (ltb 31 new) (told (Refused 8) f)

@@ -1,8 +1,9 @@
 // The follower of one port's lines, by value: a step for each setting that is seen.
 use crate::line;
-use crate::table::entry;
+use crate::table;
 ghost use Prim.Native.Nat.{_<_};
 ghost use mathlib.Core.Path.{_≡_};
+ghost use Rattle.lines.specs.Moves.{movesTable};
 ghost use Rattle.lines.specs.Follower.{lacksHistory, remembers, undefinedAt, whileLost, moved, Started, Stepped, ReachedSaid};
 ghost use Rattle.lines.specs.Reading.{OctetSaid};
 
@@ -61,6 +62,13 @@ impl Follower {
     pub fn step(self, setting: u8) -> Followed
         ensures { λ r. ⌜ Stepped self setting r ⌝ }
     {
+        self.step_by(&table::MOVES, setting)
+    }
+
+    pub(crate) fn step_by(self, moves: &[u8], setting: u8) -> Followed
+        requires { ⌜ now moves ≡ movesTable ⌝ }
+        ensures { λ r. ⌜ Stepped self setting r ⌝ }
+    {
         if !self.is_reached() {
             return Followed {
                 answer: Answer::Refused(line::STATE_NEVER_REACHED),
@@ -76,7 +84,7 @@ impl Follower {
         if self.lost {
             return while_lost(setting);
         }
-        self.moved(setting)
+        self.moved(moves, setting)
     }
 
     // Does a trace from the start lead to this state?
@@ -106,18 +114,17 @@ impl Follower {
             | (s == line::XFRRES)
     }
 
-    fn moved(self, setting: u8) -> Followed
-        requires { ⌜ (self .setting < 32) × (setting < 32) ⌝ }
+    fn moved(self, moves: &[u8], setting: u8) -> Followed
+        requires { ⌜ (now moves ≡ movesTable) × (self .setting < 32) × (setting < 32) ⌝ }
         ensures { λ r. ⌜ r ≡ moved self setting ⌝ }
     {
-        // Most settings that are seen are repeated ones, and the compiler builds the table anew each time it is asked.
         if setting == self.setting {
             return Followed {
                 answer: Answer::Same,
                 follower: self,
             };
         }
-        let said = entry(self.setting, setting);
+        let said = table::entry(moves, self.setting, setting);
         match said {
             1 => {
                 if self.lacks_history(setting) {
@@ -136,7 +143,7 @@ impl Follower {
         }
     }
 
-    pub(crate) fn lacks_history(self, setting: u8) -> bool
+    fn lacks_history(self, setting: u8) -> bool
         ensures { λ r. ⌜ r ≡ lacksHistory self setting ⌝ }
     {
         if self.history {

@@ -1,6 +1,6 @@
 // What a pair of settings is.
 use crate::line;
-use crate::table::entry;
+use crate::table;
 ghost use mathlib.Core.Path.{_≡_};
 ghost use Rattle.lines.specs.Moves.{saidBy, MoveSaid};
 
@@ -22,7 +22,7 @@ pub fn move_of(old: u8, new: u8) -> Move
     if line::LAST_SETTING < new {
         return Move::Refused(line::OVER_LAST_SETTING);
     }
-    said_by(entry(old, new))
+    said_by(table::entry(&table::MOVES, old, new))
 }
 
 // What an entry of the table says.

@@ -6,7 +6,7 @@ use crate::follower::undefined_at;
 use crate::follower::while_lost;
 use crate::line;
 use crate::reading::Traced;
-ghost use Prim.Native.Nat.{_<_, _≤_};
+ghost use Prim.Native.Nat.{_+_, _<_, _≤_};
 ghost use mathlib.Core.Path.{_≡_};
 ghost use mathlib.Core.Bool.{not, _&&_};
 ghost use lib.ListN.{length};
@@ -16,7 +16,7 @@ ghost use Rattle.lines.specs.declared.follower.Answer.the-variants.{Refu
 ghost use Rattle.lines.specs.Reading.{Leaves, stepByStep, TraceRead};
 ghost use Rattle.lines.specs.Turns.{nobodysMove, controllerTakes, driveTakes, controllersTurn, drivesTurn, readPlainly};
 
-// A turn calls the next one before it is done, so the stack grows with the settings that are read so. A trace is cut into stretches of so many.
+// A turn calls the next one before it is done, and each takes 96 octets of stack: a trace is cut into stretches of so many settings.
 const STRETCH: usize = 16;
 
 // What `follow` does: 10 where the slice for the answers is shorter than the trace, and then nothing changes.
@@ -29,7 +29,7 @@ pub fn read_plainly(follower: Follower, trace: &[u8], answers: &mut [u8]) -> Tra
     Traced::Last(read_stretches(follower, trace, answers))
 }
 
-// One setting by the same turns: what `Follower::step` does by the table.
+// One setting, by what the turns go by: what `Follower::step` does by the table. Written out, it is compiled without a call.
 pub fn step_plainly(follower: Follower, setting: u8) -> Followed
     ensures { λ r. ⌜ Stepped follower setting r ⌝ }
 {
@@ -61,7 +61,7 @@ fn read_stretches(follower: Follower, trace: &[u8], answers: &mut [u8]) -> Follo
 
 fn end_of_stretch(at: usize, length: usize) -> usize
     requires { ⌜ at < length ⌝ }
-    ensures { λ r. ⌜ (at < r) × (r ≤ length) ⌝ }
+    ensures { λ r. ⌜ (at < r) × (r ≤ length) × (r ≤ at + 16) ⌝ }
 {
     if length - at < STRETCH {
         return length;
@@ -71,7 +71,7 @@ fn end_of_stretch(at: usize, length: usize) -> usize
 
 // The controller has the first turn, unless a move of the drive comes.
 fn read_stretch(follower: Follower, stretch: &[u8], answers: &mut [u8]) -> Follower
-    requires { ⌜ (0 < length (now stretch)) × (length (now stretch) ≤ length (now answers)) ⌝ }
+    requires { ⌜ (0 < length (now stretch)) × (length (now stretch) ≤ 16) × (length (now stretch) ≤ length (now answers)) ⌝ }
     ensures { λ r. ⌜ Leaves (stepByStep follower (now (stretch .entry))) (now (answers .entry)) r (now (answers .exit)) ⌝ }
 {
     if is_drives(follower.setting, stretch[0]) {
@@ -81,7 +81,7 @@ fn read_stretch(follower: Follower, stretch: &[u8], answers: &mut [u8]) -> Follo
 }
 
 fn controllers_turn(follower: Follower, rest: &[u8], answers: &mut [u8]) -> Follower
-    requires { ⌜ (0 < length (now rest)) × (length (now rest) ≤ length (now answers)) ⌝ }
+    requires { ⌜ (0 < length (now rest)) × (length (now rest) ≤ 16) × (length (now rest) ≤ length (now answers)) ⌝ }
     ensures { λ r. ⌜ Leaves (controllersTurn follower (now (rest .entry))) (now (answers .entry)) r (now (answers .exit)) ⌝ }
 {
     let taken = controller_takes(follower, rest[0]);
@@ -100,7 +100,7 @@ fn controllers_turn(follower: Follower, rest: &[u8], answers: &mut [u8]) -> Foll
 }
 
 fn drives_turn(follower: Follower, rest: &[u8], answers: &mut [u8]) -> Follower
-    requires { ⌜ (0 < length (now rest)) × (length (now rest) ≤ length (now answers)) ⌝ }
+    requires { ⌜ (0 < length (now rest)) × (length (now rest) ≤ 16) × (length (now rest) ≤ length (now answers)) ⌝ }
     ensures { λ r. ⌜ Leaves (drivesTurn follower (now (rest .entry))) (now (answers .entry)) r (now (answers .exit)) ⌝ }
 {
     let taken = drive_takes(follower, rest[0]);

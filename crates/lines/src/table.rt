@@ -1,18 +1,19 @@
 // The table of all 1,024 pairs of settings, indexed by 32 times old plus new.
 ghost use Prim.Native.Nat.{_<_};
 ghost use mathlib.Core.Path.{_≡_};
-ghost use Rattle.lines.specs.Moves.{entryOf};
+ghost use Rattle.lines.specs.Moves.{entryOf, movesTable};
 
-pub(crate) fn entry(old: u8, new: u8) -> u8
-    requires { ⌜ (old < 32) × (new < 32) ⌝ }
+// Whoever asks often lends the table: the compiler builds it anew wherever it is named.
+pub(crate) fn entry(moves: &[u8], old: u8, new: u8) -> u8
+    requires { ⌜ (now moves ≡ movesTable) × (old < 32) × (new < 32) ⌝ }
     ensures { λ r. ⌜ r ≡ entryOf old new ⌝ }
 {
     let at = 32 * (old as usize) + new as usize;
-    MOVES[at]
+    moves[at]
 }
 
 // An entry says of its pair: 0 same, 1 controller's, 2 drive's, 3 undefined. The listed moves are named beside theirs.
-const MOVES: [u8; 1024] = [
+pub(crate) const MOVES: [u8; 1024] = [
     // from setting 0
     0,
     1, // 0→1

@@ -2,13 +2,13 @@
 -- Assumes nothing.
 use Prim.Native.Nat.{ℕ, zero, suc, _<_, _≤_}
 use mathlib.Core.Path.{_≡_, refl, ap, _∙_}
-use mathlib.Core.List.{List}
+use mathlib.Core.List.{List, _∷_}
 use native.Mathlib.Omega.{arith}
 use borrow.Author.Tests.{lt-ltb, le-ltb}
-use lib.Dec.{eqb}
+use lib.Dec.{eqb, ltb}
 use lib.ListN.{length, getD, set}
 use Rattle.laws.specs.Pick.{pick}
-use Rattle.laws.specs.Rows.{first, unlessRefused}
+use Rattle.laws.specs.Rows.{Row, first, _when_, unlessRefused}
 use Rattle.laws.proofs.Pick.{either}
 use Rattle.laws.proofs.Rows.{first-up-to, refused-as}
 use Rattle.lines.specs.Follower.{told, lacksHistory, undefinedAt, whileLost, movedBy, moved, stepRows, stepOf, Stepped}
@@ -54,14 +54,14 @@ pub no-follower : (follower : List ℕ) (setting : ℕ) → length follower < 1 
 unfolding pick
 no-follower follower setting h = let short = lt-ltb (length follower) 1 h in record { answer = rw short; follower = rw short }
 
--- where there is an octet the rows are the follower's
-pub with-octet : (follower : List ℕ) (setting : ℕ) → 1 ≤ length follower → lineRefusal follower setting ≡ first (stepRows (followerIn (getD follower 0 0)) setting)
+-- where there is an octet it is the other rows that tell
+pub with-octet : (follower : List ℕ) (rows : List Row) → 1 ≤ length follower → first (10 when ltb (length follower) 1 ∷ rows) ≡ first rows
 unfolding pick
-with-octet follower setting h = rw (le-ltb (length follower) 1 h)
+with-octet follower rows h = rw (le-ltb (length follower) 1 h)
 
 module _ (follower : List ℕ) (setting : ℕ) (r : Followed) (n : ℕ) (there : 1 ≤ length follower) (t : Stepped (followerIn (getD follower 0 0)) setting r) (e : n ≡ octetOf (r .answer)) where
   ends : Ends (lineRefusal follower setting) n
-  ends = rw (with-octet follower setting there, e, t .answer) (step-ends (followerIn (getD follower 0 0)) setting)
+  ends = rw (with-octet follower (stepRows (followerIn (getD follower 0 0)) setting) there, e, t .answer) (step-ends (followerIn (getD follower 0 0)) setting)
 
   pub line-told : (octet : ℕ) → 16 ≤ n → octet ≡ followerOctet (r .follower) → LineFollowed follower setting n (set follower 0 octet)
   line-told octet k o = by-end ends

@@ -40,8 +40,10 @@ module _ {octets trace answers octets′ answers′ : List ℕ} (w : LinesRead s
 pub lines-alike : LinesAlike
 lines-alike =
     record {
-      alike = λ {follower₀} {trace} h.
-          let same = plainly (followerIn (getD follower₀ 0 0)) trace in
-          record { refusal = h .refusal; follower = rw same at (h .follower); answers = rw same at (h .answers) };
+      alike = λ {follower₀} {trace}.
+          let same = plainly (followerIn (getD follower₀ 0 0)) trace in (
+            λ h. record { refusal = h .refusal; follower = rw same at (h .follower); answers = rw same at (h .answers) },
+            λ h. record { refusal = h .refusal; follower = rw same (h .follower); answers = rw same (h .answers) },
+          );
       next = λ w. followed w;
     }

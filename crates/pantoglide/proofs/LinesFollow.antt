@@ -99,7 +99,7 @@ module _ {octets : List ℕ} {setting r : ℕ} {octets′ : List ℕ} (there : 1
 
   followed : followerIn (getD octets′ 0 0) ≡ stepOf before setting .follower
   unfolding stepOf
-  followed = followed-by (first (stepRows before setting)) refl (rw (with-octet octets setting there) at (w .follower))
+  followed = followed-by (first (stepRows before setting)) refl (rw (with-octet octets (stepRows before setting) there) at (w .follower))
 
 pub lines-follow : LinesFollow
 unfolding followerIn settingIn pick

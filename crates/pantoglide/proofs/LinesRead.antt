@@ -3,7 +3,7 @@
 use Prim.Native.Nat.{ℕ, _<_, _≤_}
 use mathlib.Core.Path.{_≡_, refl, sym, ap, _∙_}
 use mathlib.Core.List.{List}
-use borrow.Author.Tests.{lt-ltb, le-ltb}
+use borrow.Author.Tests.{lt-ltb}
 use lib.ListN.{length, getD}
 use Rattle.laws.specs.Pick.{pick}
 use Rattle.laws.specs.Rows.{first}
@@ -12,15 +12,12 @@ use Rattle.lines.specs.Reading.{Read, readRows, refusalIn, TraceRead}
 use Rattle.lines.specs.declared.follower.Follower.{Follower}
 use Rattle.lines.specs.declared.reading.Traced.the-variants.{Last, Refused}
 use Rattle.pantoglide.specs.Line.{followerIn}
-use Rattle.pantoglide.specs.Lines.{linesRefusal, octetLeft, LinesRead}
+use Rattle.pantoglide.specs.Lines.{octetLeft, LinesRead}
+use Rattle.pantoglide.proofs.Lines.{with-octet}
 
 pub no-octet : (read : Follower → List ℕ → Read) (follower trace answers : List ℕ) → length follower < 1 → LinesRead read follower trace answers 10 follower answers
 unfolding pick
 no-octet read follower trace answers h = record { refusal = rw (lt-ltb (length follower) 1 h); follower = refl; answers = refl }
-
-with-octet : (follower trace answers : List ℕ) → 1 ≤ length follower → first (readRows trace answers) ≡ linesRefusal follower trace answers
-unfolding pick
-with-octet follower trace answers h = rw (le-ltb (length follower) 1 h)
 
 module _ (read : Follower → List ℕ → Read) (follower trace answers : List ℕ) (there : 1 ≤ length follower) where
   abbrev whole : Read
@@ -35,7 +32,7 @@ module _ (read : Follower → List ℕ → Read) (follower trace answers : List 
       let same : Last last ≡ Last (whole .last) = a .0 in
       let reached : last ≡ whole .last = cc in
       record {
-        refusal = sym none ∙ with-octet follower trace answers there;
+        refusal = sym (with-octet follower rows there ∙ none);
         follower = ap (octetLeft follower) reached;
         answers = rw none at (t .answers);
       }
@@ -45,7 +42,7 @@ module _ (read : Follower → List ℕ → Read) (follower trace answers : List 
       let rows = readRows trace answers in
       let number : n ≡ first rows = ap refusalIn (t .answer) ∙ reported refusalIn Refused (λ m. refl) (first rows) (Last (whole .last)) refl in
       record {
-        refusal = number ∙ with-octet follower trace answers there;
+        refusal = number ∙ sym (with-octet follower rows there);
         follower = rw number (sym (declined rows Refused (Refused n) (Last (whole .last)) follower _ (λ e. cc) (t .answer)));
         answers = rw number (t .answers);
       }

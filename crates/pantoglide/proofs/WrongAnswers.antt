@@ -26,9 +26,9 @@ wrong-lines =
 wrong-plain-lines : WrongLines readPlainly
 wrong-plain-lines =
     record {
-      noFollowerWrittenBack = λ h. wrong-lines .noFollowerWrittenBack (lines-alike .alike h);
-      readAsFarAsThereIsRoom = λ h. wrong-lines .readAsFarAsThereIsRoom (lines-alike .alike h);
-      traceRefused = λ h. wrong-lines .traceRefused (lines-alike .alike h);
+      noFollowerWrittenBack = λ h. wrong-lines .noFollowerWrittenBack (lines-alike .alike .0 h);
+      readAsFarAsThereIsRoom = λ h. wrong-lines .readAsFarAsThereIsRoom (lines-alike .alike .0 h);
+      traceRefused = λ h. wrong-lines .traceRefused (lines-alike .alike .0 h);
     }
 
 pub wrong-answers : WrongAnswers

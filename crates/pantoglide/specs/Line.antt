@@ -1,4 +1,4 @@
--- `pg_line`: the follower as one octet, and its answers as numbers.
+-- `pg_line`: the follower as one octet.
 use Prim.Native.Nat.{ℕ, _+_, _%_, _≤_}
 use mathlib.Core.Path.{_≡_}
 use mathlib.Core.List.{List, _∷_}

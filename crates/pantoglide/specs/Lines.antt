@@ -1,15 +1,15 @@
 -- `pg_lines` and `pg_lines_plain`: a whole trace behind a follower's octet, read by the table and without it.
 use Prim.Native.Nat.{ℕ}
 use mathlib.Core.Path.{_≡_}
-use mathlib.Core.List.{List, _∷_, map}
+use mathlib.Core.List.{List, _∷_}
+use mathlib.Core.Logic.{_↔_}
 use lib.Dec.{ltb}
 use lib.ListN.{length, getD, set}
 use Rattle.laws.specs.Pick.{pick}
 use Rattle.laws.specs.Rows.{Row, first, _when_, unlessRefused}
-use Rattle.laws.specs.Lists.{writtenOver}
 use Rattle.lines.specs.Follower.{isReached}
 use Rattle.lines.specs.Traces.{after}
-use Rattle.lines.specs.Reading.{Read, octetOf, stepByStep, readRows}
+use Rattle.lines.specs.Reading.{Read, answersIn, stepByStep, readRows}
 use Rattle.lines.specs.Turns.{readPlainly}
 use Rattle.lines.specs.declared.follower.Follower.{Follower}
 use Rattle.pantoglide.specs.Line.{followerIn, followerOctet}
@@ -29,11 +29,11 @@ octetLeft follower last = pick (isReached (followerIn (getD follower 0 0))) (set
 pub record LinesRead (read : Follower → List ℕ → Read) (follower₀ trace answers₀ : List ℕ) (r : ℕ) (follower₁ answers₁ : List ℕ) : Type 0 where
   pub refusal : r ≡ linesRefusal follower₀ trace answers₀
   pub follower : follower₁ ≡ unlessRefused r follower₀ (octetLeft follower₀ (read (followerIn (getD follower₀ 0 0)) trace .last))
-  pub answers : answers₁ ≡ unlessRefused r answers₀ (writtenOver answers₀ (map octetOf (read (followerIn (getD follower₀ 0 0)) trace .answers)))
+  pub answers : answers₁ ≡ unlessRefused r answers₀ (answersIn answers₀ (read (followerIn (getD follower₀ 0 0)) trace))
 
 -- The two calls are alike, and behind a trace the octet stands for the follower behind it: a trace may be cut into calls anywhere.
 pub record LinesAlike : Type 0 where
   pub alike : {follower₀ trace answers₀ : List ℕ} {r : ℕ} {follower₁ answers₁ : List ℕ}
-      → LinesRead readPlainly follower₀ trace answers₀ r follower₁ answers₁ → LinesRead stepByStep follower₀ trace answers₀ r follower₁ answers₁
+      → LinesRead readPlainly follower₀ trace answers₀ r follower₁ answers₁ ↔ LinesRead stepByStep follower₀ trace answers₀ r follower₁ answers₁
   pub next : {follower₀ trace answers₀ follower₁ answers₁ : List ℕ} → LinesRead stepByStep follower₀ trace answers₀ 0 follower₁ answers₁
       → followerIn (getD follower₁ 0 0) ≡ after (followerIn (getD follower₀ 0 0)) trace

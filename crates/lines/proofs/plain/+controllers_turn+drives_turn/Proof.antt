@@ -96,7 +96,7 @@ controllers-same-length t c = search needs
 controllers-returns : (t : ℕ) → controllers-turn-lts.Need-returns (controllers-claims t) (controllers-turn-at t) controllers-turn.Post
 controllers-returns t c =
     let start = c .before .before .before .before .before .before .before in
-    turn-ended controllers (start .args .follower) (start .args .rest .now) (start .args .answers .now) _ _ (start .pre .1 .0) (c .if1 .taken) (start .pre .1 .1) (c .before .before .before .controller-takes .ensures) (c .before .octet .ensures .answer)
+    turn-ended controllers (start .args .follower) (start .args .rest .now) (start .args .answers .now) _ _ (start .pre .1 .0) (c .if1 .taken) (start .pre .1 .2) (c .before .before .before .controller-takes .ensures) (c .before .octet .ensures .answer)
 
 controllers-sub-left : (t : ℕ) → controllers-turn-lts.Need-sub-left (controllers-claims t) (controllers-turn-at t) controllers-turn.Post
 controllers-sub-left t c = search needs
@@ -110,12 +110,12 @@ controllers-part-left-end t c = search needs
 controllers-sub-places : (t : ℕ) → controllers-turn-lts.Need-sub-places (controllers-claims t) (controllers-turn-at t) controllers-turn.Post
 controllers-sub-places t c =
     let start = c .before .before .before .before .before .before .before .before in
-    simp length-set (omega (arith, start .pre .1 .0, start .pre .1 .1))
+    simp length-set (omega (arith, start .pre .1 .0, start .pre .1 .2))
 
 controllers-part-places-start : (t : ℕ) → controllers-turn-lts.Need-part-places-start (controllers-claims t) (controllers-turn-at t) controllers-turn.Post
 controllers-part-places-start t c =
     let start = c .before .before .before .before .before .before .before .before in
-    simp length-set (omega (arith, start .pre .1 .0, start .pre .1 .1))
+    simp length-set (omega (arith, start .pre .1 .0, start .pre .1 .2))
 
 controllers-part-places-end : (t : ℕ) → controllers-turn-lts.Need-part-places-end (controllers-claims t) (controllers-turn-at t) controllers-turn.Post
 controllers-part-places-end t c = search needs
@@ -129,7 +129,7 @@ controllers-is-drives-requires t c κs = search needs
 controllers-drives-turn-requires : (t : ℕ) → controllers-turn-lts.Need-drives-turn-requires (controllers-claims t) (controllers-turn-at t) controllers-turn.Post
 controllers-drives-turn-requires t c κs =
     let start = c .before .before .before .before .before .before .before .before .before .before .before .before in
-    remains (start .args .answers .now) (c .before .before .before .before .before .before .octet .result) (start .pre .0) (c .before .before .before .before .before .if1 .left) (start .pre .1 .1) (c .before .before .before .before .left .given .1) (c .before .before .before .places .given .1)
+    remains (start .args .answers .now) (c .before .before .before .before .before .before .octet .result) (start .pre .0) (c .before .before .before .before .before .if1 .left) (start .pre .1 .1) (start .pre .1 .2) (c .before .before .before .before .left .given .1) (c .before .before .before .places .given .1)
 
 controllers-same-length-2 : (t : ℕ) → controllers-turn-lts.Need-same-length-2 (controllers-claims t) (controllers-turn-at t) controllers-turn.Post
 controllers-same-length-2 t c =
@@ -146,12 +146,12 @@ controllers-returns-2 t c =
     let called = c .before .before in
     let rest = start .args .rest .now in
     turn-goes-on controllers (start .args .follower) rest (take (length rest - 1) (drop 1 rest)) (start .args .answers .now) (taken .controller-takes .result) (put .octet .result) (asked .is-drives .result) (called .drives-turn .result) (called .drives-turn .last .1 .1 .0)
-    (c .before .before .before .before .before .before .before .before .if1 .left) (start .pre .1 .1) (rest-whole rest 1) (taken .controller-takes .ensures) (put .octet .ensures .answer) (asked .is-drives .ensures) (rw (c .before .before .before .if2 .taken) (called .drives-turn .ensures))
+    (c .before .before .before .before .before .before .before .before .if1 .left) (start .pre .1 .2) (rest-whole rest 1) (taken .controller-takes .ensures) (put .octet .ensures .answer) (asked .is-drives .ensures) (rw (c .before .before .before .if2 .taken) (called .drives-turn .ensures))
 
 controllers-controllers-turn-requires : (t : ℕ) → controllers-turn-lts.Need-controllers-turn-requires (controllers-claims t) (controllers-turn-at t) controllers-turn.Post
 controllers-controllers-turn-requires t c κs =
     let start = c .before .before .before .before .before .before .before .before .before .before .before .before in
-    remains (start .args .answers .now) (c .before .before .before .before .before .before .octet .result) (start .pre .0) (c .before .before .before .before .before .if1 .left) (start .pre .1 .1) (c .before .before .before .before .left .given .1) (c .before .before .before .places .given .1)
+    remains (start .args .answers .now) (c .before .before .before .before .before .before .octet .result) (start .pre .0) (c .before .before .before .before .before .if1 .left) (start .pre .1 .1) (start .pre .1 .2) (c .before .before .before .before .left .given .1) (c .before .before .before .places .given .1)
 
 controllers-same-length-3 : (t : ℕ) → controllers-turn-lts.Need-same-length-3 (controllers-claims t) (controllers-turn-at t) controllers-turn.Post
 controllers-same-length-3 t c =
@@ -168,7 +168,7 @@ controllers-returns-3 t c =
     let called = c .before .before in
     let rest = start .args .rest .now in
     turn-goes-on controllers (start .args .follower) rest (take (length rest - 1) (drop 1 rest)) (start .args .answers .now) (taken .controller-takes .result) (put .octet .result) (asked .is-drives .result) (called .controllers-turn .result) (called .controllers-turn .last .1 .1 .0)
-    (c .before .before .before .before .before .before .before .before .if1 .left) (start .pre .1 .1) (rest-whole rest 1) (taken .controller-takes .ensures) (put .octet .ensures .answer) (asked .is-drives .ensures) (rw (c .before .before .before .if2 .left) (called .controllers-turn .ensures))
+    (c .before .before .before .before .before .before .before .before .if1 .left) (start .pre .1 .2) (rest-whole rest 1) (taken .controller-takes .ensures) (put .octet .ensures .answer) (asked .is-drives .ensures) (rw (c .before .before .before .if2 .left) (called .controllers-turn .ensures))
 
 -- ---- the drive's turn
 
@@ -190,7 +190,7 @@ drives-same-length t c = search needs
 drives-returns : (t : ℕ) → drives-turn-lts.Need-returns (drives-claims t) (drives-turn-at t) drives-turn.Post
 drives-returns t c =
     let start = c .before .before .before .before .before .before .before in
-    turn-ended drives (start .args .follower) (start .args .rest .now) (start .args .answers .now) _ _ (start .pre .1 .0) (c .if1 .taken) (start .pre .1 .1) (c .before .before .before .drive-takes .ensures) (c .before .octet .ensures .answer)
+    turn-ended drives (start .args .follower) (start .args .rest .now) (start .args .answers .now) _ _ (start .pre .1 .0) (c .if1 .taken) (start .pre .1 .2) (c .before .before .before .drive-takes .ensures) (c .before .octet .ensures .answer)
 
 drives-sub-left : (t : ℕ) → drives-turn-lts.Need-sub-left (drives-claims t) (drives-turn-at t) drives-turn.Post
 drives-sub-left t c = search needs
@@ -204,12 +204,12 @@ drives-part-left-end t c = search needs
 drives-sub-places : (t : ℕ) → drives-turn-lts.Need-sub-places (drives-claims t) (drives-turn-at t) drives-turn.Post
 drives-sub-places t c =
     let start = c .before .before .before .before .before .before .before .before in
-    simp length-set (omega (arith, start .pre .1 .0, start .pre .1 .1))
+    simp length-set (omega (arith, start .pre .1 .0, start .pre .1 .2))
 
 drives-part-places-start : (t : ℕ) → drives-turn-lts.Need-part-places-start (drives-claims t) (drives-turn-at t) drives-turn.Post
 drives-part-places-start t c =
     let start = c .before .before .before .before .before .before .before .before in
-    simp length-set (omega (arith, start .pre .1 .0, start .pre .1 .1))
+    simp length-set (omega (arith, start .pre .1 .0, start .pre .1 .2))
 
 drives-part-places-end : (t : ℕ) → drives-turn-lts.Need-part-places-end (drives-claims t) (drives-turn-at t) drives-turn.Post
 drives-part-places-end t c = search needs
@@ -223,7 +223,7 @@ drives-is-controllers-requires t c κs = search needs
 drives-controllers-turn-requires : (t : ℕ) → drives-turn-lts.Need-controllers-turn-requires (drives-claims t) (drives-turn-at t) drives-turn.Post
 drives-controllers-turn-requires t c κs =
     let start = c .before .before .before .before .before .before .before .before .before .before .before .before .before in
-    remains (start .args .answers .now) (c .before .before .before .before .before .before .before .octet .result) (start .pre .0) (c .before .before .before .before .before .before .if1 .left) (start .pre .1 .1) (c .before .before .before .before .before .left .given .1) (c .before .before .before .before .places .given .1)
+    remains (start .args .answers .now) (c .before .before .before .before .before .before .before .octet .result) (start .pre .0) (c .before .before .before .before .before .before .if1 .left) (start .pre .1 .1) (start .pre .1 .2) (c .before .before .before .before .before .left .given .1) (c .before .before .before .before .places .given .1)
 
 drives-same-length-2 : (t : ℕ) → drives-turn-lts.Need-same-length-2 (drives-claims t) (drives-turn-at t) drives-turn.Post
 drives-same-length-2 t c =
@@ -240,12 +240,12 @@ drives-returns-2 t c =
     let called = c .before .before in
     let rest = start .args .rest .now in
     turn-goes-on drives (start .args .follower) rest (take (length rest - 1) (drop 1 rest)) (start .args .answers .now) (taken .drive-takes .result) (put .octet .result) (not (taken .drive-takes .result .follower .lost) && asked .is-controllers .result) (called .controllers-turn .result) (called .controllers-turn .last .1 .1 .0)
-    (c .before .before .before .before .before .before .before .before .before .if1 .left) (start .pre .1 .1) (rest-whole rest 1) (taken .drive-takes .ensures) (put .octet .ensures .answer) (ap (λ (own : Bool). not (taken .drive-takes .result .follower .lost) && own) (asked .is-controllers .ensures)) (rw (c .before .before .before .if2 .taken) (called .controllers-turn .ensures))
+    (c .before .before .before .before .before .before .before .before .before .if1 .left) (start .pre .1 .2) (rest-whole rest 1) (taken .drive-takes .ensures) (put .octet .ensures .answer) (ap (λ (own : Bool). not (taken .drive-takes .result .follower .lost) && own) (asked .is-controllers .ensures)) (rw (c .before .before .before .if2 .taken) (called .controllers-turn .ensures))
 
 drives-drives-turn-requires : (t : ℕ) → drives-turn-lts.Need-drives-turn-requires (drives-claims t) (drives-turn-at t) drives-turn.Post
 drives-drives-turn-requires t c κs =
     let start = c .before .before .before .before .before .before .before .before .before .before .before .before .before in
-    remains (start .args .answers .now) (c .before .before .before .before .before .before .before .octet .result) (start .pre .0) (c .before .before .before .before .before .before .if1 .left) (start .pre .1 .1) (c .before .before .before .before .before .left .given .1) (c .before .before .before .before .places .given .1)
+    remains (start .args .answers .now) (c .before .before .before .before .before .before .before .octet .result) (start .pre .0) (c .before .before .before .before .before .before .if1 .left) (start .pre .1 .1) (start .pre .1 .2) (c .before .before .before .before .before .left .given .1) (c .before .before .before .before .places .given .1)
 
 drives-same-length-3 : (t : ℕ) → drives-turn-lts.Need-same-length-3 (drives-claims t) (drives-turn-at t) drives-turn.Post
 drives-same-length-3 t c =
@@ -262,7 +262,7 @@ drives-returns-3 t c =
     let called = c .before .before in
     let rest = start .args .rest .now in
     turn-goes-on drives (start .args .follower) rest (take (length rest - 1) (drop 1 rest)) (start .args .answers .now) (taken .drive-takes .result) (put .octet .result) (not (taken .drive-takes .result .follower .lost) && asked .is-controllers .result) (called .drives-turn .result) (called .drives-turn .last .1 .1 .0)
-    (c .before .before .before .before .before .before .before .before .before .if1 .left) (start .pre .1 .1) (rest-whole rest 1) (taken .drive-takes .ensures) (put .octet .ensures .answer) (ap (λ (own : Bool). not (taken .drive-takes .result .follower .lost) && own) (asked .is-controllers .ensures)) (rw (c .before .before .before .if2 .left) (called .drives-turn .ensures))
+    (c .before .before .before .before .before .before .before .before .before .if1 .left) (start .pre .1 .2) (rest-whole rest 1) (taken .drive-takes .ensures) (put .octet .ensures .answer) (ap (λ (own : Bool). not (taken .drive-takes .result .follower .lost) && own) (asked .is-controllers .ensures)) (rw (c .before .before .before .if2 .left) (called .drives-turn .ensures))
 
 pub +controllers-turn+drives-turn-spec : {M : Type 1} → statement M
 +controllers-turn+drives-turn-spec =

@@ -47,7 +47,7 @@ read-stretch-requires c κs =
     let stretch-length = c .before .read-stretch-arg .given .1 in
     let room-length = c .read-stretch-arg2 .given .1 in
     let end = c .before .before .end-of-stretch .ensures in
-    (omega (arith, stretch-length, end .0), omega (arith, stretch-length, room-length, end .0, end .1, inv .enough, inv .kept))
+    (omega (arith, stretch-length, end .0), omega (arith, stretch-length, end .2), omega (arith, stretch-length, room-length, end .0, end .1, inv .enough, inv .kept))
 
 loop-less : tie.Need-loop-less Inv-loop μ-loop
 loop-less c = search needs

@@ -1,9 +1,8 @@
--- `lines::table::entry` meets its contract: the constant is the table of the listed moves, entry for entry, which antt computes.
+-- `lines::table::entry` meets its contract: the table that is lent has the entry of the listed moves there.
 -- Assumes nothing.
+use native.Mathlib.Omega.{arith}
 use borrow.Author.Needs.{needs}
-use Rattle.laws.specs.Pick.{pick}
-use Rattle.lines.specs.Moves.{entryOf, movesTable}
-use Rattle.lines.proofs.Listed.{table-is-the-list}
+use Rattle.lines.proofs.Listed.{count-of-pairs, table-is-the-list}
 use Rattle.lines.proofs.table.entry.Statement.{statement}
 use Rattle.lines.proofs.table.entry.Tie as tie
 
@@ -13,12 +12,11 @@ mul-at c = search needs
 add-at : tie.Need-add-at
 add-at c = search needs
 
-array-read-result : tie.Need-array-read-result
-array-read-result c = search needs
+shared-slice-read-result : tie.Need-shared-slice-read-result
+shared-slice-read-result c = rw (c .before .pre .0, count-of-pairs) (omega (arith, c .before .pre .1, c .before .pre .2))
 
 returns : tie.Need-returns
-unfolding movesTable entryOf pick
-returns c = table-is-the-list .entry (c .args .old) (c .args .new) (search needs) (search needs)
+returns c = rw (c .before .pre .0) (table-is-the-list .entry (c .before .args .old) (c .before .args .new) (c .before .pre .1) (c .before .pre .2))
 
 pub entry-spec : {M : Type 1} → statement M
-entry-spec = tie.close (tie.spec mul-at add-at array-read-result returns)
+entry-spec = tie.close (tie.spec mul-at add-at shared-slice-read-result returns)

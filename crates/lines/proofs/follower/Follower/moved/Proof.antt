@@ -13,7 +13,9 @@ use Rattle.lines.proofs.follower.Follower.moved.Tie as tie
 
 returns : tie.Need-returns
 unfolding movedBy entryOf pick
-returns c = rw (eq-eqb (c .before .before .args .self .setting) (c .before .before .args .setting) (sym (c .if1 .taken)))
+returns c =
+    let start : tie.Start = search in
+    rw (eq-eqb (start .args .self .setting) (start .args .setting) (sym (c .if1 .taken)))
 
 entry-requires : tie.Need-entry-requires
 entry-requires c κs = search needs
@@ -53,7 +55,8 @@ returns-5 : tie.Need-returns-5
 unfolding movedBy pick
 returns-5 c =
     let none = c .before .match .rest in
-    let args = c .before .before .before .before .before .args in
+    let start : tie.Start = search in
+    let args = start .args in
     let moved = not-same (args .self .setting) (args .setting) (ne-eqb _ _ (λ e. c .before .before .before .if1 .left (sym e))) in
     rw (moved, ← (c .before .before .entry .ensures), ne-eqb _ _ (none .0 .1), ne-eqb _ _ (none .1)) (c .undefined-at2 .ensures)
 

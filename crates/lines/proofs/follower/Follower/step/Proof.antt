@@ -1,52 +1,21 @@
--- `Follower::step` meets its contract.
+-- `Follower::step` meets its contract: the constant is the table of the listed moves, entry for entry, which antt computes.
 -- Assumes nothing.
-use mathlib.Core.Path.{sym, _∙_}
+use mathlib.Core.Path.{refl}
 use borrow.Author.Needs.{needs}
-use borrow.Author.Tests.{lt-ltb, le-ltb, not-true, not-false}
 use Rattle.laws.specs.Pick.{pick}
-use Rattle.lines.proofs.Step.{unreached-refused, step-reached, stepped}
-use Rattle.lines.proofs.Reached.{reached-below-32}
+use Rattle.lines.specs.Moves.{entryOf, movesTable}
 use Rattle.lines.proofs.follower.Follower.step.Statement.{statement}
 use Rattle.lines.proofs.follower.Follower.step.Tie as tie
 
-is-reached-requires : tie.Need-is-reached-requires
-is-reached-requires c κs = search needs
+slice-aggregate-step-by : tie.Need-slice-aggregate-step-by
+slice-aggregate-step-by c = search needs
+
+step-by-requires : tie.Need-step-by-requires
+unfolding movesTable entryOf pick
+step-by-requires c κs = refl
 
 returns : tie.Need-returns
-returns c = stepped (sym (unreached-refused _ _ (sym (c .before .is-reached .ensures .answer) ∙ not-true _ (c .if1 .taken))))
-
-returns-2 : tie.Need-returns-2
-unfolding pick
-returns-2 c =
-    let reached = sym (c .before .before .is-reached .ensures .answer) ∙ not-false _ (c .before .if1 .left) in
-    stepped (sym (step-reached _ _ reached ∙ rw (lt-ltb _ _ (c .if2 .taken))))
-
-while-lost-requires : tie.Need-while-lost-requires
-while-lost-requires c κs = search needs
-
-returns-3 : tie.Need-returns-3
-unfolding pick
-returns-3 c =
-    let reached = sym (c .before .before .before .before .is-reached .ensures .answer) ∙ not-false _ (c .before .before .before .if1 .left) in
-    stepped (c .while-lost .ensures ∙ sym (step-reached _ _ reached ∙ rw (le-ltb _ _ (c .before .before .if2 .left), c .before .if3 .taken)))
-
-moved-requires : tie.Need-moved-requires
-moved-requires c κs = (reached-below-32 _ (sym (c .before .before .before .is-reached .ensures .answer) ∙ not-false _ (c .before .before .if1 .left)), search needs)
-
-returns-4 : tie.Need-returns-4
-unfolding pick
-returns-4 c =
-    let reached = sym (c .before .before .before .before .is-reached .ensures .answer) ∙ not-false _ (c .before .before .before .if1 .left) in
-    stepped (c .moved .ensures ∙ sym (step-reached _ _ reached ∙ rw (le-ltb _ _ (c .before .before .if2 .left), c .before .if3 .left)))
+returns c = c .step-by .ensures
 
 pub step-spec : {M : Type 1} → statement M
-step-spec =
-    tie.close
-    (tie.spec
-    is-reached-requires
-    returns
-    returns-2
-    while-lost-requires
-    returns-3
-    moved-requires
-    returns-4)
+step-spec = tie.close (tie.spec slice-aggregate-step-by step-by-requires returns)
