@@ -2,6 +2,7 @@ pub mod Lines
 pub mod LinesFollow
 pub mod LinesRead
 pub mod LinesAlike
+pub mod LinesAreSingles
 pub mod Replays
 pub mod Singles
 pub mod Demand3

@@ -67,11 +67,11 @@ never-reached true false = refl
 never-reached false true = refl
 never-reached false false = refl
 
-octet-setting : (octet : ℕ) → (followerIn octet .setting ≡ 32) ⊎ (followerIn octet .setting < 32)
+pub octet-setting : (octet : ℕ) → (followerIn octet .setting ≡ 32) ⊎ (followerIn octet .setting < 32)
 unfolding followerIn settingIn
 octet-setting octet = either (λ (s : ℕ). (s ≡ 32) ⊎ (s < 32)) (bit 7 octet) (inl refl) (inr (omega arith))
 
-reached-set : (f : Follower) → (f .setting ≡ 32) ⊎ (f .setting < 32) → isReached f ≡ true → f .setting < 32
+pub reached-set : (f : Follower) → (f .setting ≡ 32) ⊎ (f .setting < 32) → isReached f ≡ true → f .setting < 32
 reached-set f (inl e) t =
     absurd (false≢true (sym (ap (λ (s : ℕ). isReached (record { setting = s; history = f .history; lost = f .lost })) e ∙ never-reached (f .history) (f .lost)) ∙ t))
 reached-set f (inr h) t = h
