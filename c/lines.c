@@ -1,4 +1,4 @@
-/* Follows a trace of settings from a selection to a move that is not listed, through the lost
+/* Follows a trace of settings from a selection to a move without its history, through the lost
  * stretch behind it and back to IDLE, by the reader with the table and by the plain one. It prints
  * exactly
  *

@@ -750,10 +750,11 @@ enum {
  * and returns 16 to 21. */
 uint8_t pg_line(uint8_t *follower, size_t follower_length, uint8_t setting);
 
-/* The lines of a port had these settings, one after another. Any octets are a trace, also none.
+/* The lines of a port had these settings, one after another. Any octets are a trace, and so are
+ * none at all.
  *
- * Returns 10 if follower_length is 0 or answers is shorter than the trace, and then nothing is
- * changed. Otherwise returns 0. Setting number i, from 0, has its answer in answers[i], which is
+ * Returns 10 if follower_length is 0 or answers_length is less than trace_length, and then nothing
+ * is changed. Otherwise returns 0. Setting number i, from 0, has its answer in answers[i], which is
  * what the call of pg_line for trace[i] would have returned, and *follower is what so many calls
  * would have made of it. So a setting over 31 is answered with 8, and the trace goes on behind it;
  * and if no trace from the start leads to *follower, every answer is 11 and *follower stays as it
@@ -761,7 +762,7 @@ uint8_t pg_line(uint8_t *follower, size_t follower_length, uint8_t setting);
  *
  * pg_lines goes by the table of the 1,024 pairs of settings. pg_lines_plain has no table: by turns
  * the controller and the drive take the moves that are their own. Both do the same on every input.
- * Neither takes more stack for a longer trace. */
+ * Neither takes more stack than the figure above, however long the trace. */
 uint8_t pg_lines(uint8_t *follower, size_t follower_length, const uint8_t *trace,
                  size_t trace_length, uint8_t *answers, size_t answers_length);
 uint8_t pg_lines_plain(uint8_t *follower, size_t follower_length, const uint8_t *trace,

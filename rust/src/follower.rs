@@ -23,7 +23,7 @@ pub enum Move {
 
 impl Move {
     /// Reads the octet that answers a setting. [`Refusal::Malformed`] is a setting over 31,
-    /// [`Refusal::Unsound`] a follower that no trace reaches, or an octet that answers none.
+    /// [`Refusal::Unsound`] a follower that no trace reaches, or an octet that is no answer.
     pub fn from_answer(octet: u8) -> Result<Move, Refusal> {
         match octet {
             8 => Err(Refusal::Malformed),

@@ -1,5 +1,5 @@
-// Runs the bench cases of document 01 that are not marked P, the worked cases of M-100 and M-102, those of M-103 and further ones through the
-// public calls, and compares.
+// Runs the bench cases of document 01 that are not marked P, the worked cases of M-100 and M-102, those of M-103, the traces of M-104 and
+// further ones through the public calls, and compares.
 mod bench;
 mod by_place;
 mod calls;
@@ -23,6 +23,8 @@ mod setup_cases;
 mod state_cases;
 mod status_cases;
 mod tally;
+mod trace_cases;
+mod traces;
 mod transfer_cases;
 mod watch;
 mod words;
@@ -31,7 +33,8 @@ use tally::Tally;
 
 fn main() {
     let lines = line_cases::run(Tally::none());
-    let controls = control_cases::run(lines);
+    let traces = trace_cases::run(lines);
+    let controls = control_cases::run(traces);
     let transfers = transfer_cases::run(controls);
     let holdings = holding_cases::run(transfers);
     let reserves = reserve_cases::run(holdings);

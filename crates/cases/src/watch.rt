@@ -34,9 +34,9 @@ pub(crate) const FROM: u64 = 0x0100;
 // Or the end of the case.
 pub(crate) const ENDS: u64 = 0x0300_0000;
 
-const IS_HANDED: u8 = 1;
+pub(crate) const IS_HANDED: u8 = 1;
 
-const IS_PAIR: u8 = 2;
+pub(crate) const IS_PAIR: u8 = 2;
 
 // The least number that is an answer and no refusal.
 const LEAST_ANSWER: u8 = 16;
@@ -61,10 +61,8 @@ pub(crate) fn runs(tally: Tally, names: &[u8], rows: &[u64]) -> Tally {
     told
 }
 
-// The setting gets this answer; and if that is a refusal, nothing has changed.
 fn answered(row: u64, follower: &mut [u8; 1]) -> bool {
     let octets = words::octets(row);
-    let before = follower[0];
     let kind = octets[4];
     match kind {
         IS_HANDED => {
@@ -72,11 +70,15 @@ fn answered(row: u64, follower: &mut [u8; 1]) -> bool {
             true
         }
         IS_PAIR => number_of(lines::move_of(octets[6], octets[7])) == octets[5],
-        _ => {
-            let number = pantoglide::pg_line(follower, octets[7]);
-            (number == octets[5]) & ((LEAST_ANSWER <= number) | (follower[0] == before))
-        }
+        _ => is_answered(follower, octets[7], octets[5]),
     }
+}
+
+// The setting gets this answer; and if that is a refusal, nothing has changed.
+pub(crate) fn is_answered(follower: &mut [u8; 1], setting: u8, answer: u8) -> bool {
+    let before = follower[0];
+    let number = pantoglide::pg_line(follower, setting);
+    (number == answer) & ((LEAST_ANSWER <= number) | (follower[0] == before))
 }
 
 fn number_of(found: Move) -> u8 {

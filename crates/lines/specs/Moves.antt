@@ -75,8 +75,7 @@ pub record MoveSaid (old new : ℕ) (r : Move) : Type 0 where
   pub on-paper : paper r ≡ refusedOr (moveRows old new) (entryOf old new)
 
 -- The table: "It is proved equal to the list, once over all pairs" and "same (32 pairs), controller's (14), drive's (7), undefined (971)". Said of
--- `movesTable`, which is built from the list. The code's constant is bound to the list by the promise of `entry`: for every pair of settings its entry
--- at 32 times old plus new is `entryOf old new`, so each of its 1,024 entries is that of `movesTable`.
+-- `movesTable`, which is built from the list. The code's constant is this list of 1,024 numbers: whoever hands the constant on proves that it is.
 pub record TableIsTheList : Type 0 where
   pub entry : (old new : ℕ) → old < 32 → new < 32 → getD movesTable (32 * old + new) 0 ≡ entryOf old new
   pub same : countOf 0 movesTable ≡ 32

@@ -1,4 +1,4 @@
-//! Slices that are too short, which is refused and changes nothing, and slices that just do.
+//! Slices that are too short: these are refused, and nothing changes. And slices that just do.
 
 use crate::{BEFORE, READERS};
 
@@ -53,6 +53,9 @@ fn slices_that_just_do_are_filled() {
             let (mut follower, mut answers) = ([0], vec![BEFORE; settings]);
             let returned = reader(&mut follower, &trace(settings), &mut answers);
             assert_eq!(returned, 0, "{name}: {settings} settings");
+            let left = [0x30, 0x18, 0x18, 0x40, 0x40, 0].into_iter().cycle();
+            let last = left.take(settings).last().unwrap_or(0);
+            assert_eq!(follower, [last], "{name}: {settings} settings");
             let again = [17, 18, 8, 19, 20, 21].into_iter().cycle();
             assert!(
                 again.take(settings).eq(answers),

@@ -9,7 +9,7 @@ use std::fmt;
 
 const LEAST: usize = 10;
 
-/// No trace, one and two settings, and a stretch of so many settings, with one less and one more.
+/// No settings, one and two, and a stretch of so many settings, with one less and one more.
 pub const LENGTHS: [usize; 18] = [
     0, 1, 2, 15, 16, 17, 31, 32, 33, 63, 64, 65, 127, 128, 129, 255, 256, 257,
 ];
