@@ -22,14 +22,16 @@ isControllers f new = not (f .lost) && (isListed controllersMoves (f .setting) n
 abbrev pub isDrives : Follower → ℕ → Bool
 isDrives f new = isListed drivesMoves (f .setting) new
 
--- "A setting over 31 is refused (8)", "While lost it answers "lost" to every setting from 1 to 31", "a repeated setting answers "same" and changes nothing", "Any other move is undefined".
+-- "A setting over 31 is refused (8)", "While lost it answers "lost" to every setting from 1 to 31", "a repeated setting answers "same" and changes
+-- nothing", "Any other move is undefined".
 unfoldable pub nobodysMove : Follower → ℕ → Followed
 nobodysMove f new =
     pick (ltb 31 new) (told (Refused 8) f)
     (pick (f .lost) (whileLost new)
     (pick (eqb (f .setting) new) (told Same f) (undefinedAt new)))
 
--- A setting in the turn of a side: `own` tells whether it is a move of its own.
+-- A setting in the turn of a side, where `own` tells whether it is a move of its own: "a follower state that no trace from the start can reach is refused
+-- (11), tested first."
 unfoldable pub takes : Answer → Bool → Follower → ℕ → Followed
 takes side own f new = pick (not (isReached f)) (told (Refused 11) f) (pick own (told side (remembers f new)) (nobodysMove f new))
 
