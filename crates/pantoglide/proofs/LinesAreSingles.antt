@@ -20,7 +20,7 @@ use Rattle.lines.proofs.Step.{unreached-refused}
 use Rattle.lines.proofs.Reached.{step-stays}
 use Rattle.lines.specs.declared.follower.Follower.{Follower}
 use Rattle.lines.specs.declared.follower.Followed.{Followed}
-use Rattle.pantoglide.specs.Line.{settingIn, followerIn, followerOctet, lineRefusal, LineFollowed}
+use Rattle.pantoglide.specs.Line.{settingIn, followerIn, followerOctet, LineFollowed}
 use Rattle.pantoglide.specs.Lines.{linesRows, octetLeft, LinesRead, LinesAreSingles}
 use Rattle.pantoglide.proofs.Lines.{Ends, answered, refused, step-ends, with-octet}
 use Rattle.pantoglide.proofs.LinesFollow.{lines-follow, reached-set, octet-setting}
