@@ -17,13 +17,13 @@ use Rattle.lines.specs.Follower.{isReached, stepRows, stepOf}
 use Rattle.lines.specs.Traces.{after, answers}
 use Rattle.lines.specs.Reading.{octetOf, answersIn, readRows, stepByStep}
 use Rattle.lines.proofs.Step.{unreached-refused}
-use Rattle.lines.proofs.Reached.{step-stays}
+use Rattle.lines.proofs.Reached.{reached-below-32, step-stays}
 use Rattle.lines.specs.declared.follower.Follower.{Follower}
 use Rattle.lines.specs.declared.follower.Followed.{Followed}
 use Rattle.pantoglide.specs.Line.{settingIn, followerIn, followerOctet, LineFollowed}
 use Rattle.pantoglide.specs.Lines.{linesRows, octetLeft, LinesRead, LinesAreSingles}
 use Rattle.pantoglide.proofs.Lines.{Ends, answered, refused, step-ends, with-octet}
-use Rattle.pantoglide.proofs.LinesFollow.{lines-follow, reached-set, octet-setting}
+use Rattle.pantoglide.proofs.LinesFollow.{lines-follow}
 
 -- ---- an octet that a trace reaches is written back as it was
 
@@ -62,7 +62,7 @@ low octet false e h s = let a = even (octet / 128) e in omega arith
 written-back : (octet : ℕ) → octet < 256 → isReached (followerIn octet) ≡ true → followerOctet (followerIn octet) ≡ octet
 unfolding followerOctet followerIn settingIn pick
 written-back octet h e =
-    let small = reached-set (followerIn octet) (octet-setting octet) e in
+    let small = reached-below-32 (followerIn octet) e in
     let under = low octet (bit 7 octet) refl h small in
     let clear : bit 7 octet ≡ false = ne-eqb (octet / 128 % 2) 1 (λ one. omega arith) in
     rw clear (let m : octet % 32 % 32 ≡ octet % 32 = omega arith in rw m (by-bits octet (bit 5 octet) (bit 6 octet) refl refl under))
