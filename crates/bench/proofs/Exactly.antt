@@ -6,9 +6,9 @@ use mathlib.Core.List.{List}
 use mathlib.Core.Logic.{◌↔◌}
 use Rattle.laws.specs.Rows.{Given}
 use Rattle.laws.proofs.Rows.{exactly}
-use Rattle.bench.specs.Report.{reportRows, refusalIn, Reported}
+use Rattle.bench.specs.Report.{report_rows, refusal_in, Reported}
 use Rattle.bench.specs.declared.report.Replayed.{Replayed}
 
-pub replay-exactly : (n : ℕ) (report before after : List ℕ) (r : Replayed) → Reported report before after r
-    → refusalIn r ≡ suc n ↔ Given (suc n) (reportRows report before)
-replay-exactly n report before after r e = exactly refusalIn Replayed.Refused _ r (reportRows report before) (λ n. refl) refl e.answer n
+pub replay_exactly : (n : ℕ) (report before after : List ℕ) (r : Replayed) → Reported report before after r
+    → refusal_in r ≡ suc n ↔ Given (suc n) (report_rows report before)
+replay_exactly n report before after r e = exactly refusal_in Replayed.Refused _ r (report_rows report before) (λ n. refl) refl e.answer n

@@ -7,75 +7,75 @@ use native.Mathlib.Omega.{arith}
 use lib.Dec.{eqb}
 use lib.ListN.{length, drop, length-append}
 use Rattle.laws.specs.Octets.{AllOctets}
-use Rattle.laws.proofs.Octets.{octets-dropped}
+use Rattle.laws.proofs.Octets.{octets_dropped}
 use Rattle.laws.proofs.Pick.{either}
-use Rattle.capture.specs.Record.{recordOf}
-use Rattle.drive.specs.Answer.{refusalIn}
+use Rattle.capture.specs.Record.{record_of}
+use Rattle.drive.specs.Answer.{refusal_in}
 use Rattle.drive.specs.Run.{answers, final}
 use Rattle.drive.specs.StaysSound.{Never11Or10}
 use Rattle.parts.specs.declared.event.Event.{Event}
 use Rattle.drive.specs.declared.answer.Answer.{Answer}
-use Rattle.bench.specs.Text.{newline, decimal, field, numberedLine}
-use Rattle.bench.specs.Line.{ownerWord, line_of, ownerLine}
-use Rattle.drive.specs.Batch.{eventOf, eventsIn, eventsOf}
-use Rattle.bench.specs.Run.{benchAtRest, eventsWord, lines_from, linesOfRun, runReport}
-use Rattle.bench.proofs.Digits.{decimal-size}
-use Rattle.bench.proofs.Lines.{line-size, run-report}
-use Rattle.bench.proofs.Bench.{bench-answers}
+use Rattle.bench.specs.Text.{newline, decimal, field, numbered_line}
+use Rattle.bench.specs.Line.{owner_word, line_of, owner_line}
+use Rattle.drive.specs.Batch.{event_of, events_in, events_of}
+use Rattle.bench.specs.Run.{bench_at_rest, events_word, lines_from, lines_of_run, run_report}
+use Rattle.bench.proofs.Digits.{decimal_size}
+use Rattle.bench.proofs.Lines.{line_size, run_report_lem}
+use Rattle.bench.proofs.Bench.{bench_answers}
 
-pub field-size : (size n : ℕ) → n < 10 ^ suc size → length (field n) ≤ suc size + 1
-field-size size n h = omega (arith, length-append (decimal n) (0x20 ∷ []), decimal-size size n h)
+pub field_size : (size n : ℕ) → n < 10 ^ suc size → length (field n) ≤ suc size + 1
+field_size size n h = omega (arith, length-append (decimal n) (0x20 ∷ []), decimal_size size n h)
 
-pub numbered-size : (word : List ℕ) (size n : ℕ) → n < 10 ^ suc size → length (numberedLine word n) ≤ length word + suc size + 1
-unfolding numberedLine
-numbered-size word size n h =
-    omega (arith, length-append (word ++ decimal n) (newline ∷ []), length-append word (decimal n), decimal-size size n h)
+pub numbered_size : (word : List ℕ) (size n : ℕ) → n < 10 ^ suc size → length (numbered_line word n) ≤ length word + suc size + 1
+unfolding numbered_line
+numbered_size word size n h =
+    omega (arith, length-append (word ++ decimal n) (newline ∷ []), length-append word (decimal n), decimal_size size n h)
 
-pub port-size : (octets : List ℕ) → AllOctets octets → length (field (eventOf octets).port) ≤ 4
-unfolding eventOf recordOf
-port-size octets all = field-size 2 _ (omega (arith, all 2))
+pub port_size : (octets : List ℕ) → AllOctets octets → length (field (event_of octets).port) ≤ 4
+unfolding event_of record_of
+port_size octets all = field_size 2 _ (omega (arith, all 2))
 
-pub owner-size : (owner : ℕ) → length (ownerLine owner) ≤ 11
-unfolding ownerLine
-owner-size owner =
-    let Fits : List ℕ → Type 0 = λ name. length (ownerWord ++ name ++ (newline ∷ [])) ≤ 11 in
+pub owner_size : (owner : ℕ) → length (owner_line owner) ≤ 11
+unfolding owner_line
+owner_size owner =
+    let Fits : List ℕ → Type 0 = λ name. length (owner_word ++ name ++ (newline ∷ [])) ≤ 11 in
     either Fits (eqb owner 0) (omega arith) (either Fits (eqb owner 1) (omega arith) (omega arith))
 
-lines-size : (count number : ℕ) (octets : List ℕ) (told : List Answer) → AllOctets octets → Never11Or10 told → number + count ≤ 10000
-    → length (lines_from number (eventsIn count octets) told) ≤ 14 * count
-unfolding lines_from eventsIn
-lines-size zero number octets told all never h = omega arith
-lines-size (suc count) number octets [] all never h = omega arith
-lines-size (suc count) number octets (answer ∷ told) all never h =
-    let port = (eventOf octets).port in
-    let later = lines-size count (number + 1) (drop 8 octets) told (octets-dropped 8 octets all) never.1 (omega arith) in
+lines_size : (count number : ℕ) (octets : List ℕ) (told : List Answer) → AllOctets octets → Never11Or10 told → number + count ≤ 10000
+    → length (lines_from number (events_in count octets) told) ≤ 14 * count
+unfolding lines_from events_in
+lines_size zero number octets told all never h = omega arith
+lines_size (suc count) number octets [] all never h = omega arith
+lines_size (suc count) number octets (answer ∷ told) all never h =
+    let port = (event_of octets).port in
+    let later = lines_size count (number + 1) (drop 8 octets) told (octets_dropped 8 octets all) never.1 (omega arith) in
     omega (
       arith,
-      length-append (line_of number port answer) (lines_from (number + 1) (eventsIn count (drop 8 octets)) told),
-      line-size number port answer,
-      field-size 3 number (omega arith),
-      port-size octets all,
-      field-size 0 (refusalIn answer) (omega (arith, never.0)),
+      length-append (line_of number port answer) (lines_from (number + 1) (events_in count (drop 8 octets)) told),
+      line_size number port answer,
+      field_size 3 number (omega arith),
+      port_size octets all,
+      field_size 0 (refusal_in answer) (omega (arith, never.0)),
       later,
     )
 
-rests : (events : List Event) → Never11Or10 (answers benchAtRest events)
+rests : (events : List Event) → Never11Or10 (answers bench_at_rest events)
 unfolding final
-rests events = bench-answers [] events
+rests events = bench_answers [] events
 
-pub run-size : (records : List ℕ) → AllOctets records → length records ≤ 65528 → length (runReport records) ≤ 163850
-unfolding linesOfRun
-run-size records all h =
+pub run_size : (records : List ℕ) → AllOctets records → length records ≤ 65528 → length (run_report records) ≤ 163850
+unfolding lines_of_run
+run_size records all h =
     let count = length records / 8 in
-    let events = eventsOf records in
-    let lines = lines_from 1 events (answers benchAtRest events) in
-    let owner = (final benchAtRest events).drive.holding.owner in
+    let events = events_of records in
+    let lines = lines_from 1 events (answers bench_at_rest events) in
+    let owner = (final bench_at_rest events).drive.holding.owner in
     omega (
       arith,
-      ap length (run-report records),
-      length-append (numberedLine eventsWord count) (linesOfRun 1 benchAtRest events),
-      length-append lines (ownerLine owner),
-      numbered-size eventsWord 3 count (omega arith),
-      lines-size count 1 records (answers benchAtRest events) all (rests events) (omega arith),
-      owner-size owner,
+      ap length (run_report_lem records),
+      length-append (numbered_line events_word count) (lines_of_run 1 bench_at_rest events),
+      length-append lines (owner_line owner),
+      numbered_size events_word 3 count (omega arith),
+      lines_size count 1 records (answers bench_at_rest events) all (rests events) (omega arith),
+      owner_size owner,
     )

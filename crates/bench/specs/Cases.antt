@@ -1,13 +1,13 @@
 -- The three events that document 01 writes out, and exactly the report that it gives for them; and the reports of two parts of them.
 use Rattle.std.specs.Prelude.{ℕ, ◌≡◌, List, [], ◌∷◌, ◌++◌}
-use Rattle.capture.specs.Cases.{threeEvents, itsTrailer}
-use Rattle.bench.specs.Report.{badArguments, reportOf, partReportOf}
+use Rattle.capture.specs.Cases.{three_events, its_trailer}
+use Rattle.bench.specs.Report.{bad_arguments, report_of, part_report_of}
 use Rattle.bench.specs.declared.report.Wanted.TheVariants.{All}
 use Rattle.numbers.specs.Number.{number_in}
 
 -- "`events 3`, `1 0 0 --`, `2 1 6 --`, `3 0 0 --`, `owner none`, a line each"
-abbrev pub itsReport : List ℕ
-itsReport =
+abbrev pub its_report : List ℕ
+its_report =
     0x65 ∷ 0x76 ∷ 0x65 ∷ 0x6E ∷ 0x74 ∷ 0x73 ∷ 0x20 ∷ 0x33 ∷ 0x0A
     ∷ 0x31 ∷ 0x20 ∷ 0x30 ∷ 0x20 ∷ 0x30 ∷ 0x20 ∷ 0x2D ∷ 0x2D ∷ 0x0A
     ∷ 0x32 ∷ 0x20 ∷ 0x31 ∷ 0x20 ∷ 0x36 ∷ 0x20 ∷ 0x2D ∷ 0x2D ∷ 0x0A
@@ -20,8 +20,8 @@ abbrev pub refused12 : List ℕ
 refused12 = 0x72 ∷ 0x65 ∷ 0x66 ∷ 0x75 ∷ 0x73 ∷ 0x65 ∷ 0x64 ∷ 0x20 ∷ 0x31 ∷ 0x32 ∷ 0x0A ∷ []
 
 -- The same capture stopped after two events: `ran 2`, `1 0 0 -- 0`, `2 1 6 -- 5`, `owner 0`, `next 2`, a line each; and continued there.
-abbrev pub itsFirstPart : List ℕ
-itsFirstPart =
+abbrev pub its_first_part : List ℕ
+its_first_part =
     0x72 ∷ 0x61 ∷ 0x6E ∷ 0x20 ∷ 0x32 ∷ 0x0A
     ∷ 0x31 ∷ 0x20 ∷ 0x30 ∷ 0x20 ∷ 0x30 ∷ 0x20 ∷ 0x2D ∷ 0x2D ∷ 0x20 ∷ 0x30 ∷ 0x0A
     ∷ 0x32 ∷ 0x20 ∷ 0x31 ∷ 0x20 ∷ 0x36 ∷ 0x20 ∷ 0x2D ∷ 0x2D ∷ 0x20 ∷ 0x35 ∷ 0x0A
@@ -30,8 +30,8 @@ itsFirstPart =
     ∷ []
 
 -- `ran 1`, `3 0 0 -- 4`, `owner none`, `end`.
-abbrev pub itsSecondPart : List ℕ
-itsSecondPart =
+abbrev pub its_second_part : List ℕ
+its_second_part =
     0x72 ∷ 0x61 ∷ 0x6E ∷ 0x20 ∷ 0x31 ∷ 0x0A
     ∷ 0x33 ∷ 0x20 ∷ 0x30 ∷ 0x20 ∷ 0x30 ∷ 0x20 ∷ 0x2D ∷ 0x2D ∷ 0x20 ∷ 0x34 ∷ 0x0A
     ∷ 0x6F ∷ 0x77 ∷ 0x6E ∷ 0x65 ∷ 0x72 ∷ 0x20 ∷ 0x6E ∷ 0x6F ∷ 0x6E ∷ 0x65 ∷ 0x0A
@@ -39,10 +39,10 @@ itsSecondPart =
     ∷ []
 
 pub record ReplayCases : Type 0 where
-  pub three : reportOf All (threeEvents ++ itsTrailer) ≡ itsReport
+  pub three : report_of All (three_events ++ its_trailer) ≡ its_report
   -- No octets at all are a "capture under 8 octets".
-  pub empty : reportOf All [] ≡ refused12
-  pub stopped : partReportOf (number_in (0x30 ∷ [])) (number_in (0x32 ∷ [])) (threeEvents ++ itsTrailer) ≡ itsFirstPart
-  pub continued : partReportOf (number_in (0x32 ∷ [])) (number_in (0x39 ∷ [])) (threeEvents ++ itsTrailer) ≡ itsSecondPart
+  pub empty : report_of All [] ≡ refused12
+  pub stopped : part_report_of (number_in (0x30 ∷ [])) (number_in (0x32 ∷ [])) (three_events ++ its_trailer) ≡ its_first_part
+  pub continued : part_report_of (number_in (0x32 ∷ [])) (number_in (0x39 ∷ [])) (three_events ++ its_trailer) ≡ its_second_part
   -- An argument that is no number.
-  pub unclear : partReportOf (number_in []) (number_in (0x32 ∷ [])) (threeEvents ++ itsTrailer) ≡ badArguments
+  pub unclear : part_report_of (number_in []) (number_in (0x32 ∷ [])) (three_events ++ its_trailer) ≡ bad_arguments

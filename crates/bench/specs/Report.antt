@@ -1,73 +1,73 @@
 -- The report of a capture, or of a part of it, and the promises of `replay` and `replay_part`.
 use Rattle.std.specs.Prelude.{ℕ, ◌≡◌, List, [], ◌∷◌, ltb, length}
 use Rattle.laws.specs.Pick.{pick}
-use Rattle.laws.specs.Rows.{Row, first, ◌when◌, unlessRefused, Paper, refusedWith, tells, refusedOr}
-use Rattle.laws.specs.Lists.{writtenOver}
-use Rattle.capture.specs.Capture.{captureRefusal, recordsOf}
+use Rattle.laws.specs.Rows.{Row, first, ◌when◌, unless_refused, Paper, refused_with, tells, refused_or}
+use Rattle.laws.specs.Lists.{written_over}
+use Rattle.capture.specs.Capture.{capture_refusal, records_of}
 use Rattle.numbers.specs.declared.number.Number.{Number}
 use Rattle.numbers.specs.declared.number.Number.TheVariants.{Is, Not}
-use Rattle.bench.specs.Text.{numberedLine}
-use Rattle.bench.specs.Run.{runReport}
-use Rattle.bench.specs.Part.{partReport}
+use Rattle.bench.specs.Text.{numbered_line}
+use Rattle.bench.specs.Run.{run_report}
+use Rattle.bench.specs.Part.{part_report}
 use Rattle.bench.specs.declared.report.Wanted.{Wanted}
 use Rattle.bench.specs.declared.report.Wanted.TheVariants.{All, Stretch}
 use Rattle.bench.specs.declared.report.Replayed.{Replayed}
 use Rattle.bench.specs.declared.report.Replayed.TheVariants.{Text, Refused}
 
 -- "`too long`", and a newline.
-abbrev pub tooLong : List ℕ
-tooLong = 0x74 ∷ 0x6F ∷ 0x6F ∷ 0x20 ∷ 0x6C ∷ 0x6F ∷ 0x6E ∷ 0x67 ∷ 0x0A ∷ []
+abbrev pub too_long : List ℕ
+too_long = 0x74 ∷ 0x6F ∷ 0x6F ∷ 0x20 ∷ 0x6C ∷ 0x6F ∷ 0x6E ∷ 0x67 ∷ 0x0A ∷ []
 
 -- "refused "
-abbrev pub refusedWord : List ℕ
-refusedWord = 0x72 ∷ 0x65 ∷ 0x66 ∷ 0x75 ∷ 0x73 ∷ 0x65 ∷ 0x64 ∷ 0x20 ∷ []
+abbrev pub refused_word : List ℕ
+refused_word = 0x72 ∷ 0x65 ∷ 0x66 ∷ 0x75 ∷ 0x73 ∷ 0x65 ∷ 0x64 ∷ 0x20 ∷ []
 
 -- `bad arguments`, and a newline.
-abbrev pub badArguments : List ℕ
-badArguments = 0x62 ∷ 0x61 ∷ 0x64 ∷ 0x20 ∷ 0x61 ∷ 0x72 ∷ 0x67 ∷ 0x75 ∷ 0x6D ∷ 0x65 ∷ 0x6E ∷ 0x74 ∷ 0x73 ∷ 0x0A ∷ []
+abbrev pub bad_arguments : List ℕ
+bad_arguments = 0x62 ∷ 0x61 ∷ 0x64 ∷ 0x20 ∷ 0x61 ∷ 0x72 ∷ 0x67 ∷ 0x75 ∷ 0x6D ∷ 0x65 ∷ 0x6E ∷ 0x74 ∷ 0x73 ∷ 0x0A ∷ []
 
 -- All of the records, or those from one on and at most so many.
 abbrev pub run_of : Wanted → List ℕ → List ℕ
-run_of All records = runReport records
-run_of (Stretch from limit) records = partReport from limit records
+run_of All records = run_report records
+run_of (Stretch from limit) records = part_report from limit records
 
 -- "writes only `refused N` for a capture refused with N"
-unfoldable pub captureReport : Wanted → List ℕ → List ℕ
-captureReport wanted octets =
-    unlessRefused (captureRefusal octets) (numberedLine refusedWord (captureRefusal octets)) (run_of wanted (recordsOf octets))
+unfoldable pub capture_report : Wanted → List ℕ → List ℕ
+capture_report wanted octets =
+    unless_refused (capture_refusal octets) (numbered_line refused_word (capture_refusal octets)) (run_of wanted (records_of octets))
 
 -- "only `too long` for more than 65,536 octets": whatever they are.
-unfoldable pub reportOf : Wanted → List ℕ → List ℕ
-reportOf wanted octets = pick (ltb 65536 (length octets)) tooLong (captureReport wanted octets)
+unfoldable pub report_of : Wanted → List ℕ → List ℕ
+report_of wanted octets = pick (ltb 65536 (length octets)) too_long (capture_report wanted octets)
 
 -- M-103, of the arguments FROM and LIMIT: where they are not two numbers, that is said and nothing else, before the capture is looked at.
-abbrev pub partReportOf : Number → Number → List ℕ → List ℕ
-partReportOf (Is from) (Is limit) octets = reportOf (Stretch from limit) octets
-partReportOf (Is from) Not octets = badArguments
-partReportOf Not limit octets = badArguments
+abbrev pub part_report_of : Number → Number → List ℕ → List ℕ
+part_report_of (Is from) (Is limit) octets = report_of (Stretch from limit) octets
+part_report_of (Is from) Not octets = bad_arguments
+part_report_of Not limit octets = bad_arguments
 
 -- 10: "a lent slice too short"
-abbrev pub reportRows : List ℕ → List ℕ → List Row
-reportRows report slice = 10 when ltb (length slice) (length report) ∷ []
+abbrev pub report_rows : List ℕ → List ℕ → List Row
+report_rows report slice = 10 when ltb (length slice) (length report) ∷ []
 
-abbrev pub reportRefusal : List ℕ → List ℕ → ℕ
-reportRefusal report slice = first (reportRows report slice)
+abbrev pub report_refusal : List ℕ → List ℕ → ℕ
+report_refusal report slice = first (report_rows report slice)
 
 -- The answer on paper: the number of the refusal, or how many octets the report has.
 abbrev pub paper : Replayed → Paper ℕ
 paper (Text size) = tells size
-paper (Refused n) = refusedWith n
+paper (Refused n) = refused_with n
 
-abbrev pub replayedAs : List ℕ → List ℕ → Replayed
-replayedAs report slice = unlessRefused (reportRefusal report slice) (Refused (reportRefusal report slice)) (Text (length report))
+abbrev pub replayed_as : List ℕ → List ℕ → Replayed
+replayed_as report slice = unless_refused (report_refusal report slice) (Refused (report_refusal report slice)) (Text (length report))
 
 -- The promise of a call that puts a report at the front of a slice: the answer, and all octets of the slice.
 pub record Reported (report before after : List ℕ) (r : Replayed) : Type 0 where
-  pub answer : r ≡ replayedAs report before
-  pub on-paper : paper r ≡ refusedOr (reportRows report before) (length report)
-  pub slice : after ≡ unlessRefused (reportRefusal report before) before (writtenOver before report)
+  pub answer : r ≡ replayed_as report before
+  pub on_paper : paper r ≡ refused_or (report_rows report before) (length report)
+  pub slice : after ≡ unless_refused (report_refusal report before) before (written_over before report)
 
 -- The number that an answer refuses with, 0 where it refuses nothing.
-abbrev pub refusalIn : Replayed → ℕ
-refusalIn (Text size) = 0
-refusalIn (Refused n) = n
+abbrev pub refusal_in : Replayed → ℕ
+refusal_in (Text size) = 0
+refusal_in (Refused n) = n

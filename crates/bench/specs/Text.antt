@@ -1,7 +1,7 @@
 -- Text as octets: a number in decimal, two hexadecimal digits, and text put into a lent slice.
 use Rattle.std.specs.Prelude.{ℕ, zero, suc, ◌+◌, ◌-◌, ◌/◌, ◌%◌, ◌≤◌, ◌≡◌, List, [], ◌∷◌, ◌++◌, ltb, length}
 use Rattle.laws.specs.Pick.{pick}
-use Rattle.laws.specs.Lists.{writtenAt}
+use Rattle.laws.specs.Lists.{written_at}
 
 abbrev pub space : ℕ
 space = 0x20
@@ -15,30 +15,30 @@ digit n = 0x30 + n
 
 -- A number in decimal: one digit below 10, else the digits of its tenth and then the remainder. `steps` bounds the digits before
 -- the last; a number never has more of them than it is large.
-unfoldable pub decimalWithin : ℕ → ℕ → List ℕ
-decimalWithin zero n = digit n ∷ []
-decimalWithin (suc steps) n = pick (ltb n 10) (digit n ∷ []) (decimalWithin steps (n / 10) ++ (digit (n % 10) ∷ []))
+unfoldable pub decimal_within : ℕ → ℕ → List ℕ
+decimal_within zero n = digit n ∷ []
+decimal_within (suc steps) n = pick (ltb n 10) (digit n ∷ []) (decimal_within steps (n / 10) ++ (digit (n % 10) ∷ []))
 
 unfoldable pub decimal : ℕ → List ℕ
-decimal n = decimalWithin n n
+decimal n = decimal_within n n
 
 -- A number and a space.
 abbrev pub field : ℕ → List ℕ
 field n = decimal n ++ (space ∷ [])
 
 -- A line of a word and a number.
-unfoldable pub numberedLine : List ℕ → ℕ → List ℕ
-numberedLine word n = word ++ decimal n ++ (newline ∷ [])
+unfoldable pub numbered_line : List ℕ → ℕ → List ℕ
+numbered_line word n = word ++ decimal n ++ (newline ∷ [])
 
 -- A hexadecimal digit, 0 to 9 and A to F.
-unfoldable pub hexDigit : ℕ → ℕ
-hexDigit n = pick (ltb n 10) (digit n) (0x41 + (n - 10))
+unfoldable pub hex_digit : ℕ → ℕ
+hex_digit n = pick (ltb n 10) (digit n) (0x41 + (n - 10))
 
-abbrev pub twoHexDigits : ℕ → List ℕ
-twoHexDigits octet = hexDigit (octet / 16) ∷ hexDigit (octet % 16) ∷ []
+abbrev pub two_hex_digits : ℕ → List ℕ
+two_hex_digits octet = hex_digit (octet / 16) ∷ hex_digit (octet % 16) ∷ []
 
 -- What a call that puts text into a slice promises: the text is there, the rest as it was, and the answer is the index behind it.
 pub record Put (before : List ℕ) (at : ℕ) (part after : List ℕ) (r : ℕ) : Type 0 where
   pub room : at + length part ≤ length before
-  pub slice : after ≡ writtenAt before at part
+  pub slice : after ≡ written_at before at part
   pub behind : r ≡ at + length part

@@ -1,9 +1,9 @@
 // The lines of a report: one for each event, and the owner's.
 ghost use Rattle.std.specs.Prelude.{◌+◌, ◌≤◌, ◌≡◌, length};
-ghost use Rattle.drive.specs.Answer.{refusalIn, paper};
+ghost use Rattle.drive.specs.Answer.{refusal_in, paper};
 ghost use Rattle.bench.specs.Text.{Put};
-ghost use Rattle.bench.specs.Line.{statusText, eventFields, line_of, ownerLine};
-ghost use Rattle.bench.specs.Told.{statusToldBy, toldLine};
+ghost use Rattle.bench.specs.Line.{status_text, event_fields, line_of, owner_line};
+ghost use Rattle.bench.specs.Told.{status_told_by, told_line};
 
 use crate::text;
 use drive::Answer;
@@ -31,8 +31,8 @@ pub(crate) fn put_told_line(
     status: u16,
     gap: u16,
 ) -> usize
-    requires { at + length (toldLine number port refusal status gap) ≤ length text.old }
-    ensures { Put text.old at (toldLine number port refusal status gap) text.new result }
+    requires { at + length (told_line number port refusal status gap) ≤ length text.old }
+    ensures { Put text.old at (told_line number port refusal status gap) text.new result }
 {
     let told = status_told_by(status);
     let space_at = put_event(text, at, number, port, refusal as usize, &told);
@@ -49,8 +49,8 @@ fn put_event(
     refusal: usize,
     status: &[u8],
 ) -> usize
-    requires { at + length (eventFields number port refusal status.now) ≤ length text.old }
-    ensures { Put text.old at (eventFields number port refusal status.now) text.new result }
+    requires { at + length (event_fields number port refusal status.now) ≤ length text.old }
+    ensures { Put text.old at (event_fields number port refusal status.now) text.new result }
 {
     let port_at = text::put_field(text, at, number);
     let refusal_at = text::put_field(text, port_at, port as usize);
@@ -59,8 +59,8 @@ fn put_event(
 }
 
 pub(crate) fn put_owner(text: &mut [u8], at: usize, owner: u16) -> usize
-    requires { at + length (ownerLine owner) ≤ length text.old }
-    ensures { Put text.old at (ownerLine owner) text.new result }
+    requires { at + length (owner_line owner) ≤ length text.old }
+    ensures { Put text.old at (owner_line owner) text.new result }
 {
     match owner {
         0 => text::put(text, at, b"owner 0\n"),
@@ -71,7 +71,7 @@ pub(crate) fn put_owner(text: &mut [u8], at: usize, owner: u16) -> usize
 
 // The number of a refusal, 0 for an answer that is none.
 fn refusal_of(answer: Answer) -> u8
-    ensures { result ≡ refusalIn answer }
+    ensures { result ≡ refusal_in answer }
 {
     match answer {
         Answer::Refused(n) => n,
@@ -86,7 +86,7 @@ fn refusal_of(answer: Answer) -> u8
 
 // The status of an answer in two digits, or two dashes where it has none. The last word and a response have status 0.
 fn status_text(answer: Answer) -> [u8; 2]
-    ensures { result ≡ statusText (paper answer).status }
+    ensures { result ≡ status_text (paper answer).status }
 {
     match answer {
         Answer::Refused(_) => *b"--",
@@ -100,7 +100,7 @@ fn status_text(answer: Answer) -> [u8; 2]
 }
 
 fn status_told_by(word: u16) -> [u8; 2]
-    ensures { result ≡ statusToldBy word }
+    ensures { result ≡ status_told_by word }
 {
     if word == ABSENT {
         return *b"--";

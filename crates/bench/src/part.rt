@@ -1,8 +1,8 @@
 // A part of a capture's records over the bench drive, by the drive's own call.
 ghost use Rattle.std.specs.Prelude.{◌+◌, ◌*◌, ◌%◌, ◌^◌, ◌<◌, ◌≤◌, ◌≡◌, length, drop};
 ghost use Rattle.bench.specs.Text.{Put};
-ghost use Rattle.bench.specs.Part.{nextLine, partReport};
-ghost use Rattle.bench.specs.Told.{toldLines, toldReport, There, Ready, Made};
+ghost use Rattle.bench.specs.Part.{next_line, part_report};
+ghost use Rattle.bench.specs.Told.{told_lines, told_report, There, Ready, Made};
 
 use crate::{line, run, text};
 use events::Part;
@@ -23,8 +23,8 @@ const OWNER: usize = 8;
 const PORT: usize = 2;
 
 pub(crate) fn put_part(text: &mut [u8], records: &[u8], from: u32, limit: u32) -> usize
-    requires { (length (partReport from limit records.now) ≤ length text.old) × (length records.now ≤ 65528) × (length records.now % 8 ≡ 0) }
-    ensures { Put text.old 0 (partReport from limit records.now) text.new result }
+    requires { (length (part_report from limit records.now) ≤ length text.old) × (length records.now ≤ 65528) × (length records.now % 8 ≡ 0) }
+    ensures { Put text.old 0 (part_report from limit records.now) text.new result }
 {
     let mut state = [0u16; STATE_WORDS];
     let mut sectors = [0u16; 48];
@@ -88,8 +88,8 @@ fn put_told(
     gaps: &[u16],
     owner: u16,
 ) -> usize
-    requires { There from count records.now answers.now gaps.now × (from + count < 2 ^ 64) × (length (toldReport from count owner records.now answers.now gaps.now) ≤ length text.old) }
-    ensures { Put text.old 0 (toldReport from count owner records.now answers.now gaps.now) text.new result }
+    requires { There from count records.now answers.now gaps.now × (from + count < 2 ^ 64) × (length (told_report from count owner records.now answers.now gaps.now) ≤ length text.old) }
+    ensures { Put text.old 0 (told_report from count owner records.now answers.now gaps.now) text.new result }
 {
     let at = text::put_numbered(text, 0, b"ran ", count);
     let owner_at = put_lines(text, at, records, from, count, answers, gaps);
@@ -111,8 +111,8 @@ fn put_lines(
     answers: &[u16],
     gaps: &[u16],
 ) -> usize
-    requires { There from count records.now answers.now gaps.now × (at + length (toldLines (from + 1) count (drop (8 * from) records.now) answers.now gaps.now) ≤ length text.old) }
-    ensures { Put text.old at (toldLines (from + 1) count (drop (8 * from) records.now) answers.now gaps.now) text.new result }
+    requires { There from count records.now answers.now gaps.now × (at + length (told_lines (from + 1) count (drop (8 * from) records.now) answers.now gaps.now) ≤ length text.old) }
+    ensures { Put text.old at (told_lines (from + 1) count (drop (8 * from) records.now) answers.now gaps.now) text.new result }
 {
     let mut end = at;
     let mut i = 0;
@@ -128,8 +128,8 @@ fn put_lines(
 }
 
 fn put_next(text: &mut [u8], at: usize, record_count: usize, next: usize) -> usize
-    requires { at + length (nextLine record_count next) ≤ length text.old }
-    ensures { Put text.old at (nextLine record_count next) text.new result }
+    requires { at + length (next_line record_count next) ≤ length text.old }
+    ensures { Put text.old at (next_line record_count next) text.new result }
 {
     if next < record_count {
         return text::put_numbered(text, at, b"next ", next);

@@ -3,7 +3,7 @@ ghost use Rattle.std.specs.Prelude.{◌%◌, ◌≤◌, ◌≡◌, length};
 ghost use Rattle.numbers.specs.Number.{number_in};
 ghost use Rattle.bench.specs.Text.{Put};
 ghost use Rattle.bench.specs.declared.report.Wanted.TheVariants.{All};
-ghost use Rattle.bench.specs.Report.{run_of, reportOf, partReportOf, Reported};
+ghost use Rattle.bench.specs.Report.{run_of, report_of, part_report_of, Reported};
 
 use crate::{part, run, text};
 use capture::CaptureRead;
@@ -32,7 +32,7 @@ pub const LONGEST_REPORT: usize = 163_850;
 // The report at the front of `text`, the rest of it as it was. 10 where `text` cannot hold it. The report is made in a buffer
 // of its own first: how long it is shows at its end, and a refusal changes nothing.
 pub fn replay(octets: &[u8], text: &mut [u8]) -> Replayed
-    ensures { Reported (reportOf All octets.now) text.old text.new result }
+    ensures { Reported (report_of All octets.now) text.old text.new result }
 {
     let mut report = [0u8; LONGEST_REPORT];
     let size = put_report(&mut report, octets, Wanted::All);
@@ -41,7 +41,7 @@ pub fn replay(octets: &[u8], text: &mut [u8]) -> Replayed
 
 // The same of a part: `from` and `limit` are the digits of its arguments.
 pub fn replay_part(from: &[u8], limit: &[u8], octets: &[u8], text: &mut [u8]) -> Replayed
-    ensures { Reported (partReportOf (number_in from.now) (number_in limit.now) octets.now) text.old text.new result }
+    ensures { Reported (part_report_of (number_in from.now) (number_in limit.now) octets.now) text.old text.new result }
 {
     let mut report = [0u8; LONGEST_REPORT];
     let size = put_part_report(&mut report, from, limit, octets);
@@ -60,7 +60,7 @@ fn hand_over(report: &[u8], text: &mut [u8]) -> Replayed
 
 fn put_part_report(text: &mut [u8], from: &[u8], limit: &[u8], octets: &[u8]) -> usize
     requires { 163850 ≤ length text.old }
-    ensures { Put text.old 0 (partReportOf (number_in from.now) (number_in limit.now) octets.now) text.new result }
+    ensures { Put text.old 0 (part_report_of (number_in from.now) (number_in limit.now) octets.now) text.new result }
 {
     match numbers::number_of(from) {
         Number::Is(first) => match numbers::number_of(limit) {
@@ -73,7 +73,7 @@ fn put_part_report(text: &mut [u8], from: &[u8], limit: &[u8], octets: &[u8]) ->
 
 fn put_report(text: &mut [u8], octets: &[u8], wanted: Wanted) -> usize
     requires { 163850 ≤ length text.old }
-    ensures { Put text.old 0 (reportOf wanted octets.now) text.new result }
+    ensures { Put text.old 0 (report_of wanted octets.now) text.new result }
 {
     if LONGEST_CAPTURE < octets.len() {
         return text::put(text, 0, b"too long\n");

@@ -2,8 +2,8 @@
 ghost use Rattle.std.specs.Prelude.{◌+◌, ◌/◌, ◌≤◌, ◌≡◌, length, drop};
 ghost use Rattle.drive.specs.Run.{machine};
 ghost use Rattle.bench.specs.Text.{Put};
-ghost use Rattle.drive.specs.Batch.{eventOf, eventsOf};
-ghost use Rattle.bench.specs.Run.{linesOfRun, runReport};
+ghost use Rattle.drive.specs.Batch.{event_of, events_of};
+ghost use Rattle.bench.specs.Run.{lines_of_run, run_report};
 
 use crate::{line, text};
 use capture::RecordRead;
@@ -28,8 +28,8 @@ pub(crate) const RECORD_LENGTH: usize = 8;
 
 // The number of events, a line for each, and the owner after the last.
 pub(crate) fn put_run(text: &mut [u8], records: &[u8]) -> usize
-    requires { length (runReport records.now) ≤ length text.old }
-    ensures { Put text.old 0 (runReport records.now) text.new result }
+    requires { length (run_report records.now) ≤ length text.old }
+    ensures { Put text.old 0 (run_report records.now) text.new result }
 {
     let mut sectors = [0u16; 48];
     let mut staging = [0u16; 4];
@@ -52,8 +52,8 @@ fn put_lines(
     sectors: &mut [u16],
     staging: &mut [u16],
 ) -> usize
-    requires { at + length (linesOfRun 1 (machine bench sectors.old staging.old) (eventsOf records.now)) ≤ length text.old }
-    ensures { Put text.old at (linesOfRun 1 (machine bench sectors.old staging.old) (eventsOf records.now)) text.new result }
+    requires { at + length (lines_of_run 1 (machine bench sectors.old staging.old) (events_of records.now)) ≤ length text.old }
+    ensures { Put text.old at (lines_of_run 1 (machine bench sectors.old staging.old) (events_of records.now)) text.new result }
 {
     let count = records.len() / RECORD_LENGTH;
     let mut drive = bench;
@@ -75,7 +75,7 @@ fn put_lines(
 // The event of the record that starts at an index.
 fn event_at(records: &[u8], at: usize) -> Event
     requires { at + 8 ≤ length records.now }
-    ensures { result ≡ eventOf (drop at records.now) }
+    ensures { result ≡ event_of (drop at records.now) }
 {
     match capture::decode_record(&records[at..]) {
         RecordRead::Decoded(r) => Event {

@@ -1,6 +1,6 @@
 // Text put into a lent slice: each call writes from the index `at` on and answers the index behind what it wrote.
 ghost use Rattle.std.specs.Prelude.{◌+◌, ◌<◌, ◌≤◌, [], ◌∷◌, ◌≡◌, length};
-ghost use Rattle.bench.specs.Text.{digit, decimal, field, numberedLine, hexDigit, Put};
+ghost use Rattle.bench.specs.Text.{digit, decimal, field, numbered_line, hex_digit, Put};
 
 pub(crate) const SPACE: u8 = b' ';
 
@@ -54,8 +54,8 @@ pub(crate) fn put_field(text: &mut [u8], at: usize, n: usize) -> usize
 
 // A line of its own: a word and a number.
 pub(crate) fn put_numbered(text: &mut [u8], at: usize, word: &[u8], n: usize) -> usize
-    requires { at + length (numberedLine word.now n) ≤ length text.old }
-    ensures { Put text.old at (numberedLine word.now n) text.new result }
+    requires { at + length (numbered_line word.now n) ≤ length text.old }
+    ensures { Put text.old at (numbered_line word.now n) text.new result }
 {
     let number_at = put(text, at, word);
     let end = put_decimal(text, number_at, n);
@@ -71,7 +71,7 @@ fn decimal_digit(n: usize) -> u8
 
 pub(crate) fn hex_digit(n: u8) -> u8
     requires { n < 16 }
-    ensures { result ≡ hexDigit n }
+    ensures { result ≡ hex_digit n }
 {
     if n < 10 {
         DIGIT_0 + n

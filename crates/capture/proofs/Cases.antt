@@ -2,9 +2,9 @@
 -- Assumes nothing.
 use mathlib.Core.Path.{refl}
 use Rattle.laws.specs.Pick.{pick}
-use Rattle.capture.specs.Record.{recordOf}
+use Rattle.capture.specs.Record.{record_of}
 use Rattle.capture.specs.Cases.{CaptureCases}
 
-pub capture-cases : CaptureCases
-unfolding pick recordOf
-capture-cases = record { encoded = refl; decoded = record { answer = refl; on-paper = refl }; second = record { answer = refl; on-paper = refl } }
+pub capture_cases_lem : CaptureCases
+unfolding pick record_of
+capture_cases_lem = record { encoded = refl; decoded = record { answer = refl; on_paper = refl }; second = record { answer = refl; on_paper = refl } }

@@ -3,7 +3,7 @@
 use Prim.Native.Nat.{ℕ}
 use mathlib.Core.Path.{◌≡◌}
 use mathlib.Core.List.{List}
-use Rattle.laws.proofs.Only.{answer-only}
+use Rattle.laws.proofs.Only.{answer_only}
 use Rattle.capture.specs.Record.{DecodedRecord, EncodedRecord}
 use Rattle.capture.specs.Capture.{DecodedCapture, NotesGiven, RecordsGiven}
 use Rattle.capture.specs.Encoding.{EncodedCapture}
@@ -13,22 +13,22 @@ use Rattle.capture.specs.declared.«record».Encoded.{Encoded}
 use Rattle.capture.specs.declared.capture.CaptureRead.{CaptureRead}
 use Rattle.capture.specs.declared.encoding.CaptureEncoded.{CaptureEncoded}
 
-pub decode-record-only : (octets : List ℕ) (r s : RecordRead) → DecodedRecord octets r → DecodedRecord octets s → r ≡ s
-decode-record-only octets r s p q = answer-only p.answer q.answer
+pub decode_record_only : (octets : List ℕ) (r s : RecordRead) → DecodedRecord octets r → DecodedRecord octets s → r ≡ s
+decode_record_only octets r s p q = answer_only p.answer q.answer
 
-pub encode-record-only : (event : Record) (before after after' : List ℕ) (r s : Encoded)
+pub encode_record_only : (event : Record) (before after after' : List ℕ) (r s : Encoded)
     → EncodedRecord event before after r → EncodedRecord event before after' s → (r ≡ s) × (after ≡ after')
-encode-record-only event before after after' r s p q = (answer-only p.answer q.answer, answer-only p.slice q.slice)
+encode_record_only event before after after' r s p q = (answer_only p.answer q.answer, answer_only p.slice q.slice)
 
-pub decode-capture-only : (octets : List ℕ) (r s : CaptureRead) → DecodedCapture octets r → DecodedCapture octets s → r ≡ s
-decode-capture-only octets r s p q = answer-only p.answer q.answer
+pub decode_capture_only : (octets : List ℕ) (r s : CaptureRead) → DecodedCapture octets r → DecodedCapture octets s → r ≡ s
+decode_capture_only octets r s p q = answer_only p.answer q.answer
 
-pub notes-only : (octets r s : List ℕ) → NotesGiven octets r → NotesGiven octets s → r ≡ s
-notes-only octets r s p q = answer-only p.notes q.notes
+pub notes_only : (octets r s : List ℕ) → NotesGiven octets r → NotesGiven octets s → r ≡ s
+notes_only octets r s p q = answer_only p.notes q.notes
 
-pub records-only : (octets r s : List ℕ) → RecordsGiven octets r → RecordsGiven octets s → r ≡ s
-records-only octets r s p q = answer-only p.records q.records
+pub records_only : (octets r s : List ℕ) → RecordsGiven octets r → RecordsGiven octets s → r ≡ s
+records_only octets r s p q = answer_only p.records q.records
 
-pub encode-capture-only : (notes records before after after' : List ℕ) (r s : CaptureEncoded)
+pub encode_capture_only : (notes records before after after' : List ℕ) (r s : CaptureEncoded)
     → EncodedCapture notes records before after r → EncodedCapture notes records before after' s → (r ≡ s) × (after ≡ after')
-encode-capture-only notes records before after after' r s p q = (answer-only p.answer q.answer, answer-only p.slice q.slice)
+encode_capture_only notes records before after after' r s p q = (answer_only p.answer q.answer, answer_only p.slice q.slice)

@@ -6,12 +6,12 @@ use mathlib.Core.List.{List, ◌++◌}
 use native.Mathlib.Nat.{zero-add}
 use lib.ListN.{length, drop, length-append}
 use lib.Seq.{take-append_seam, drop-append-add, drop-drop}
-use Rattle.laws.specs.Lists.{writtenOver, writtenAt}
+use Rattle.laws.specs.Lists.{written_over, written_at}
 
-written-first : (list part : List ℕ) → writtenAt list 0 part ≡ writtenOver list part
-written-first list part = rw zero-add
+written_first : (list part : List ℕ) → written_at list 0 part ≡ written_over list part
+written_first list part = rw zero-add
 
-written_next : (list front part : List ℕ) → writtenAt (writtenOver list front) (length front) part ≡ writtenOver list (front ++ part)
+written_next : (list front part : List ℕ) → written_at (written_over list front) (length front) part ≡ written_over list (front ++ part)
 written_next list front part =
     rw (
       take-append_seam front (drop (length front) list),
@@ -20,5 +20,5 @@ written_next list front part =
       length-append front part,
     )
 
-pub three-written : (list a b c : List ℕ) → writtenAt (writtenAt (writtenAt list 0 a) (length a) b) (length a + length b) c ≡ writtenOver list (a ++ b ++ c)
-three-written list a b c = rw (written-first list a, written_next list a b, ← (length-append a b)) (written_next list (a ++ b) c)
+pub three_written : (list a b c : List ℕ) → written_at (written_at (written_at list 0 a) (length a) b) (length a + length b) c ≡ written_over list (a ++ b ++ c)
+three_written list a b c = rw (written_first list a, written_next list a b, ← (length-append a b)) (written_next list (a ++ b) c)

@@ -9,11 +9,11 @@ use borrow.Author.Tests.{le-ltb, ltb-false, lt-leb, leb-false, eq-eqb, eqb-true,
 use lib.Dec.{eqb, ltb, leb}
 use lib.ListN.{length, take, drop, length-drop, take-append-drop}
 use lib.Seq.{length-take-le, take-add, take_at, take-append_seam, drop-append_seam}
-use Rattle.laws.specs.Lists.{writtenOver}
+use Rattle.laws.specs.Lists.{written_over}
 use Rattle.laws.specs.Octets.{AllOctets}
-use Rattle.capture.specs.Record.{recordOf, recordOctets, recordRows, DecodedRecord, EncodedRecord}
-use Rattle.capture.specs.Capture.{distance_of, firstRecord, captureRows, DecodedCapture, NotesGiven, RecordsGiven}
-use Rattle.capture.specs.Encoding.{trailerFor, captureOctets, captureLength, encodeRows, EncodedCapture}
+use Rattle.capture.specs.Record.{record_of, record_octets, record_rows, DecodedRecord, EncodedRecord}
+use Rattle.capture.specs.Capture.{distance_of, first_record, capture_rows, DecodedCapture, NotesGiven, RecordsGiven}
+use Rattle.capture.specs.Encoding.{trailer_for, capture_octets, capture_length, encode_rows, EncodedCapture}
 use Rattle.capture.specs.RoundTrip.{RecordRoundTrip, CaptureRoundTrip}
 use Rattle.capture.specs.declared.«record».Record.{Record}
 use Rattle.capture.specs.declared.«record».RecordRead.{RecordRead}
@@ -21,119 +21,119 @@ use Rattle.capture.specs.declared.«record».Encoded.{Encoded}
 use Rattle.capture.specs.declared.capture.CaptureRead.{CaptureRead}
 use Rattle.capture.specs.declared.encoding.CaptureEncoded.{CaptureEncoded}
 use Rattle.laws.proofs.Tests.{or_l, or_r}
-use Rattle.laws.proofs.Rows.{none-given, accepted}
+use Rattle.laws.proofs.Rows.{none_given, accepted}
 use Rattle.capture.proofs.Decoding.{Whole, whole, whole_parts}
-use Rattle.capture.proofs.Promised.{record-decoded, capture-decoded}
-use Rattle.capture.proofs.RecordOctets.{octets-of-record, record-of-octets}
-use Rattle.capture.proofs.Trailer.{distance-held, same-trailer, length-capture, distance-of-capture, capture-has-mark}
+use Rattle.capture.proofs.Promised.{record_decoded, capture_decoded}
+use Rattle.capture.proofs.RecordOctets.{octets_of_record, record_of_octets}
+use Rattle.capture.proofs.Trailer.{distance_held, same_trailer, length_capture, distance_of_capture, capture_has_mark}
 
 -- ---- a record
 
-has-written : {event : Record} {before after : List ℕ} {answer : Encoded} → 8 ≤ length before → EncodedRecord event before after answer
-    → (answer ≡ Encoded.Written) × (after ≡ writtenOver before (recordOctets event))
-has-written {event} {before} h e =
-    let free = none-given (recordRows before) (le-ltb _ _ h, tt) in
+has_written : {event : Record} {before after : List ℕ} {answer : Encoded} → 8 ≤ length before → EncodedRecord event before after answer
+    → (answer ≡ Encoded.Written) × (after ≡ written_over before (record_octets event))
+has_written {event} {before} h e =
+    let free = none_given (record_rows before) (le-ltb _ _ h, tt) in
     (e.answer ∙ rw free, e.slice ∙ rw free)
 
-decoded-octets : (octets : List ℕ) (event : Record) → AllOctets octets → DecodedRecord octets (RecordRead.Decoded event) → recordOctets event ≡ take 8 octets
-decoded-octets octets event all d =
-    let (is, (long, end)) = accepted (recordRows octets) RecordRead.Refused (RecordRead.Decoded event) (RecordRead.Decoded (recordOf octets)) refl (λ n e. cc) d.answer in
-    let same : event ≡ recordOf octets = cc in
-    rw same (octets-of-record octets (ltb-false _ _ long) all)
+decoded_octets : (octets : List ℕ) (event : Record) → AllOctets octets → DecodedRecord octets (RecordRead.Decoded event) → record_octets event ≡ take 8 octets
+decoded_octets octets event all d =
+    let (is, (long, end)) = accepted (record_rows octets) RecordRead.Refused (RecordRead.Decoded event) (RecordRead.Decoded (record_of octets)) refl (λ n e. cc) d.answer in
+    let same : event ≡ record_of octets = cc in
+    rw same (octets_of_record octets (ltb-false _ _ long) all)
 
-encoded-record : (event : Record) (rest : List ℕ) → event.tick < 2 ^ 16 → DecodedRecord (recordOctets event ++ rest) (RecordRead.Decoded event)
-encoded-record event rest h =
-    let octets = recordOctets event ++ rest in
-    let free = none-given (recordRows octets) (le-ltb (length octets) 8 (omega arith), tt) in
-    record-decoded (rw (free, record-of-octets event rest h))
+encoded_record : (event : Record) (rest : List ℕ) → event.tick < 2 ^ 16 → DecodedRecord (record_octets event ++ rest) (RecordRead.Decoded event)
+encoded_record event rest h =
+    let octets = record_octets event ++ rest in
+    let free = none_given (record_rows octets) (le-ltb (length octets) 8 (omega arith), tt) in
+    record_decoded (rw (free, record_of_octets event rest h))
 
-pub record-round-trip : RecordRoundTrip
-record-round-trip =
+pub record_round_trip : RecordRoundTrip
+record_round_trip =
     record {
-      encode-decode = λ octets before after event answer all d h e. rw (← (decoded-octets octets event all d)) (has-written h e);
-      decode-encode = λ before after event answer small h e. let (is, slice) = has-written h e in (is, rw slice (encoded-record event (drop 8 before) small));
+      encode_decode = λ octets before after event answer all d h e. rw (← (decoded_octets octets event all d)) (has_written h e);
+      decode_encode = λ before after event answer small h e. let (is, slice) = has_written h e in (is, rw slice (encoded_record event (drop 8 before) small));
     }
 
 -- ---- a capture, taken apart and put together again
 
 module _ (octets notes records : List ℕ) (first count : ℕ) (all : AllOctets octets) (w : Whole octets first count) (n : NotesGiven octets notes) (r : RecordsGiven octets records) where
-  notes-are : notes ≡ take first octets
-  notes-are = n.notes ∙ (whole_parts w).0
+  notes_are : notes ≡ take first octets
+  notes_are = n.notes ∙ (whole_parts w).0
 
-  records-are : records ≡ take (length octets - 8 - first) (drop first octets)
-  records-are = r.records ∙ (whole_parts w).1
+  records_are : records ≡ take (length octets - 8 - first) (drop first octets)
+  records_are = r.records ∙ (whole_parts w).1
 
-  records-distance : length records ≡ distance_of octets
-  records-distance =
-      ap length records-are
+  records_distance : length records ≡ distance_of octets
+  records_distance =
+      ap length records_are
       ∙ length-take-le (length octets - 8 - first) (drop first octets) (simp length-drop (omega arith))
       ∙ omega (arith, w.within, w.starts)
 
-  same-capture : captureOctets notes records ≡ octets
-  same-capture =
+  same_capture : capture_octets notes records ≡ octets
+  same_capture =
       let size = length octets - 8 - first in
       let reach : first + size ≡ length octets - 8 = omega (arith, w.starts) in
-      let front = ap₂ ◌++◌ notes-are records-are ∙ sym (take-add first size octets) ∙ ap (λ (n : ℕ). take n octets) reach in
-      let back = ap trailerFor records-distance ∙ same-trailer octets w.long all w.marked in
+      let front = ap₂ ◌++◌ notes_are records_are ∙ sym (take-add first size octets) ∙ ap (λ (n : ℕ). take n octets) reach in
+      let back = ap trailer_for records_distance ∙ same_trailer octets w.long all w.marked in
       ap₂ ◌++◌ front back ∙ take-append-drop (length octets - 8) octets
 
-  encoded-again : (before after : List ℕ) (answer : CaptureEncoded) → length octets ≤ length before
-      → EncodedCapture notes records before after answer → (answer ≡ CaptureEncoded.Written (length octets)) × (after ≡ writtenOver before octets)
-  encoded-again before after answer h e =
-      let long : captureLength notes records ≡ length octets = sym (length-capture notes records) ∙ ap length same-capture in
-      let even : length records % 8 ≡ 0 = ap (λ (n : ℕ). n % 8) records-distance ∙ w.even in
-      let held : length records < 256 ^ 4 = rw records-distance (distance-held octets w.long all) in
+  encoded_again : (before after : List ℕ) (answer : CaptureEncoded) → length octets ≤ length before
+      → EncodedCapture notes records before after answer → (answer ≡ CaptureEncoded.Written (length octets)) × (after ≡ written_over before octets)
+  encoded_again before after answer h e =
+      let long : capture_length notes records ≡ length octets = sym (length_capture notes records) ∙ ap length same_capture in
+      let even : length records % 8 ≡ 0 = ap (λ (n : ℕ). n % 8) records_distance ∙ w.even in
+      let held : length records < 256 ^ 4 = rw records_distance (distance_held octets w.long all) in
       let fit : (not (eqb (length records % 8) 0) || leb (256 ^ 4) (length records)) ≡ false = rw (eq-eqb _ _ even, lt-leb _ _ held) in
-      let free = none-given (encodeRows notes records before) (le-ltb (length before) (captureLength notes records) (rw long h), (fit, tt)) in
-      (e.answer ∙ rw (free, long), e.slice ∙ rw (free, same-capture))
+      let free = none_given (encode_rows notes records before) (le-ltb (length before) (capture_length notes records) (rw long h), (fit, tt)) in
+      (e.answer ∙ rw (free, long), e.slice ∙ rw (free, same_capture))
 
 -- ---- a capture, put together and taken apart again
 
 module _ (notes records : List ℕ) (even : length records % 8 ≡ 0) (held : length records < 256 ^ 4) where
-  decoded-again : DecodedCapture (captureOctets notes records) (CaptureRead.Capture (length notes) (length records / 8))
-  decoded-again =
-      let octets = captureOctets notes records in
-      let long = length-capture notes records in
-      let distance = distance-of-capture notes records held in
-      let starts : firstRecord octets ≡ length notes = omega arith in
+  decoded_again : DecodedCapture (capture_octets notes records) (CaptureRead.Capture (length notes) (length records / 8))
+  decoded_again =
+      let octets = capture_octets notes records in
+      let long = length_capture notes records in
+      let distance = distance_of_capture notes records held in
+      let starts : first_record octets ≡ length notes = omega arith in
       let fit : (not (eqb (distance_of octets % 8) 0) || ltb (length octets - 8) (distance_of octets)) ≡ false =
       rw (distance, eq-eqb _ _ even) (le-ltb (length octets - 8) (length records) (omega arith)) in
-      let free = none-given (captureRows octets) (le-ltb (length octets) 8 (omega arith), (rw (capture-has-mark notes records), (fit, tt))) in
-      capture-decoded (rw (free, starts, distance))
+      let free = none_given (capture_rows octets) (le-ltb (length octets) 8 (omega arith), (rw (capture_has_mark notes records), (fit, tt))) in
+      capture_decoded (rw (free, starts, distance))
 
-  parts_again : NotesGiven (captureOctets notes records) notes × RecordsGiven (captureOctets notes records) records
+  parts_again : NotesGiven (capture_octets notes records) notes × RecordsGiven (capture_octets notes records) records
   parts_again =
-      let octets = captureOctets notes records in
-      let trailer = trailerFor (length records) in
-      let (n, r) = whole_parts (whole decoded-again) in
-      let size : length octets - 8 - length notes ≡ length records = omega (arith, length-capture notes records) in
+      let octets = capture_octets notes records in
+      let trailer = trailer_for (length records) in
+      let (n, r) = whole_parts (whole decoded_again) in
+      let size : length octets - 8 - length notes ≡ length records = omega (arith, length_capture notes records) in
       let split = append_assoc notes records trailer in (
         record { notes = sym (n ∙ rw split (take-append_seam notes (records ++ trailer))) },
         record { records = sym (r ∙ rw (size, split, drop-append_seam notes (records ++ trailer)) (take-append_seam records trailer)) },
       )
 
-taken-apart : (notes records before after : List ℕ) (size : ℕ) → EncodedCapture notes records before after (CaptureEncoded.Written size)
+taken_apart : (notes records before after : List ℕ) (size : ℕ) → EncodedCapture notes records before after (CaptureEncoded.Written size)
     → let octets = take size after in
     DecodedCapture octets (CaptureRead.Capture (length notes) (length records / 8)) × NotesGiven octets notes × RecordsGiven octets records
-taken-apart notes records before after size e =
-    let octets = captureOctets notes records in
-    let made = CaptureEncoded.Written (captureLength notes records) in
-    let (is, passed) = accepted (encodeRows notes records before) CaptureEncoded.Refused (CaptureEncoded.Written size) made refl (λ n e. cc) e.answer in
+taken_apart notes records before after size e =
+    let octets = capture_octets notes records in
+    let made = CaptureEncoded.Written (capture_length notes records) in
+    let (is, passed) = accepted (encode_rows notes records before) CaptureEncoded.Refused (CaptureEncoded.Written size) made refl (λ n e. cc) e.answer in
     let (room, (fit, end)) = passed in
-    let whole-records : not (eqb (length records % 8) 0) ≡ false = search or_l in
+    let whole_records : not (eqb (length records % 8) 0) ≡ false = search or_l in
     let within : leb (256 ^ 4) (length records) ≡ false = search or_r in
-    let even : length records % 8 ≡ 0 = eqb-true _ _ (not-false _ whole-records) in
+    let even : length records % 8 ≡ 0 = eqb-true _ _ (not-false _ whole_records) in
     let held : length records < 256 ^ 4 = leb-false _ _ within in
-    let sized : length octets ≡ size = length-capture notes records ∙ cc in
-    let slice : after ≡ writtenOver before octets = e.slice ∙ rw (none-given (encodeRows notes records before) passed) in
+    let sized : length octets ≡ size = length_capture notes records ∙ cc in
+    let slice : after ≡ written_over before octets = e.slice ∙ rw (none_given (encode_rows notes records before) passed) in
     let taken : take size after ≡ octets = rw slice (take_at octets (drop (length octets) before) size sized) in
     let parts = parts_again notes records even held in
-    rw taken (decoded-again notes records even held, parts.0, parts.1)
+    rw taken (decoded_again notes records even held, parts.0, parts.1)
 
-pub capture-round-trip : CaptureRoundTrip
-capture-round-trip =
+pub capture_round_trip : CaptureRoundTrip
+capture_round_trip =
     record {
-      encode-decode = λ octets notes records before after first count answer all d n r h e.
-          encoded-again octets notes records first count all (whole d) n r before after answer h e;
-      decode-encode = taken-apart;
+      encode_decode = λ octets notes records before after first count answer all d n r h e.
+          encoded_again octets notes records first count all (whole d) n r before after answer h e;
+      decode_encode = taken_apart;
     }

@@ -10,55 +10,55 @@ use lib.Dec.{eqb}
 use lib.ListN.{length, take, drop, length-append, length-drop, take-append-drop}
 use lib.Seq.{length-take-le, drop_at}
 use Rattle.laws.specs.Octets.{AllOctets}
-use Rattle.laws.proofs.Octets.{number-of-octets, octets-of-number}
+use Rattle.laws.proofs.Octets.{number_of_octets, octets_of_number}
 use Rattle.laws.specs.Lists.{same_list}
-use Rattle.capture.specs.Capture.{mark, trailerOf, distance_of, hasMark}
-use Rattle.capture.specs.Encoding.{trailerFor, captureOctets, captureLength}
+use Rattle.capture.specs.Capture.{mark, trailer_of, distance_of, has_mark}
+use Rattle.capture.specs.Encoding.{trailer_for, capture_octets, capture_length}
 use Rattle.laws.proofs.Tests.{and_l, and_r}
-use Rattle.laws.proofs.Runs.{run-read}
-use Rattle.laws.proofs.Octets.{octets-taken, octets-dropped}
+use Rattle.laws.proofs.Runs.{run_read}
+use Rattle.laws.proofs.Octets.{octets_taken, octets_dropped}
 
-same-octets : (xs ys : List ℕ) → same_list xs ys ≡ true → xs ≡ ys
-same-octets [] [] e = refl
-same-octets [] (y ∷ ys) e = absurd (false≢true e)
-same-octets (x ∷ xs) [] e = absurd (false≢true e)
-same-octets (x ∷ xs) (y ∷ ys) e =
-    ap₂ ◌∷◌ (eqb-true x y (and_l (eqb x y) (same_list xs ys) e)) (same-octets xs ys (and_r (eqb x y) (same_list xs ys) e))
+same_octets : (xs ys : List ℕ) → same_list xs ys ≡ true → xs ≡ ys
+same_octets [] [] e = refl
+same_octets [] (y ∷ ys) e = absurd (false≢true e)
+same_octets (x ∷ xs) [] e = absurd (false≢true e)
+same_octets (x ∷ xs) (y ∷ ys) e =
+    ap₂ ◌∷◌ (eqb-true x y (and_l (eqb x y) (same_list xs ys) e)) (same_octets xs ys (and_r (eqb x y) (same_list xs ys) e))
 
 -- ---- taken apart
 
 module _ (octets : List ℕ) (long : 8 ≤ length octets) (all : AllOctets octets) where
-  length-trailer : length (trailerOf octets) ≡ 8
-  length-trailer = simp length-drop (omega arith)
+  length_trailer : length (trailer_of octets) ≡ 8
+  length_trailer = simp length-drop (omega arith)
 
-  all-trailer : AllOctets (trailerOf octets)
-  all-trailer = octets-dropped (length octets - 8) octets all
+  all_trailer : AllOctets (trailer_of octets)
+  all_trailer = octets_dropped (length octets - 8) octets all
 
-  pub distance-held : distance_of octets < 256 ^ 4
-  distance-held =
-      rw (run-read (trailerOf octets) 0 4 (omega (arith, length-trailer)))
-      (omega (arith, all-trailer 0, all-trailer 1, all-trailer 2, all-trailer 3))
+  pub distance_held : distance_of octets < 256 ^ 4
+  distance_held =
+      rw (run_read (trailer_of octets) 0 4 (omega (arith, length_trailer)))
+      (omega (arith, all_trailer 0, all_trailer 1, all_trailer 2, all_trailer 3))
 
-  pub same-trailer : hasMark octets ≡ true → trailerFor (distance_of octets) ≡ trailerOf octets
-  same-trailer marked =
-      let trailer = trailerOf octets in
-      let four = length-take-le 4 trailer (omega (arith, length-trailer)) in
-      let distance = octets-of-number 4 (take 4 trailer) four (octets-taken 4 trailer all-trailer) in
-      ap₂ ◌++◌ distance (sym (same-octets (drop 4 trailer) mark marked)) ∙ take-append-drop 4 trailer
+  pub same_trailer : has_mark octets ≡ true → trailer_for (distance_of octets) ≡ trailer_of octets
+  same_trailer marked =
+      let trailer = trailer_of octets in
+      let four = length-take-le 4 trailer (omega (arith, length_trailer)) in
+      let distance = octets_of_number 4 (take 4 trailer) four (octets_taken 4 trailer all_trailer) in
+      ap₂ ◌++◌ distance (sym (same_octets (drop 4 trailer) mark marked)) ∙ take-append-drop 4 trailer
 
 -- ---- put together
 
 module _ (notes records : List ℕ) where
-  pub length-capture : length (captureOctets notes records) ≡ captureLength notes records
-  length-capture = simp length-append
+  pub length_capture : length (capture_octets notes records) ≡ capture_length notes records
+  length_capture = simp length-append
 
-  pub trailer-of-capture : trailerOf (captureOctets notes records) ≡ trailerFor (length records)
-  trailer-of-capture =
-      let behind : length (notes ++ records) ≡ length (captureOctets notes records) - 8 = omega (arith, length-append notes records, length-capture) in
-      drop_at (notes ++ records) (trailerFor (length records)) (length (captureOctets notes records) - 8) behind
+  pub trailer_of_capture : trailer_of (capture_octets notes records) ≡ trailer_for (length records)
+  trailer_of_capture =
+      let behind : length (notes ++ records) ≡ length (capture_octets notes records) - 8 = omega (arith, length-append notes records, length_capture) in
+      drop_at (notes ++ records) (trailer_for (length records)) (length (capture_octets notes records) - 8) behind
 
-  pub distance-of-capture : length records < 256 ^ 4 → distance_of (captureOctets notes records) ≡ length records
-  distance-of-capture h = rw trailer-of-capture (number-of-octets 4 (length records) h)
+  pub distance_of_capture : length records < 256 ^ 4 → distance_of (capture_octets notes records) ≡ length records
+  distance_of_capture h = rw trailer_of_capture (number_of_octets 4 (length records) h)
 
-  pub capture-has-mark : hasMark (captureOctets notes records) ≡ true
-  capture-has-mark = rw trailer-of-capture
+  pub capture_has_mark : has_mark (capture_octets notes records) ≡ true
+  capture_has_mark = rw trailer_of_capture

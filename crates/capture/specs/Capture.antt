@@ -1,6 +1,6 @@
 -- "Capture": the trailer, and the parts of a capture that it tells.
 use Rattle.std.specs.Prelude.{ℕ, ◌-◌, ◌/◌, ◌%◌, ◌≡◌, Bool, not, ◌||◌, List, [], ◌∷◌, eqb, ltb, length, take, drop}
-use Rattle.laws.specs.Rows.{Row, first, ◌when◌, unlessRefused, Paper, refusedWith, tells, refusedOr}
+use Rattle.laws.specs.Rows.{Row, first, ◌when◌, unless_refused, Paper, refused_with, tells, refused_or}
 use Rattle.laws.specs.Lists.{same_list}
 use Rattle.laws.specs.Octets.{number_of}
 use Rattle.capture.specs.declared.capture.CaptureRead.{CaptureRead}
@@ -11,37 +11,37 @@ abbrev pub mark : List ℕ
 mark = 0x49 ∷ 0x50 ∷ 0x49 ∷ 0x32 ∷ []
 
 -- "Then an 8-octet trailer"
-abbrev pub trailerOf : List ℕ → List ℕ
-trailerOf octets = drop (length octets - 8) octets
+abbrev pub trailer_of : List ℕ → List ℕ
+trailer_of octets = drop (length octets - 8) octets
 
 -- "the distance back from the trailer to the first record (4, high first)"
 abbrev pub distance_of : List ℕ → ℕ
-distance_of octets = number_of (take 4 (trailerOf octets))
+distance_of octets = number_of (take 4 (trailer_of octets))
 
 -- "and 49 50 49 32"
-abbrev pub hasMark : List ℕ → Bool
-hasMark octets = same_list (drop 4 (trailerOf octets)) mark
+abbrev pub has_mark : List ℕ → Bool
+has_mark octets = same_list (drop 4 (trailer_of octets)) mark
 
 -- "Capture decoding tests 12, 13, 14": "capture under 8 octets", "trailer mark wrong", "trailer distance no multiple of 8, or more
 -- than the length less 8".
-abbrev pub captureRows : List ℕ → List Row
-captureRows octets =
+abbrev pub capture_rows : List ℕ → List Row
+capture_rows octets =
     12 when ltb (length octets) 8
-    ∷ 13 when not (hasMark octets)
+    ∷ 13 when not (has_mark octets)
     ∷ 14 when (not (eqb (distance_of octets % 8) 0) || ltb (length octets - 8) (distance_of octets))
     ∷ []
 
-abbrev pub captureRefusal : List ℕ → ℕ
-captureRefusal octets = first (captureRows octets)
+abbrev pub capture_refusal : List ℕ → ℕ
+capture_refusal octets = first (capture_rows octets)
 
 -- Where the first record starts.
-abbrev pub firstRecord : List ℕ → ℕ
-firstRecord octets = length octets - 8 - distance_of octets
+abbrev pub first_record : List ℕ → ℕ
+first_record octets = length octets - 8 - distance_of octets
 
 -- The number that an answer refuses with, 0 where it refuses nothing.
-abbrev pub refusalIn : CaptureRead → ℕ
-refusalIn (Capture first count) = 0
-refusalIn (Refused n) = n
+abbrev pub refusal_in : CaptureRead → ℕ
+refusal_in (Capture first count) = 0
+refusal_in (Refused n) = n
 
 -- The answer on paper: the number of the refusal, or where the first record starts and how many records there are.
 pub record Found : Type 0 where
@@ -50,28 +50,28 @@ pub record Found : Type 0 where
 
 abbrev pub paper : CaptureRead → Paper Found
 paper (Capture first count) = tells (record { first = first; count = count })
-paper (Refused n) = refusedWith n
+paper (Refused n) = refused_with n
 
-abbrev pub captureIn : List ℕ → CaptureRead
-captureIn octets = unlessRefused (captureRefusal octets) (Refused (captureRefusal octets)) (Capture (firstRecord octets) (distance_of octets / 8))
+abbrev pub capture_in : List ℕ → CaptureRead
+capture_in octets = unless_refused (capture_refusal octets) (Refused (capture_refusal octets)) (Capture (first_record octets) (distance_of octets / 8))
 
 -- The promise of `decode_capture`.
 pub record DecodedCapture (octets : List ℕ) (r : CaptureRead) : Type 0 where
-  pub answer : r ≡ captureIn octets
-  pub on-paper : paper r ≡ refusedOr (captureRows octets) (record { first = firstRecord octets; count = distance_of octets / 8 })
+  pub answer : r ≡ capture_in octets
+  pub on_paper : paper r ≡ refused_or (capture_rows octets) (record { first = first_record octets; count = distance_of octets / 8 })
 
 -- "Octets before that record are bench notes, kept and ignored." None where the capture is refused.
-unfoldable pub notesOf : List ℕ → List ℕ
-notesOf octets = unlessRefused (captureRefusal octets) [] (take (firstRecord octets) octets)
+unfoldable pub notes_of : List ℕ → List ℕ
+notes_of octets = unless_refused (capture_refusal octets) [] (take (first_record octets) octets)
 
 -- The octets from that record to the trailer, none where the capture is refused.
-unfoldable pub recordsOf : List ℕ → List ℕ
-recordsOf octets = unlessRefused (captureRefusal octets) [] (take (distance_of octets) (drop (firstRecord octets) octets))
+unfoldable pub records_of : List ℕ → List ℕ
+records_of octets = unless_refused (capture_refusal octets) [] (take (distance_of octets) (drop (first_record octets) octets))
 
 -- The promise of `notes`.
 pub record NotesGiven (octets r : List ℕ) : Type 0 where
-  pub notes : r ≡ notesOf octets
+  pub notes : r ≡ notes_of octets
 
 -- The promise of `records`.
 pub record RecordsGiven (octets r : List ℕ) : Type 0 where
-  pub records : r ≡ recordsOf octets
+  pub records : r ≡ records_of octets

@@ -1,7 +1,7 @@
 // A capture put together in a lent slice: notes, records, and the trailer that says where the records start.
 ghost use Rattle.std.specs.Prelude.{◌+◌, ◌^◌, ◌<◌, ◌≤◌, ◌≡◌, ltb, length};
-ghost use Rattle.laws.specs.Lists.{writtenOver, writtenAt};
-ghost use Rattle.capture.specs.Encoding.{captureLength, captureOctets, trailerFor, EncodedCapture};
+ghost use Rattle.laws.specs.Lists.{written_over, written_at};
+ghost use Rattle.capture.specs.Encoding.{capture_length, capture_octets, trailer_for, EncodedCapture};
 
 use crate::capture::{MARK, TRAILER_LENGTH};
 use crate::record::RECORD_LENGTH;
@@ -32,8 +32,8 @@ pub fn encode_capture(notes: &[u8], records: &[u8], out: &mut [u8]) -> CaptureEn
 }
 
 fn write_capture(notes: &[u8], records: &[u8], out: &mut [u8])
-    requires { (captureLength notes.now records.now ≤ length out.old) × (length records.now < 256 ^ 4) }
-    ensures { out.new ≡ writtenOver out.old (captureOctets notes.now records.now) }
+    requires { (capture_length notes.now records.now ≤ length out.old) × (length records.now < 256 ^ 4) }
+    ensures { out.new ≡ written_over out.old (capture_octets notes.now records.now) }
 {
     let body = notes.len() + records.len();
     let trailer = trailer_for(records.len());
@@ -58,7 +58,7 @@ fn lacks_room(room: usize, notes: usize, records: usize) -> bool
 
 fn trailer_for(distance: usize) -> [u8; 8]
     requires { distance < 256 ^ 4 }
-    ensures { result ≡ trailerFor distance }
+    ensures { result ≡ trailer_for distance }
 {
     [
         (distance / 0x100_0000) as u8,
@@ -75,7 +75,7 @@ fn trailer_for(distance: usize) -> [u8; 8]
 // The octets go to `out` from the index `at` on.
 fn put(out: &mut [u8], at: usize, octets: &[u8])
     requires { at + length octets.now ≤ length out.old }
-    ensures { out.new ≡ writtenAt out.old at octets.now }
+    ensures { out.new ≡ written_at out.old at octets.now }
 {
     let mut i = 0;
     while i < octets.len() {

@@ -7,11 +7,11 @@ use mathlib.Core.List.{List}
 use lib.ListN.{length}
 use Rattle.laws.specs.Pick.{pick}
 use Rattle.laws.proofs.Differ.{never}
-use Rattle.laws.specs.Lists.{writtenOver}
+use Rattle.laws.specs.Lists.{written_over}
 use Rattle.parts.specs.declared.setup.Setup.{Setup}
 use Rattle.defects.specs.Offence.{first_of}
-use Rattle.defects.specs.Defect.{listOctets}
-use Rattle.defects.specs.Walk.{defectsBefore, mapTests}
+use Rattle.defects.specs.Defect.{list_octets}
+use Rattle.defects.specs.Walk.{defects_before, map_tests}
 use Rattle.defects.specs.Steps.{EndsAt, MapListed}
 use Rattle.defects.specs.declared.decoding.MapRead.{MapRead}
 use Rattle.defects.specs.declared.decoding.MapRead.TheVariants.{Map, Refused}
@@ -19,23 +19,23 @@ use Rattle.defects.specs.declared.offence.Offence.{Offence}
 use Rattle.defects.specs.declared.walk.Walk.{Walk}
 
 -- an answer that is a map is no refusal
-pub accepted-map : (o : Offence) (map r : MapRead) → ((n offset : ℕ) → r ≡ MapRead.Refused n offset → ◌≡◌ {A = ℕ} 0 1)
+pub accepted_map : (o : Offence) (map r : MapRead) → ((n offset : ℕ) → r ≡ MapRead.Refused n offset → ◌≡◌ {A = ℕ} 0 1)
     → r ≡ pick o.found (MapRead.Refused o.number o.offset) map → (o.found ≡ false) × (r ≡ map)
 unfolding pick
-accepted-map o map r other e = by-found o.found refl e
+accepted_map o map r other e = by_found o.found refl e
   where
-    by-found : (found : Bool) → o.found ≡ found → r ≡ pick found (MapRead.Refused o.number o.offset) map → (o.found ≡ false) × (r ≡ map)
-    by-found true h e = absurd (never (other _ _ e))
-    by-found false h e = (h, e)
+    by_found : (found : Bool) → o.found ≡ found → r ≡ pick found (MapRead.Refused o.number o.offset) map → (o.found ≡ false) × (r ≡ map)
+    by_found true h e = absurd (never (other _ _ e))
+    by_found false h e = (h, e)
 
-module _ (s : Setup) (inSectors : Bool) (octets before : List ℕ) (offence : Offence) (e : offence ≡ first_of (mapTests (not inSectors) s octets)) where
-  pub refused-map : offence.found ≡ true → MapListed s inSectors octets before before (Refused offence.number offence.offset)
+module _ (s : Setup) (inSectors : Bool) (octets before : List ℕ) (offence : Offence) (e : offence ≡ first_of (map_tests (not inSectors) s octets)) where
+  pub refused_map : offence.found ≡ true → MapListed s inSectors octets before before (Refused offence.number offence.offset)
   unfolding pick
-  refused-map f = record { answer = rw (← e, f); slice = rw (← e, f) }
+  refused_map f = record { answer = rw (← e, f); slice = rw (← e, f) }
 
-  pub told-map : (after : List ℕ) (fields count : ℕ) (w : Walk) → offence.found ≡ false → EndsAt s octets fields w
-      → count ≡ length (defectsBefore s octets fields) → after ≡ writtenOver before (listOctets (defectsBefore s octets fields))
+  pub told_map : (after : List ℕ) (fields count : ℕ) (w : Walk) → offence.found ≡ false → EndsAt s octets fields w
+      → count ≡ length (defects_before s octets fields) → after ≡ written_over before (list_octets (defects_before s octets fields))
       → MapListed s inSectors octets before after (Map count w.cylinder w.head)
   unfolding pick
-  told-map after fields count w f ends many slice =
+  told_map after fields count w f ends many slice =
       record { answer = rw (← e, f, many, ends.walk, ends.defects); slice = rw (← e, f) (slice ∙ rw ends.defects) }

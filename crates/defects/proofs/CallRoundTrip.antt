@@ -10,97 +10,97 @@ use lib.Dec.{eqb}
 use lib.ListN.{length, take, drop}
 use lib.Seq.{take_at}
 use Rattle.laws.specs.Pick.{pick}
-use Rattle.laws.specs.Lists.{writtenOver}
+use Rattle.laws.specs.Lists.{written_over}
 use Rattle.laws.specs.Octets.{AllOctets}
-use Rattle.laws.proofs.Rows.{none-given, accepted}
+use Rattle.laws.proofs.Rows.{none_given, accepted}
 use Rattle.laws.proofs.Tests.{or_l, or_r}
-use Rattle.parts.specs.Setup.{withinLimits}
+use Rattle.parts.specs.Setup.{within_limits}
 use Rattle.parts.specs.declared.setup.Setup.{Setup}
-use Rattle.defects.specs.Defect.{listOctets}
-use Rattle.defects.specs.Place.{fieldOctets, dataFields}
-use Rattle.defects.specs.Decoding.{decodeOffence, defectsOf, mapOf, DecodedMap}
-use Rattle.defects.specs.Encoding.{Value, defectsListed, mapLength, mapOctets, isEncodable, encodeRows, EncodedMap}
-use Rattle.defects.specs.RoundTrip.{tellsOf}
-use Rattle.defects.specs.Sectors.{lastCylinder, readOffence, ReadMap, writeRows, WroteMap}
-use Rattle.defects.specs.OnTheCylinder.{CanBePut, withMap}
+use Rattle.defects.specs.Defect.{list_octets}
+use Rattle.defects.specs.Place.{field_octets, data_fields}
+use Rattle.defects.specs.Decoding.{decode_offence, defects_of, map_of, DecodedMap}
+use Rattle.defects.specs.Encoding.{Value, defects_listed, map_length, map_octets, is_encodable, encode_rows, EncodedMap}
+use Rattle.defects.specs.RoundTrip.{tells_of}
+use Rattle.defects.specs.Sectors.{last_cylinder, read_offence, ReadMap, write_rows, WroteMap}
+use Rattle.defects.specs.OnTheCylinder.{CanBePut, with_map}
 use Rattle.defects.specs.CallRoundTrip.{CallRoundTrip}
 use Rattle.defects.specs.declared.decoding.MapRead.{MapRead}
 use Rattle.defects.specs.declared.defect.Encoded.{Encoded}
 use Rattle.defects.specs.declared.encoding.MapEncoded.{MapEncoded}
 use Rattle.defects.specs.declared.offence.Offence.{Offence}
-use Rattle.defects.proofs.Answers.{accepted-map}
+use Rattle.defects.proofs.Answers.{accepted_map}
 use Rattle.defects.proofs.EncodableValue.{encodable}
 use Rattle.defects.proofs.EncodedMap.{length-map}
-use Rattle.defects.proofs.Listed.{length-listed, all-fitting, same-octets}
-use Rattle.defects.proofs.OnTheCylinder.{on-the-cylinder}
-use Rattle.defects.proofs.RoundTrip.{map-round-trip}
+use Rattle.defects.proofs.Listed.{length_listed, all_fitting, same_octets}
+use Rattle.defects.proofs.OnTheCylinder.{on_the_cylinder}
+use Rattle.defects.proofs.RoundTrip.{map_round_trip}
 
 -- ---- octets that list whole defects, and a storage track
 
-abbrev valueListed : ℕ → ℕ → List ℕ → Value
-valueListed cylinder head defects = record { cylinder = cylinder; head = head; defects = defectsListed defects }
+abbrev value_listed : ℕ → ℕ → List ℕ → Value
+value_listed cylinder head defects = record { cylinder = cylinder; head = head; defects = defects_listed defects }
 
 module _ (s : Setup) (cylinder head : ℕ) (defects : List ℕ) where
   -- what row 8 leaves
-  whole-defects : (not (eqb (length defects % 12) 0) || not (isEncodable s (valueListed cylinder head defects))) ≡ false
-      → (length defects % 12 ≡ 0) × (isEncodable s (valueListed cylinder head defects) ≡ true)
-  whole-defects e = (eqb-true _ _ (not-false _ (or_l _ _ e)), not-false _ (or_r (not (eqb (length defects % 12) 0)) _ e))
+  whole_defects : (not (eqb (length defects % 12) 0) || not (is_encodable s (value_listed cylinder head defects))) ≡ false
+      → (length defects % 12 ≡ 0) × (is_encodable s (value_listed cylinder head defects) ≡ true)
+  whole_defects e = (eqb-true _ _ (not-false _ (or_l _ _ e)), not-false _ (or_r (not (eqb (length defects % 12) 0)) _ e))
 
-  count : length (defectsListed defects) ≡ length defects / 12
-  count = length-listed defects 0 (length defects / 12)
+  count : length (defects_listed defects) ≡ length defects / 12
+  count = length_listed defects 0 (length defects / 12)
 
   module _ (all : AllOctets defects) where
     -- what tells the value's map gives the octets back
-    told-again : (o : Offence) (octets lent lent' : List ℕ) (r : MapRead) → length defects % 12 ≡ 0
-        → (pick o.found (MapRead.Refused o.number o.offset) (mapOf s octets) ≡ tellsOf (valueListed cylinder head defects)) × (defectsOf s octets ≡ defectsListed defects)
-        → r ≡ pick o.found (MapRead.Refused o.number o.offset) (mapOf s octets)
-        → lent' ≡ pick o.found lent (writtenOver lent (listOctets (defectsOf s octets)))
-        → (r ≡ MapRead.Map (length defects / 12) cylinder head) × (lent' ≡ writtenOver lent defects)
+    told_again : (o : Offence) (octets lent lent' : List ℕ) (r : MapRead) → length defects % 12 ≡ 0
+        → (pick o.found (MapRead.Refused o.number o.offset) (map_of s octets) ≡ tells_of (value_listed cylinder head defects)) × (defects_of s octets ≡ defects_listed defects)
+        → r ≡ pick o.found (MapRead.Refused o.number o.offset) (map_of s octets)
+        → lent' ≡ pick o.found lent (written_over lent (list_octets (defects_of s octets)))
+        → (r ≡ MapRead.Map (length defects / 12) cylinder head) × (lent' ≡ written_over lent defects)
     unfolding pick
-    told-again o octets lent lent' r whole (told, listed) answer slice =
-        let (free, is) = accepted-map o (mapOf s octets) (tellsOf (valueListed cylinder head defects)) (λ n offset e. cc) (sym told) in
-        (answer ∙ told ∙ rw count, slice ∙ rw (free, listed, same-octets defects all whole))
+    told_again o octets lent lent' r whole (told, listed) answer slice =
+        let (free, is) = accepted_map o (map_of s octets) (tells_of (value_listed cylinder head defects)) (λ n offset e. cc) (sym told) in
+        (answer ∙ told ∙ rw count, slice ∙ rw (free, listed, same_octets defects all whole))
 
-    decoded-again : (before after lent lent' : List ℕ) (size : ℕ) (r : MapRead) → EncodedMap s cylinder head defects before after (MapEncoded.Written size)
+    decoded_again : (before after lent lent' : List ℕ) (size : ℕ) (r : MapRead) → EncodedMap s cylinder head defects before after (MapEncoded.Written size)
         → size / 3 ≤ length lent → DecodedMap s (take size after) lent lent' r
-        → (r ≡ MapRead.Map (length defects / 12) cylinder head) × (lent' ≡ writtenOver lent defects)
-    decoded-again before after lent lent' size r e room d =
-        let v = valueListed cylinder head defects in
-        let octets = mapOctets s v in
-        let rows = encodeRows s cylinder head defects (length before) in
-        let made = MapEncoded.Written (mapLength s (length defects / 12)) in
+        → (r ≡ MapRead.Map (length defects / 12) cylinder head) × (lent' ≡ written_over lent defects)
+    decoded_again before after lent lent' size r e room d =
+        let v = value_listed cylinder head defects in
+        let octets = map_octets s v in
+        let rows = encode_rows s cylinder head defects (length before) in
+        let made = MapEncoded.Written (map_length s (length defects / 12)) in
         let (is, passed) = accepted rows MapEncoded.Refused (MapEncoded.Written size) made refl (λ n e. cc) e.answer in
         let (limits, (long, (fit, end))) = passed in
-        let (whole, value) = whole-defects fit in
-        let small = not-false (withinLimits s) limits in
-        let fitting = all-fitting defects all 0 (length defects / 12) in
-        let same_size : size ≡ mapLength s (length defects / 12) = cc in
-        let sized : length octets ≡ size = length-map s v (encodable s v small value fitting).field1 ∙ rw count (sym same_size) in
-        let slice : after ≡ writtenOver before octets = e.slice ∙ rw (none-given rows passed) in
+        let (whole, value) = whole_defects fit in
+        let small = not-false (within_limits s) limits in
+        let fitting = all_fitting defects all 0 (length defects / 12) in
+        let same_size_lem : size ≡ map_length s (length defects / 12) = cc in
+        let sized : length octets ≡ size = length-map s v (encodable s v small value fitting).field1 ∙ rw count (sym same_size_lem) in
+        let slice : after ≡ written_over before octets = e.slice ∙ rw (none_given rows passed) in
         let taken : take size after ≡ octets = rw slice (take_at octets (drop (length octets) before) size sized) in
         let decoded : DecodedMap s octets lent lent' r = rw taken at d in
-        let again = map-round-trip.decode-encode s v lent small value fitting (omega arith) in
-        told-again (decodeOffence s octets lent) octets lent lent' r whole again decoded.answer decoded.slice
+        let again = map_round_trip.decode_encode s v lent small value fitting (omega arith) in
+        told_again (decode_offence s octets lent) octets lent lent' r whole again decoded.answer decoded.slice
 
     read_again : (before after lent lent' : List ℕ) (r : MapRead) → WroteMap s cylinder head defects before after Encoded.Written
-        → dataFields s * fieldOctets s / 3 ≤ length lent → ReadMap s after lent lent' r
-        → (r ≡ MapRead.Map (length defects / 12) cylinder head) × (lent' ≡ writtenOver lent defects)
+        → data_fields s * field_octets s / 3 ≤ length lent → ReadMap s after lent lent' r
+        → (r ≡ MapRead.Map (length defects / 12) cylinder head) × (lent' ≡ written_over lent defects)
     read_again before after lent lent' r e room d =
-        let v = valueListed cylinder head defects in
-        let rows = writeRows s cylinder head defects before in
+        let v = value_listed cylinder head defects in
+        let rows = write_rows s cylinder head defects before in
         let (is, passed) = accepted rows Encoded.Refused Encoded.Written Encoded.Written refl (λ n e. cc) e.answer in
         let (limits, (long, (fit, end))) = passed in
-        let (whole, value) = whole-defects fit in
+        let (whole, value) = whole_defects fit in
         let put : CanBePut s v before =
-        record { limits = not-false (withinLimits s) limits; room = ltb-false _ _ long; value = value; fitting = all-fitting defects all 0 (length defects / 12) } in
-        let sectors : after ≡ withMap s v before = e.sectors ∙ rw (none-given rows passed, count) in
-        let read : ReadMap s (withMap s v before) lent lent' r = rw sectors at d in
-        let again = on-the-cylinder.read-after-write s v before lent put room in
-        told-again (readOffence s (withMap s v before) lent) (lastCylinder s (withMap s v before)) lent lent' r whole again read.answer read.slice
+        record { limits = not-false (within_limits s) limits; room = ltb-false _ _ long; value = value; fitting = all_fitting defects all 0 (length defects / 12) } in
+        let sectors : after ≡ with_map s v before = e.sectors ∙ rw (none_given rows passed, count) in
+        let read : ReadMap s (with_map s v before) lent lent' r = rw sectors at d in
+        let again = on_the_cylinder.read_after_write s v before lent put room in
+        told_again (read_offence s (with_map s v before) lent) (last_cylinder s (with_map s v before)) lent lent' r whole again read.answer read.slice
 
-pub call-round-trip : CallRoundTrip
-call-round-trip =
+pub call_round_trip : CallRoundTrip
+call_round_trip =
     record {
-      decode-encode = λ s cylinder head defects before after lent lent' size r all e room d. decoded-again s cylinder head defects all before after lent lent' size r e room d;
-      read-write = λ s cylinder head defects before after lent lent' r all e room d. read_again s cylinder head defects all before after lent lent' r e room d;
+      decode_encode = λ s cylinder head defects before after lent lent' size r all e room d. decoded_again s cylinder head defects all before after lent lent' size r e room d;
+      read_write = λ s cylinder head defects before after lent lent' r all e room d. read_again s cylinder head defects all before after lent lent' r e room d;
     }

@@ -2,43 +2,43 @@
 -- Assumes nothing.
 use mathlib.Core.Path.{refl}
 use Rattle.defects.specs.Cases.{Cases}
-use Rattle.defects.proofs.Computing.{computing-maps}
+use Rattle.defects.proofs.Computing.{computing_maps}
 
 pub cases : Cases
-unfolding computing-maps
+unfolding computing_maps
 cases =
     record {
-      check-value = refl;
-      no-defects = refl;
-      one-defect = refl;
-      one-defect-lists = refl;
-      out-of-sequence = refl;
-      out-of-sequence-lists = refl;
-      one-ignored = refl;
-      not_full = refl;
-      not-full-lists = refl;
-      flagged-without-need = refl;
-      flagged-without-need-lists = refl;
-      all-ignored = refl;
-      count-wrong = refl;
+      check_value = refl;
+      no_defects_lem = refl;
+      one_defect_lem = refl;
+      one_defect_lists = refl;
+      out_of_sequence_lem = refl;
+      out_of_sequence_lists = refl;
+      one_ignored_lem = refl;
+      not_full_lem = refl;
+      not_full_lists = refl;
+      flagged_without_need_lem = refl;
+      flagged_without_need_lists = refl;
+      all_ignored_lem = refl;
+      count_wrong_lem = refl;
       continues = refl;
-      copy-three = refl;
-      behind-the-last-cylinder = refl;
-      order-broken = refl;
-      octet-in-the-padding = refl;
-      bit-of-the-crc = refl;
-      third-copy-differs = refl;
-      fourth-data-field = refl;
+      copy_three_lem = refl;
+      behind_the_last_cylinder_lem = refl;
+      order_broken_lem = refl;
+      octet_in_the_padding_lem = refl;
+      bit_of_the_crc_lem = refl;
+      third_copy_differs_lem = refl;
+      fourth_data_field_lem = refl;
       cut_short = refl;
       no_room = refl;
-      no-defects-anew = refl;
-      one-defect-anew = refl;
-      out-of-sequence-anew = refl;
-      not-full-anew = refl;
-      three-sets = refl;
-      no-entries = refl;
-      first-place = refl;
-      next-track = refl;
-      last-place = refl;
+      no_defects_anew = refl;
+      one_defect_anew = refl;
+      out_of_sequence_anew = refl;
+      not_full_anew = refl;
+      three_sets = refl;
+      no_entries = refl;
+      first_place = refl;
+      next_track = refl;
+      last_place = refl;
       none_left = refl;
     }

@@ -12,69 +12,69 @@ use lib.ListN.{length, take, drop}
 use lib.Seq.{length-take-le, take-add, take-take, drop_at}
 use Rattle.laws.specs.Pick.{pick}
 use Rattle.parts.specs.declared.setup.Setup.{Setup}
-use Rattle.defects.specs.Offence.{Test, noOffence, offenceAt, first_of}
-use Rattle.defects.specs.Place.{fieldOctets, dataFields}
-use Rattle.defects.specs.Walk.{isEnded, field_at, walkAt, defectsBefore, testsFrom, mapTests}
-use Rattle.defects.specs.Decoding.{decodeOffence, defectsOf, mapOf}
+use Rattle.defects.specs.Offence.{Test, no_offence, offence_at, first_of}
+use Rattle.defects.specs.Place.{field_octets, data_fields}
+use Rattle.defects.specs.Walk.{is_ended, field_at, walk_at, defects_before, tests_from, map_tests}
+use Rattle.defects.specs.Decoding.{decode_offence, defects_of, map_of}
 use Rattle.defects.specs.declared.offence.Offence.{Offence}
-use Rattle.defects.proofs.WalkSteps.{ended-stays, defects-stay}
-use Rattle.defects.proofs.TestsAt.{dueTests, tests-going, tests-ended, none-behind}
+use Rattle.defects.proofs.WalkSteps.{ended_stays, defects_stay}
+use Rattle.defects.proofs.TestsAt.{due_tests, tests_going, tests_ended, none_behind}
 use Rattle.defects.proofs.Thirds.{counted}
 use Rattle.defects.proofs.Offences.{All, Passed, none_found, both, found}
-use Rattle.defects.proofs.ReadIsDecode.{Others, due-others}
+use Rattle.defects.proofs.ReadIsDecode.{Others, due_others}
 
 -- ---- where the map ends
 
 -- other tests stand before a 28: none of them holds
-behind-passed : {tests : List Test} (rest : List Test) (offset : ℕ) → Others tests → first_of (tests ++ rest) ≡ offenceAt 28 offset
-    → Passed tests × (first_of rest ≡ offenceAt 28 offset)
+behind_passed : {tests : List Test} (rest : List Test) (offset : ℕ) → Others tests → first_of (tests ++ rest) ≡ offence_at 28 offset
+    → Passed tests × (first_of rest ≡ offence_at 28 offset)
 unfolding first_of pick
-behind-passed rest offset All.end e = (All.end, e)
-behind-passed rest offset (All.next {test = test} {tests = tests} h p) e = by-test test.holds refl e (behind-passed rest offset p)
+behind_passed rest offset All.end e = (All.end, e)
+behind_passed rest offset (All.next {test = test} {tests = tests} h p) e = by_test test.holds refl e (behind_passed rest offset p)
   where
-    by-test : (holds : Bool) → test.holds ≡ holds → pick holds (offenceAt test.number test.offset) (first_of (tests ++ rest)) ≡ offenceAt 28 offset
-        → (first_of (tests ++ rest) ≡ offenceAt 28 offset → Passed tests × (first_of rest ≡ offenceAt 28 offset))
-        → Passed (test ∷ tests) × (first_of rest ≡ offenceAt 28 offset)
-    by-test true t e below = absurd (eqb-false test.number 28 h (ap (λ (o : Offence). o.number) e))
-    by-test false t e below = let (passed, behind) = below e in (All.next t passed, behind)
+    by_test : (holds : Bool) → test.holds ≡ holds → pick holds (offence_at test.number test.offset) (first_of (tests ++ rest)) ≡ offence_at 28 offset
+        → (first_of (tests ++ rest) ≡ offence_at 28 offset → Passed tests × (first_of rest ≡ offence_at 28 offset))
+        → Passed (test ∷ tests) × (first_of rest ≡ offence_at 28 offset)
+    by_test true t e below = absurd (eqb-false test.number 28 h (ap (λ (o : Offence). o.number) e))
+    by_test false t e below = let (passed, behind) = below e in (All.next t passed, behind)
 
 -- so many data fields on, the map ends at this offset
 data Ends (s : Setup) (octets : List ℕ) (offset : ℕ) : ℕ → ℕ → Type 0 where
-  here : {k count : ℕ} → isEnded (walkAt s octets k) ≡ true → offset ≡ k * fieldOctets s → offset < length octets → Ends s octets offset k (suc count)
-  later : {k count : ℕ} → isEnded (walkAt s octets k) ≡ false → Passed (dueTests s octets k) → Ends s octets offset (suc k) count → Ends s octets offset k (suc count)
+  here : {k count : ℕ} → is_ended (walk_at s octets k) ≡ true → offset ≡ k * field_octets s → offset < length octets → Ends s octets offset k (suc count)
+  later : {k count : ℕ} → is_ended (walk_at s octets k) ≡ false → Passed (due_tests s octets k) → Ends s octets offset (suc k) count → Ends s octets offset k (suc count)
 
-ends : (s : Setup) (octets : List ℕ) (offset k count : ℕ) → first_of (testsFrom true s octets k count) ≡ offenceAt 28 offset → Ends s octets offset k count
-unfolding testsFrom first_of pick
+ends : (s : Setup) (octets : List ℕ) (offset k count : ℕ) → first_of (tests_from true s octets k count) ≡ offence_at 28 offset → Ends s octets offset k count
+unfolding tests_from first_of pick
 ends s octets offset k zero e = found e refl
-ends s octets offset k (suc count) e = by-test (isEnded (walkAt s octets k)) refl (ends s octets offset (suc k) count)
+ends s octets offset k (suc count) e = by_test (is_ended (walk_at s octets k)) refl (ends s octets offset (suc k) count)
   where
-    at-end : (long : Bool) → ltb (k * fieldOctets s) (length octets) ≡ long → isEnded (walkAt s octets k) ≡ true
-        → pick long (offenceAt 28 (k * fieldOctets s)) (first_of (testsFrom true s octets (suc k) count)) ≡ offenceAt 28 offset → Ends s octets offset k (suc count)
-    at-end true long over first =
-        let same : k * fieldOctets s ≡ offset = ap (λ (o : Offence). o.offset) first in
-        here over (sym same) (omega (arith, ltb-true (k * fieldOctets s) (length octets) long))
-    at-end false long over first = found e (ap (λ (o : Offence). o.found) (none_found (none-behind true s octets k (suc count) over long)))
+    at_end : (long : Bool) → ltb (k * field_octets s) (length octets) ≡ long → is_ended (walk_at s octets k) ≡ true
+        → pick long (offence_at 28 (k * field_octets s)) (first_of (tests_from true s octets (suc k) count)) ≡ offence_at 28 offset → Ends s octets offset k (suc count)
+    at_end true long over first =
+        let same : k * field_octets s ≡ offset = ap (λ (o : Offence). o.offset) first in
+        here over (sym same) (omega (arith, ltb-true (k * field_octets s) (length octets) long))
+    at_end false long over first = found e (ap (λ (o : Offence). o.found) (none_found (none_behind true s octets k (suc count) over long)))
 
-    by-test : (over : Bool) → isEnded (walkAt s octets k) ≡ over
-        → (first_of (testsFrom true s octets (suc k) count) ≡ offenceAt 28 offset → Ends s octets offset (suc k) count) → Ends s octets offset k (suc count)
-    by-test true over below = at-end (ltb (k * fieldOctets s) (length octets)) refl over (rw (tests-ended true s octets k over) at e)
-    by-test false going below = let (passed, rest) = behind-passed _ offset (due-others s octets k) (rw (tests-going true s octets k going) at e) in later going passed (below rest)
+    by_test : (over : Bool) → is_ended (walk_at s octets k) ≡ over
+        → (first_of (tests_from true s octets (suc k) count) ≡ offence_at 28 offset → Ends s octets offset (suc k) count) → Ends s octets offset k (suc count)
+    by_test true over below = at_end (ltb (k * field_octets s) (length octets)) refl over (rw (tests_ended true s octets k over) at e)
+    by_test false going below = let (passed, rest) = behind_passed _ offset (due_others s octets k) (rw (tests_going true s octets k going) at e) in later going passed (below rest)
 
-reaches : {s : Setup} {octets : List ℕ} {offset k count : ℕ} → Ends s octets offset k count → (k * fieldOctets s ≤ offset) × (offset < length octets)
+reaches : {s : Setup} {octets : List ℕ} {offset k count : ℕ} → Ends s octets offset k count → (k * field_octets s ≤ offset) × (offset < length octets)
 reaches (here over at within) = (omega arith, within)
-reaches {s} {k = k} (later going passed on) = let (far, within) = reaches on in (omega (arith, suc-mul k (fieldOctets s)), within)
+reaches {s} {k = k} (later going passed on) = let (far, within) = reaches on in (omega (arith, suc-mul k (field_octets s)), within)
 
 -- ---- the same up to there
 
-window-kept : (list : List ℕ) (n at size : ℕ) → at + size ≤ n → n ≤ length list → take size (drop at (take n list)) ≡ take size (drop at list)
-window-kept list n at size h l =
+window_kept : (list : List ℕ) (n at size : ℕ) → at + size ≤ n → n ≤ length list → take size (drop at (take n list)) ≡ take size (drop at list)
+window_kept list n at size h l =
     let m = n - at in
     let sum : n ≡ at + m = omega arith in
     rw (sum, take-add at m list, drop_at (take at list) (take m (drop at list)) at (length-take-le at list (omega arith))) (take-take size m (drop at list) (omega arith))
 
 record Same (s : Setup) (a b : List ℕ) (k : ℕ) : Type 0 where
-  walk : walkAt s a k ≡ walkAt s b k
-  listed : defectsBefore s a k ≡ defectsBefore s b k
+  walk : walk_at s a k ≡ walk_at s b k
+  listed : defects_before s a k ≡ defects_before s b k
 
 module _ (s : Setup) (octets : List ℕ) (offset : ℕ) (within : offset ≤ length octets) where
   abbrev cut : List ℕ
@@ -83,47 +83,47 @@ module _ (s : Setup) (octets : List ℕ) (offset : ℕ) (within : offset ≤ len
   length_cut : length cut ≡ offset
   length_cut = length-take-le offset octets within
 
-  field-kept : (k : ℕ) → suc k * fieldOctets s ≤ offset → field_at s cut k ≡ field_at s octets k
+  field_kept : (k : ℕ) → suc k * field_octets s ≤ offset → field_at s cut k ≡ field_at s octets k
   unfolding field_at
-  field-kept k h = window-kept octets offset (k * fieldOctets s) (fieldOctets s) (omega (arith, suc-mul k (fieldOctets s))) within
+  field_kept k h = window_kept octets offset (k * field_octets s) (field_octets s) (omega (arith, suc-mul k (field_octets s))) within
 
-  same-on : (k : ℕ) → suc k * fieldOctets s ≤ offset → Same s cut octets k → Same s cut octets (suc k)
-  unfolding walkAt defectsBefore
-  same-on k h same = record { walk = rw (same.walk, field-kept k h); listed = rw (same.listed, same.walk, field-kept k h) }
+  same_on : (k : ℕ) → suc k * field_octets s ≤ offset → Same s cut octets k → Same s cut octets (suc k)
+  unfolding walk_at defects_before
+  same_on k h same = record { walk = rw (same.walk, field_kept k h); listed = rw (same.listed, same.walk, field_kept k h) }
 
-  same-behind : (k n : ℕ) → isEnded (walkAt s octets k) ≡ true → Same s cut octets k → Same s cut octets (k + n)
-  same-behind k n over same =
-      let over' : isEnded (walkAt s cut k) ≡ true = rw same.walk over in
+  same_behind : (k n : ℕ) → is_ended (walk_at s octets k) ≡ true → Same s cut octets k → Same s cut octets (k + n)
+  same_behind k n over same =
+      let over' : is_ended (walk_at s cut k) ≡ true = rw same.walk over in
       record {
-        walk = ended-stays s cut k n over' ∙ same.walk ∙ sym (ended-stays s octets k n over);
-        listed = defects-stay s cut k n over' ∙ same.listed ∙ sym (defects-stay s octets k n over);
+        walk = ended_stays s cut k n over' ∙ same.walk ∙ sym (ended_stays s octets k n over);
+        listed = defects_stay s cut k n over' ∙ same.listed ∙ sym (defects_stay s octets k n over);
       }
 
-  due-kept : (k : ℕ) → suc k * fieldOctets s ≤ offset → Same s cut octets k → dueTests s cut k ≡ dueTests s octets k
-  due-kept k h same =
-      let original = (walkAt s octets k).original in
-      let earlier : suc original * fieldOctets s ≤ suc k * fieldOctets s = mul-le-mul_right (fieldOctets s) (omega (arith, (counted s octets k).original)) in
-      let end : k * fieldOctets s + fieldOctets s ≤ offset = omega (arith, suc-mul k (fieldOctets s)) in
+  due_kept : (k : ℕ) → suc k * field_octets s ≤ offset → Same s cut octets k → due_tests s cut k ≡ due_tests s octets k
+  due_kept k h same =
+      let original = (walk_at s octets k).original in
+      let earlier : suc original * field_octets s ≤ suc k * field_octets s = mul-le-mul_right (field_octets s) (omega (arith, (counted s octets k).original)) in
+      let end : k * field_octets s + field_octets s ≤ offset = omega (arith, suc-mul k (field_octets s)) in
       rw (
         same.walk,
         same.listed,
-        field-kept k h,
-        field-kept original (omega arith),
-        le-ltb (length cut) (k * fieldOctets s + fieldOctets s) (omega (arith, length_cut)),
-        le-ltb (length octets) (k * fieldOctets s + fieldOctets s) (omega arith),
+        field_kept k h,
+        field_kept original (omega arith),
+        le-ltb (length cut) (k * field_octets s + field_octets s) (omega (arith, length_cut)),
+        le-ltb (length octets) (k * field_octets s + field_octets s) (omega arith),
       )
 
-  cut-passed : (total k count : ℕ) → k + count ≡ suc total → Ends s octets offset k count → Same s cut octets k
-      → Passed (testsFrom true s cut k count) × Same s cut octets total
-  unfolding testsFrom
-  cut-passed total k (suc count) sum (here over at within') same =
-      let over' : isEnded (walkAt s cut k) ≡ true = rw same.walk over in
+  cut_passed : (total k count : ℕ) → k + count ≡ suc total → Ends s octets offset k count → Same s cut octets k
+      → Passed (tests_from true s cut k count) × Same s cut octets total
+  unfolding tests_from
+  cut_passed total k (suc count) sum (here over at within') same =
+      let over' : is_ended (walk_at s cut k) ≡ true = rw same.walk over in
       let whole : k + count ≡ total = omega arith in
-      (none-behind true s cut k (suc count) over' (le-ltb (k * fieldOctets s) (length cut) (omega (arith, length_cut))), rw whole at (same-behind k count over same))
-  cut-passed total k (suc count) sum (later going passed on) same =
+      (none_behind true s cut k (suc count) over' (le-ltb (k * field_octets s) (length cut) (omega (arith, length_cut))), rw whole at (same_behind k count over same))
+  cut_passed total k (suc count) sum (later going passed on) same =
       let far = (reaches on).0 in
-      let (rest, at-end) = cut-passed total (suc k) count (omega arith) on (same-on k far same) in
-      (rw (tests-going true s cut k (rw same.walk going), due-kept k far same) (both passed rest), at-end)
+      let (rest, at_end) = cut_passed total (suc k) count (omega arith) on (same_on k far same) in
+      (rw (tests_going true s cut k (rw same.walk going), due_kept k far same) (both passed rest), at_end)
 
 -- ---- 9 and 10 are passed as before
 
@@ -131,15 +131,15 @@ with_rows : {nine ten ten' : Test} {tests : List Test} → Passed (nine ∷ ten 
     → Passed (nine ∷ ten' ∷ tests)
 with_rows (All.next h (All.next g All.end)) room p = All.next h (All.next (room g) p)
 
-pub cut-map : (s : Setup) (octets lent : List ℕ) (offset : ℕ) → decodeOffence s octets lent ≡ offenceAt 28 offset
-    → let cut = take offset octets in (decodeOffence s cut lent ≡ noOffence) × (mapOf s cut ≡ mapOf s octets) × (defectsOf s cut ≡ defectsOf s octets)
-unfolding walkAt defectsBefore
-cut-map s octets lent offset e =
-    let (rows, map) = behind-passed (mapTests true s octets) offset (All.next refl (All.next refl All.end)) e in
-    let end = ends s octets offset 0 (suc (dataFields s)) map in
+pub cut_map : (s : Setup) (octets lent : List ℕ) (offset : ℕ) → decode_offence s octets lent ≡ offence_at 28 offset
+    → let cut = take offset octets in (decode_offence s cut lent ≡ no_offence) × (map_of s cut ≡ map_of s octets) × (defects_of s cut ≡ defects_of s octets)
+unfolding walk_at defects_before
+cut_map s octets lent offset e =
+    let (rows, map) = behind_passed (map_tests true s octets) offset (All.next refl (All.next refl All.end)) e in
+    let end = ends s octets offset 0 (suc (data_fields s)) map in
     let within : offset ≤ length octets = omega (arith, (reaches end).1) in
     let short = length_cut s octets offset within in
-    let (passed, same) = cut-passed s octets offset within (dataFields s) 0 (suc (dataFields s)) (omega arith) end (record { walk = refl; listed = refl }) in
+    let (passed, same) = cut_passed s octets offset within (data_fields s) 0 (suc (data_fields s)) (omega arith) end (record { walk = refl; listed = refl }) in
     let room : ltb (length lent) (length octets / 3) ≡ false → ltb (length lent) (length (take offset octets) / 3) ≡ false =
     λ h. le-ltb (length lent) (length (take offset octets) / 3) (omega (arith, ltb-false (length lent) (length octets / 3) h)) in
     (none_found (with_rows rows room passed), rw (same.walk, same.listed), same.listed)

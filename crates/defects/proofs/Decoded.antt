@@ -13,22 +13,22 @@ use Rattle.laws.proofs.Pick.{cases}
 use Rattle.laws.proofs.Tests.{and_l, and_r}
 use Rattle.parts.specs.declared.setup.Setup.{Setup}
 use Rattle.defects.specs.Offence.{first_of}
-use Rattle.defects.specs.Field.{frontOf}
-use Rattle.defects.specs.Place.{dataFields}
-use Rattle.defects.specs.Walk.{isEnded, afterOriginal, field_at, walkAt, isOriginal, defectsBefore, mapTests}
-use Rattle.defects.specs.Encoding.{areListable, isListable}
+use Rattle.defects.specs.Field.{front_of}
+use Rattle.defects.specs.Place.{data_fields}
+use Rattle.defects.specs.Walk.{is_ended, after_original, field_at, walk_at, is_original, defects_before, map_tests}
+use Rattle.defects.specs.Encoding.{are_listable, is_listable}
 use Rattle.defects.specs.Decoded.{Decoded}
 use Rattle.defects.specs.declared.defect.Defect.{Defect}
 use Rattle.defects.specs.declared.walk.Walk.{Walk}
-use Rattle.defects.proofs.WalkSteps.{next-step}
+use Rattle.defects.proofs.WalkSteps.{next_step}
 use Rattle.defects.proofs.PassedFields.{FrontPassed}
-use Rattle.defects.proofs.Standing.{Standing, at-outset, in-set, behind-set, standing}
-use Rattle.defects.proofs.Accepted.{ended, original-at}
+use Rattle.defects.proofs.Standing.{Standing, at_outset, in_set, behind_set, standing}
+use Rattle.defects.proofs.Accepted.{ended, original_at}
 
-listable-append : (s : Setup) (a b : List Defect) → areListable s a ≡ true → areListable s b ≡ true → areListable s (a ++ b) ≡ true
-unfolding areListable
-listable-append s [] b p q = q
-listable-append s (d ∷ a) b p q = rw (and_l (isListable s d) (areListable s a) p) (listable-append s a b (and_r (isListable s d) (areListable s a) p) q)
+listable_append : (s : Setup) (a b : List Defect) → are_listable s a ≡ true → are_listable s b ≡ true → are_listable s (a ++ b) ≡ true
+unfolding are_listable
+listable_append s [] b p q = q
+listable_append s (d ∷ a) b p q = rw (and_l (is_listable s d) (are_listable s a) p) (listable_append s a b (and_r (is_listable s d) (are_listable s a) p) q)
 
 -- copy 0 of set 0 was passed
 abbrev pub Begun : Walk → Type 0
@@ -39,57 +39,57 @@ pub record Storage (s : Setup) (w : Walk) : Type 0 where
   pub head : w.head < s.heads
   pub sets : 0 < w.sets
 
-module _ (alone : Bool) (s : Setup) (octets : List ℕ) (accepted : (first_of (mapTests alone s octets)).found ≡ false) where
-  listable-before : (k : ℕ) → k ≤ dataFields s → areListable s (defectsBefore s octets k) ≡ true
-  unfolding defectsBefore areListable
-  listable-before zero h = refl
-  listable-before (suc k) h =
+module _ (alone : Bool) (s : Setup) (octets : List ℕ) (accepted : (first_of (map_tests alone s octets)).found ≡ false) where
+  listable_before : (k : ℕ) → k ≤ data_fields s → are_listable s (defects_before s octets k) ≡ true
+  unfolding defects_before are_listable
+  listable_before zero h = refl
+  listable_before (suc k) h =
       let field = field_at s octets k in
-      listable-append s (defectsBefore s octets k) _ (listable-before k (omega arith))
-      (cases (λ (defects : List Defect). areListable s defects ≡ true) (isOriginal (walkAt s octets k) field)
-      (λ begins. (original-at alone s octets accepted k (omega arith) begins).listable) (λ other. refl))
+      listable_append s (defects_before s octets k) _ (listable_before k (omega arith))
+      (cases (λ (defects : List Defect). are_listable s defects ≡ true) (is_original (walk_at s octets k) field)
+      (λ begins. (original_at alone s octets accepted k (omega arith) begins).listable) (λ other. refl))
 
-  stored_next : (k : ℕ) → k ≤ dataFields s → isOriginal (walkAt s octets k) (field_at s octets k) ≡ true
-      → (Begun (walkAt s octets k) → Storage s (walkAt s octets k)) → Storage s (afterOriginal (walkAt s octets k) k (frontOf (field_at s octets k)))
-  stored_next k h begins before = by-set (eqb (walkAt s octets k).set 0) refl
+  stored_next : (k : ℕ) → k ≤ data_fields s → is_original (walk_at s octets k) (field_at s octets k) ≡ true
+      → (Begun (walk_at s octets k) → Storage s (walk_at s octets k)) → Storage s (after_original (walk_at s octets k) k (front_of (field_at s octets k)))
+  stored_next k h begins before = by_set (eqb (walk_at s octets k).set 0) refl
     where
-      front : FrontPassed s (walkAt s octets k) (length (field_at s octets k)) (frontOf (field_at s octets k))
-      front = (original-at alone s octets accepted k h begins).front
+      front : FrontPassed s (walk_at s octets k) (length (field_at s octets k)) (front_of (field_at s octets k))
+      front = (original_at alone s octets accepted k h begins).front
 
-      by-set : (opens : Bool) → eqb (walkAt s octets k).set 0 ≡ opens → Storage s (afterOriginal (walkAt s octets k) k (frontOf (field_at s octets k)))
-      by-set true e = let (sets, cylinder, head) = front.opens (eqb-true _ _ e) in record { cylinder = cylinder; head = head; sets = sets }
-      by-set false e =
+      by_set : (opens : Bool) → eqb (walk_at s octets k).set 0 ≡ opens → Storage s (after_original (walk_at s octets k) k (front_of (field_at s octets k)))
+      by_set true e = let (sets, cylinder, head) = front.opens (eqb-true _ _ e) in record { cylinder = cylinder; head = head; sets = sets }
+      by_set false e =
           let (sets, cylinder, head) = front.follows (eqb-false _ _ e) in
           let held = before (λ none first. eqb-false _ _ e none) in
           record { cylinder = rw cylinder held.cylinder; head = rw head held.head; sets = rw sets held.sets }
 
-  stored : (k : ℕ) → k ≤ dataFields s → Begun (walkAt s octets k) → Storage s (walkAt s octets k)
-  unfolding walkAt
+  stored : (k : ℕ) → k ≤ data_fields s → Begun (walk_at s octets k) → Storage s (walk_at s octets k)
+  unfolding walk_at
   stored zero h begun = absurd (begun refl refl)
   stored (suc k) h begun =
       let before = stored k (omega arith) in
-      next-step (λ (w : Walk). Begun w → Storage s w) s octets k (λ ended. before) (λ going ignored. before)
+      next_step (λ (w : Walk). Begun w → Storage s w) s octets k (λ ended. before) (λ going ignored. before)
       (λ begins begun. stored_next k (omega arith) begins before)
       (λ going heard other begun. let held = before (λ none first. other first) in record { cylinder = held.cylinder; head = held.head; sets = held.sets })
       begun
 
-  begun-at-end : Begun (walkAt s octets (dataFields s))
-  begun-at-end none first = by-standing (walkAt s octets (dataFields s)) (ended alone s octets accepted) (standing s octets (dataFields s)) none first
+  begun_at_end : Begun (walk_at s octets (data_fields s))
+  begun_at_end none first = by_standing (walk_at s octets (data_fields s)) (ended alone s octets accepted) (standing s octets (data_fields s)) none first
     where
-      by-standing : (w : Walk) → isEnded w ≡ true → Standing s octets (dataFields s) w → Begun w
-      by-standing w e (at-outset o) none first = false≢true (ap (λ (w : Walk). w.last) (sym o) ∙ and_l w.last _ e)
-      by-standing w e (in-set low high same r) none first = omega arith
-      by-standing w e (behind-set first' next r) none first = omega arith
+      by_standing : (w : Walk) → is_ended w ≡ true → Standing s octets (data_fields s) w → Begun w
+      by_standing w e (at_outset o) none first = false≢true (ap (λ (w : Walk). w.last) (sym o) ∙ and_l w.last _ e)
+      by_standing w e (in_set low high same r) none first = omega arith
+      by_standing w e (behind_set first' next r) none first = omega arith
 
-  pub stored-at-end : Storage s (walkAt s octets (dataFields s))
-  stored-at-end = stored (dataFields s) (le_refl (dataFields s)) begun-at-end
+  pub stored_at_end : Storage s (walk_at s octets (data_fields s))
+  stored_at_end = stored (data_fields s) (le_refl (data_fields s)) begun_at_end
 
-  pub storage-inside : ((walkAt s octets (dataFields s)).cylinder < s.cylinders) × ((walkAt s octets (dataFields s)).head < s.heads)
-  storage-inside = (stored-at-end.cylinder, stored-at-end.head)
+  pub storage_inside : ((walk_at s octets (data_fields s)).cylinder < s.cylinders) × ((walk_at s octets (data_fields s)).head < s.heads)
+  storage_inside = (stored_at_end.cylinder, stored_at_end.head)
 
 pub decoded : Decoded
 decoded =
     record {
-      defects-inside = λ alone s octets accepted. listable-before alone s octets accepted (dataFields s) (le_refl (dataFields s));
-      storage-inside = storage-inside;
+      defects_inside = λ alone s octets accepted. listable_before alone s octets accepted (data_fields s) (le_refl (data_fields s));
+      storage_inside = storage_inside;
     }

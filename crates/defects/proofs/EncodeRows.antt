@@ -10,54 +10,54 @@ use borrow.Author.Tests.{lt-ltb, le-ltb, ltb-false, not-false}
 use lib.Dec.{eqb, ltb}
 use lib.ListN.{length}
 use lib.Seq.{take_all}
-use Rattle.laws.specs.Lists.{writtenOver}
+use Rattle.laws.specs.Lists.{written_over}
 use Rattle.laws.proofs.Tests.{or_r}
-use Rattle.parts.specs.Setup.{withinLimits, allWords}
+use Rattle.parts.specs.Setup.{within_limits, all_words}
 use Rattle.parts.specs.declared.setup.Setup.{Setup}
 use Rattle.parts.proofs.Bounds.{limits}
-use Rattle.defects.specs.Place.{fieldOctets}
-use Rattle.defects.specs.Encoding.{setsFor, mapOctets, mapLength, isEncodable}
-use Rattle.defects.specs.EncodeSteps.{valueIn, Planned, FieldsPut, HasRoom}
+use Rattle.defects.specs.Place.{field_octets}
+use Rattle.defects.specs.Encoding.{sets_for, map_octets, map_length, is_encodable}
+use Rattle.defects.specs.EncodeSteps.{value_in, Planned, FieldsPut, HasRoom}
 use Rattle.defects.specs.declared.body.Job.{Job}
-use Rattle.defects.proofs.Plans.{plan, all-octets}
+use Rattle.defects.proofs.Plans.{plan, all_octets}
 
 -- 10, without a product that can be too large for a number
 pub record Told (s : Setup) (count size sets : ℕ) : Type 0 where
-  pub limits : withinLimits s ≡ true
-  pub sized : size ≡ fieldOctets s
-  pub counted : sets ≡ setsFor s count
+  pub limits : within_limits s ≡ true
+  pub sized : size ≡ field_octets s
+  pub counted : sets ≡ sets_for s count
 
 module _ {s : Setup} {count size sets : ℕ} (told : Told s count size sets) where
-  pub some-octets : 0 < 3 * size
-  some-octets = let l = limits s told.limits in omega arith
+  pub some_octets : 0 < 3 * size
+  some_octets = let l = limits s told.limits in omega arith
 
-  pub length-told : sets * (3 * size) ≡ mapLength s count
-  length-told = rw (told.sized, told.counted) (omega arith)
+  pub length_told : sets * (3 * size) ≡ map_length s count
+  length_told = rw (told.sized, told.counted) (omega arith)
 
-  pub lacks-octets : (room : ℕ) → room / (3 * size) < sets → ltb room (mapLength s count) ≡ true
-  lacks-octets room h = lt-ltb room (mapLength s count) (omega (arith, (div-lt_iff_lt-mul {k = 3 * size} {x = room} {y = sets} some-octets).0 h, length-told))
+  pub lacks_octets : (room : ℕ) → room / (3 * size) < sets → ltb room (map_length s count) ≡ true
+  lacks_octets room h = lt-ltb room (map_length s count) (omega (arith, (div-lt_iff_lt-mul {k = 3 * size} {x = room} {y = sets} some_octets).0 h, length_told))
 
-  pub has-octets : (room : ℕ) → sets ≤ room / (3 * size) → ltb room (mapLength s count) ≡ false
-  has-octets room h = le-ltb room (mapLength s count) (omega (arith, (le-div_iff_mul-le {k = 3 * size} {x = sets} {y = room} some-octets).0 h, length-told))
+  pub has_octets : (room : ℕ) → sets ≤ room / (3 * size) → ltb room (map_length s count) ≡ false
+  has_octets room h = le-ltb room (map_length s count) (omega (arith, (le-div_iff_mul-le {k = 3 * size} {x = sets} {y = room} some_octets).0 h, length_told))
 
 -- 8 not given
-pub planned : {s : Setup} {job : Job} {octets : List ℕ} → withinLimits s ≡ true → job.sets ≡ setsFor s (length octets / 12)
-    → not (eqb (length octets % 12) 0) || not (isEncodable s (valueIn job octets)) ≡ false → Planned s job octets
-planned {s} {job} {octets} w n e = record { limits = w; encodable = not-false (isEncodable s (valueIn job octets)) (or_r (not (eqb (length octets % 12) 0)) _ e); sets = n }
+pub planned : {s : Setup} {job : Job} {octets : List ℕ} → within_limits s ≡ true → job.sets ≡ sets_for s (length octets / 12)
+    → not (eqb (length octets % 12) 0) || not (is_encodable s (value_in job octets)) ≡ false → Planned s job octets
+planned {s} {job} {octets} w n e = record { limits = w; encodable = not-false (is_encodable s (value_in job octets)) (or_r (not (eqb (length octets % 12) 0)) _ e); sets = n }
 
 -- 10 not given
-pub room-in-octets : {s : Setup} {job : Job} {octets out sectors : List ℕ} → Planned s job octets → job.stored ≡ false
-    → ltb (length out) (mapLength s (length octets / 12)) ≡ false → HasRoom s job out sectors
-room-in-octets {s} {job} {octets} {out} p here e =
-    record { octets = λ _. rw p.sets (ltb-false (length out) (mapLength s (length octets / 12)) e); words = λ there. absurd (false≢true (sym here ∙ there)) }
+pub room_in_octets : {s : Setup} {job : Job} {octets out sectors : List ℕ} → Planned s job octets → job.stored ≡ false
+    → ltb (length out) (map_length s (length octets / 12)) ≡ false → HasRoom s job out sectors
+room_in_octets {s} {job} {octets} {out} p here e =
+    record { octets = λ _. rw p.sets (ltb-false (length out) (map_length s (length octets / 12)) e); words = λ there. absurd (false≢true (sym here ∙ there)) }
 
-pub room-in-words : {s : Setup} {job : Job} {out sectors : List ℕ} → job.stored ≡ true → ltb (length sectors) (allWords s) ≡ false → HasRoom s job out sectors
-room-in-words {s} {job} {out} {sectors} here e =
-    record { octets = λ there. absurd (true≢false (sym here ∙ there)); words = λ _. ltb-false (length sectors) (allWords s) e }
+pub room_in_words : {s : Setup} {job : Job} {out sectors : List ℕ} → job.stored ≡ true → ltb (length sectors) (all_words s) ≡ false → HasRoom s job out sectors
+room_in_words {s} {job} {out} {sectors} here e =
+    record { octets = λ there. absurd (true≢false (sym here ∙ there)); words = λ _. ltb-false (length sectors) (all_words s) e }
 
 -- ---- the map is there
 
-pub whole-map : {s : Setup} {job : Job} {octets out out' sectors sectors' : List ℕ} → Planned s job octets
-    → FieldsPut s false (mapOctets s (valueIn job octets)) (3 * job.sets) out out' sectors sectors' → out' ≡ writtenOver out (mapOctets s (valueIn job octets))
-whole-map {s} {job} {octets} {out} p put =
-    put.octets refl ∙ ap (writtenOver out) (take_all (3 * job.sets * _) (mapOctets s (valueIn job octets)) (omega (arith, all-octets (plan p))))
+pub whole_map : {s : Setup} {job : Job} {octets out out' sectors sectors' : List ℕ} → Planned s job octets
+    → FieldsPut s false (map_octets s (value_in job octets)) (3 * job.sets) out out' sectors sectors' → out' ≡ written_over out (map_octets s (value_in job octets))
+whole_map {s} {job} {octets} {out} p put =
+    put.octets refl ∙ ap (written_over out) (take_all (3 * job.sets * _) (map_octets s (value_in job octets)) (omega (arith, all_octets (plan p))))

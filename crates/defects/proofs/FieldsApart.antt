@@ -7,11 +7,11 @@ use native.Mathlib.Nat.{mul-le-mul_right, suc-mul, mul-add-mod_self_right, mod-e
 use native.Mathlib.Omega.{arith}
 use borrow.Author.Tests.{le-ltb, lt-leb, ltb-true, ltb-false}
 use lib.Dec.{ltb, leb}
-use Rattle.parts.specs.Setup.{withinLimits, sectorWords, sectorNumber, sectorStart}
+use Rattle.parts.specs.Setup.{within_limits, sector_words, sector_number, sector_start}
 use Rattle.parts.specs.declared.setup.Setup.{Setup}
-use Rattle.defects.specs.Place.{dataFields, place_of}
-use Rattle.defects.specs.Sectors.{fieldStart}
-use Rattle.defects.specs.OnTheCylinder.{isOfField}
+use Rattle.defects.specs.Place.{data_fields, place_of}
+use Rattle.defects.specs.Sectors.{field_start}
+use Rattle.defects.specs.OnTheCylinder.{is_of_field}
 use Rattle.defects.proofs.Fields.{field}
 use Rattle.defects.proofs.Places.{places}
 
@@ -22,29 +22,29 @@ same_parts n a b x y hx hy e =
     (eq_of_mul-eq-mul_right n (omega arith) a b (omega arith), rest)
 
 abbrev number_of : Setup → ℕ → ℕ
-number_of s k = sectorNumber s (place_of s k)
+number_of s k = sector_number s (place_of s k)
 
-same-sector : (s : Setup) (j k : ℕ) → withinLimits s ≡ true → j < dataFields s → k < dataFields s → number_of s j ≡ number_of s k → j ≡ k
-unfolding sectorNumber place_of
-same-sector s j k w hj hk e =
+same_sector : (s : Setup) (j k : ℕ) → within_limits s ≡ true → j < data_fields s → k < data_fields s → number_of s j ≡ number_of s k → j ≡ k
+unfolding sector_number place_of
+same_sector s j k w hj hk e =
     let (track, sector) = same_parts s.sectors _ _ (j % s.sectors) (k % s.sectors) (field s j w hj).sector (field s k w hk).sector e in
     let head : (place_of s j).head ≡ (place_of s k).head = omega arith in
     places.distinct s j k w hj hk (λ i. record { cylinder = s.cylinders - 1; head = head i; sector = sector i })
 
 -- of two sectors the one with the higher number begins behind the other
-sector-behind : (words a b : ℕ) → a < b → a * words + words ≤ b * words
-sector-behind words a b h = omega (arith, mul-le-mul_right {m = suc a} words h, suc-mul a words)
+sector_behind : (words a b : ℕ) → a < b → a * words + words ≤ b * words
+sector_behind words a b h = omega (arith, mul-le-mul_right {m = suc a} words h, suc-mul a words)
 
-pub fields-apart : (s : Setup) (j k i : ℕ) → withinLimits s ≡ true → j < dataFields s → k < dataFields s → (j ≡ k → ⊥) → i < s.field1
-    → isOfField s j (fieldStart s k + i) ≡ false
-unfolding fieldStart sectorStart
-fields-apart s j k i w hj hk other h = by-test (ltb (number_of s j) (number_of s k)) refl
+pub fields_apart : (s : Setup) (j k i : ℕ) → within_limits s ≡ true → j < data_fields s → k < data_fields s → (j ≡ k → ⊥) → i < s.field1
+    → is_of_field s j (field_start s k + i) ≡ false
+unfolding field_start sector_start
+fields_apart s j k i w hj hk other h = by_test (ltb (number_of s j) (number_of s k)) refl
   where
-    by-test : (below : Bool) → ltb (number_of s j) (number_of s k) ≡ below → isOfField s j (fieldStart s k + i) ≡ false
-    by-test true e =
-        let far = sector-behind (sectorWords s) (number_of s j) (number_of s k) (ltb-true _ _ e) in
-        rw (le-ltb (fieldStart s k + i) (fieldStart s j + s.field1) (omega arith)) (and-false (leb (fieldStart s j) (fieldStart s k + i)))
-    by-test false e =
-        let differ : number_of s j ≡ number_of s k → ⊥ = λ same. other (same-sector s j k w hj hk same) in
-        let far = sector-behind (sectorWords s) (number_of s k) (number_of s j) (omega (arith, ltb-false (number_of s j) (number_of s k) e)) in
-        rw (lt-leb (fieldStart s j) (fieldStart s k + i) (omega arith))
+    by_test : (below : Bool) → ltb (number_of s j) (number_of s k) ≡ below → is_of_field s j (field_start s k + i) ≡ false
+    by_test true e =
+        let far = sector_behind (sector_words s) (number_of s j) (number_of s k) (ltb-true _ _ e) in
+        rw (le-ltb (field_start s k + i) (field_start s j + s.field1) (omega arith)) (and-false (leb (field_start s j) (field_start s k + i)))
+    by_test false e =
+        let differ : number_of s j ≡ number_of s k → ⊥ = λ same. other (same_sector s j k w hj hk same) in
+        let far = sector_behind (sector_words s) (number_of s k) (number_of s j) (omega (arith, ltb-false (number_of s j) (number_of s k) e)) in
+        rw (lt-leb (field_start s j) (field_start s k + i) (omega arith))

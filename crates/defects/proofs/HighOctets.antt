@@ -4,19 +4,19 @@ use Prim.Native.Nat.{ℕ, ◌/◌, ◌%◌, ◌<◌, ◌^◌}
 use mathlib.Core.Path.{◌≡◌}
 use mathlib.Core.List.{List, [], ◌∷◌}
 use native.Mathlib.Omega.{arith}
-use Rattle.laws.specs.Octets.{octetsOf}
+use Rattle.laws.specs.Octets.{octets_of}
 
-pub word-high : (n : ℕ) → n < 2 ^ 16 → n / 256 ≡ n / 256 % 256
-word-high n h = omega arith
+pub word_high : (n : ℕ) → n < 2 ^ 16 → n / 256 ≡ n / 256 % 256
+word_high n h = omega arith
 
-long-high : (n : ℕ) → n < 2 ^ 32 → n / 0x100_0000 ≡ n / 256 / 256 / 256 % 256
-long-high n h = omega arith
+long_high : (n : ℕ) → n < 2 ^ 32 → n / 0x100_0000 ≡ n / 256 / 256 / 256 % 256
+long_high n h = omega arith
 
-long-next : (n : ℕ) → n / 0x1_0000 % 256 ≡ n / 256 / 256 % 256
-long-next n = omega arith
+long_next : (n : ℕ) → n / 0x1_0000 % 256 ≡ n / 256 / 256 % 256
+long_next n = omega arith
 
-pub word-octets : (n : ℕ) → n < 2 ^ 16 → ◌≡◌ {A = List ℕ} (n / 256 ∷ n % 256 ∷ []) (octetsOf 2 n)
-word-octets n h = λ i. word-high n h i ∷ n % 256 ∷ []
+pub word_octets_lem : (n : ℕ) → n < 2 ^ 16 → ◌≡◌ {A = List ℕ} (n / 256 ∷ n % 256 ∷ []) (octets_of 2 n)
+word_octets_lem n h = λ i. word_high n h i ∷ n % 256 ∷ []
 
-pub long-octets : (n : ℕ) → n < 2 ^ 32 → ◌≡◌ {A = List ℕ} (n / 0x100_0000 ∷ n / 0x1_0000 % 256 ∷ n / 0x100 % 256 ∷ n % 256 ∷ []) (octetsOf 4 n)
-long-octets n h = λ i. long-high n h i ∷ long-next n i ∷ n / 0x100 % 256 ∷ n % 256 ∷ []
+pub long_octets : (n : ℕ) → n < 2 ^ 32 → ◌≡◌ {A = List ℕ} (n / 0x100_0000 ∷ n / 0x1_0000 % 256 ∷ n / 0x100 % 256 ∷ n % 256 ∷ []) (octets_of 4 n)
+long_octets n h = λ i. long_high n h i ∷ long_next n i ∷ n / 0x100 % 256 ∷ n % 256 ∷ []

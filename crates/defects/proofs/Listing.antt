@@ -7,11 +7,11 @@ use mathlib.Core.List.{List, []}
 use native.Mathlib.Nat.{add-zero}
 use native.Mathlib.Omega.{arith}
 use lib.ListN.{length}
-use Rattle.laws.proofs.Windows.{length-written, written_none, written_on}
-use Rattle.laws.specs.Lists.{writtenAt}
-use Rattle.defects.specs.Defect.{defectAt, defectOctets, listOctets, isBlank}
-use Rattle.defects.specs.Field.{slots, defectsFrom, defectsIn}
-use Rattle.defects.proofs.DefectOctets.{length-defect-octets}
+use Rattle.laws.proofs.Windows.{length_written, written_none, written_on}
+use Rattle.laws.specs.Lists.{written_at}
+use Rattle.defects.specs.Defect.{defect_at, defect_octets, list_octets, is_blank}
+use Rattle.defects.specs.Field.{slots, defects_from, defects_in}
+use Rattle.defects.proofs.DefectOctets.{length_defect_octets}
 use Rattle.defects.proofs.EntriesLeft.{one_left}
 
 -- i entries are listed
@@ -19,9 +19,9 @@ pub record Listing (field : List ℕ) (count : ℕ) (defects₀ : List ℕ) (all
   pub counted : all ≡ slots (length field)
   pub within : i ≤ slots (length field)
   pub kept : length defects ≡ length defects₀
-  pub many : length (defectsIn field) ≡ i + length (defectsFrom field (14 + 12 * i) (slots (length field) - i))
-  pub left : writtenAt defects₀ (12 * count) (listOctets (defectsIn field))
-      ≡ writtenAt defects (12 * (count + i)) (listOctets (defectsFrom field (14 + 12 * i) (slots (length field) - i)))
+  pub many : length (defects_in field) ≡ i + length (defects_from field (14 + 12 * i) (slots (length field) - i))
+  pub left : written_at defects₀ (12 * count) (list_octets (defects_in field))
+      ≡ written_at defects (12 * (count + i)) (list_octets (defects_from field (14 + 12 * i) (slots (length field) - i)))
 
 module _ (field : List ℕ) (count : ℕ) (defects₀ : List ℕ) (all : ℕ) where
   pub listing_start : all ≡ slots (length field) → Listing field count defects₀ all defects₀ 0
@@ -31,27 +31,27 @@ module _ (field : List ℕ) (count : ℕ) (defects₀ : List ℕ) (all : ℕ) wh
       record { counted = e; within = omega arith; kept = refl; many = rw none (omega arith); left = rw (none, here) }
 
   -- nothing is left
-  pub listing_none : (defects : List ℕ) (i : ℕ) → Listing field count defects₀ all defects i → defectsFrom field (14 + 12 * i) (slots (length field) - i) ≡ []
-      → (count + i ≡ count + length (defectsIn field)) × (defects ≡ writtenAt defects₀ (12 * count) (listOctets (defectsIn field)))
+  pub listing_none : (defects : List ℕ) (i : ℕ) → Listing field count defects₀ all defects i → defects_from field (14 + 12 * i) (slots (length field) - i) ≡ []
+      → (count + i ≡ count + length (defects_in field)) × (defects ≡ written_at defects₀ (12 * count) (list_octets (defects_in field)))
   listing_none defects i l e =
       (ap (λ (n : ℕ). count + n) (sym (l.many ∙ rw (e, add-zero))), sym (l.left ∙ rw e (written_none defects (12 * (count + i)))))
 
   -- one more
-  pub listing-next : (defects : List ℕ) (i : ℕ) → Listing field count defects₀ all defects i → i < slots (length field)
-      → isBlank (defectAt (14 + 12 * i) field) ≡ false → 12 * (count + length (defectsIn field)) ≤ length defects₀
-      → Listing field count defects₀ all (writtenAt defects (12 * (count + i)) (defectOctets (defectAt (14 + 12 * i) field))) (i + 1)
-  listing-next defects i l h b room =
-      let d = defectAt (14 + 12 * i) field in
+  pub listing_next : (defects : List ℕ) (i : ℕ) → Listing field count defects₀ all defects i → i < slots (length field)
+      → is_blank (defect_at (14 + 12 * i) field) ≡ false → 12 * (count + length (defects_in field)) ≤ length defects₀
+      → Listing field count defects₀ all (written_at defects (12 * (count + i)) (defect_octets (defect_at (14 + 12 * i) field))) (i + 1)
+  listing_next defects i l h b room =
+      let d = defect_at (14 + 12 * i) field in
       let one = one_left field i (14 + 12 * i) h b in
-      let twelve = length-defect-octets d in
+      let twelve = length_defect_octets d in
       let ahead : 14 + 12 * i + 12 ≡ 14 + 12 * (i + 1) = omega arith in
-      let on : 12 * (count + i) + length (defectOctets d) ≡ 12 * (count + (i + 1)) = omega arith in
-      let many : length (defectsIn field) ≡ i + 1 + length (defectsFrom field (14 + 12 * (i + 1)) (slots (length field) - (i + 1))) = l.many ∙ rw (one, ahead) (omega arith) in
-      let fits : 12 * (count + i) + length (defectOctets d) ≤ length defects = omega (arith, l.kept) in
+      let on : 12 * (count + i) + length (defect_octets d) ≡ 12 * (count + (i + 1)) = omega arith in
+      let many : length (defects_in field) ≡ i + 1 + length (defects_from field (14 + 12 * (i + 1)) (slots (length field) - (i + 1))) = l.many ∙ rw (one, ahead) (omega arith) in
+      let fits : 12 * (count + i) + length (defect_octets d) ≤ length defects = omega (arith, l.kept) in
       record {
         counted = l.counted;
         within = omega arith;
-        kept = length-written defects (12 * (count + i)) (defectOctets d) fits ∙ l.kept;
+        kept = length_written defects (12 * (count + i)) (defect_octets d) fits ∙ l.kept;
         many = many;
-        left = l.left ∙ rw (one, ahead) (written_on defects (12 * (count + i)) (defectOctets d) _ fits ∙ rw on);
+        left = l.left ∙ rw (one, ahead) (written_on defects (12 * (count + i)) (defect_octets d) _ fits ∙ rw on);
       }

@@ -9,61 +9,61 @@ use native.Mathlib.Nat.{mul-le-mul, mul-le-mul_right}
 use native.Mathlib.Omega.{arith}
 use lib.ListN.{length, take, drop}
 use Rattle.laws.specs.Pick.{pick}
-use Rattle.parts.specs.Setup.{withinLimits}
+use Rattle.parts.specs.Setup.{within_limits}
 use Rattle.parts.specs.declared.setup.Setup.{Setup}
 use Rattle.parts.proofs.Bounds.{limits}
-use Rattle.defects.specs.Place.{fieldOctets, dataFields}
-use Rattle.defects.specs.Sectors.{lastCylinder}
+use Rattle.defects.specs.Place.{field_octets, data_fields}
+use Rattle.defects.specs.Sectors.{last_cylinder}
 use Rattle.defects.specs.Walk.{field_at}
-use Rattle.defects.specs.Steps.{stringIn, Loadable, Judgeable}
+use Rattle.defects.specs.Steps.{string_in, Loadable, Judgeable}
 use Rattle.defects.specs.declared.walk.Walk.{Walk}
-use Rattle.defects.proofs.Fields.{some-field, few-fields, field-length}
+use Rattle.defects.proofs.Fields.{some_field, few_fields, field_length}
 
 -- an offset up to the end of the last cylinder
-pub start-few : (s : Setup) (k : ℕ) → withinLimits s ≡ true → k ≤ dataFields s → k * fieldOctets s ≤ 2 ^ 24
-start-few s k small h =
+pub start_few : (s : Setup) (k : ℕ) → within_limits s ≡ true → k ≤ data_fields s → k * field_octets s ≤ 2 ^ 24
+start_few s k small h =
     let few = limits s small in
-    mul-le-mul {n₁ = k} {n₂ = 8192} {m₂ = 2048} (omega (arith, few-fields s few)) (omega arith)
+    mul-le-mul {n₁ = k} {n₂ = 8192} {m₂ = 2048} (omega (arith, few_fields s few)) (omega arith)
 
-pub loadable-before : {s : Setup} {inSectors : Bool} {octets sectors : List ℕ} {k : ℕ} (j : ℕ) → Loadable s inSectors octets sectors k → j ≤ k
+pub loadable_before : {s : Setup} {inSectors : Bool} {octets sectors : List ℕ} {k : ℕ} (j : ℕ) → Loadable s inSectors octets sectors k → j ≤ k
     → Loadable s inSectors octets sectors j
-loadable-before {s} {k = k} j l h =
-    let low : j * fieldOctets s ≤ k * fieldOctets s = mul-le-mul_right (fieldOctets s) h in
+loadable_before {s} {k = k} j l h =
+    let low : j * field_octets s ≤ k * field_octets s = mul-le-mul_right (field_octets s) h in
     record { limits = l.limits; room = l.room; inside = omega (arith, l.inside); whole = omega (arith, l.whole) }
 
-pub length-loaded : {s : Setup} {inSectors : Bool} {octets sectors : List ℕ} {k : ℕ} → Loadable s inSectors octets sectors k
-    → length (field_at s (stringIn s inSectors octets sectors) k) ≡ fieldOctets s
-length-loaded {s} {inSectors} {octets} {sectors} {k} l = field-length s (stringIn s inSectors octets sectors) k l.whole
+pub length_loaded : {s : Setup} {inSectors : Bool} {octets sectors : List ℕ} {k : ℕ} → Loadable s inSectors octets sectors k
+    → length (field_at s (string_in s inSectors octets sectors) k) ≡ field_octets s
+length_loaded {s} {inSectors} {octets} {sectors} {k} l = field_length s (string_in s inSectors octets sectors) k l.whole
 
 -- ---- where it stands
 
 module _ {s : Setup} {inSectors : Bool} {octets sectors : List ℕ} {k : ℕ} (l : Loadable s inSectors octets sectors k) where
   -- read off the last cylinder
-  pub off-the-cylinder : (field : List ℕ) → inSectors ≡ true → field ≡ field_at s (lastCylinder s sectors) k → field ≡ field_at s (stringIn s inSectors octets sectors) k
+  pub off_the_cylinder : (field : List ℕ) → inSectors ≡ true → field ≡ field_at s (last_cylinder s sectors) k → field ≡ field_at s (string_in s inSectors octets sectors) k
   unfolding pick
-  off-the-cylinder field e p = rw e p
+  off_the_cylinder field e p = rw e p
 
   -- a window of the octets
-  module _ (at each : ℕ) (e : inSectors ≡ false) (starts : at ≡ k * fieldOctets s) (size : each ≡ fieldOctets s) where
-    pub window : take (at + each - at) (drop at octets) ≡ field_at s (stringIn s inSectors octets sectors) k
+  module _ (at each : ℕ) (e : inSectors ≡ false) (starts : at ≡ k * field_octets s) (size : each ≡ field_octets s) where
+    pub window : take (at + each - at) (drop at octets) ≡ field_at s (string_in s inSectors octets sectors) k
     unfolding pick field_at
     window = let count : at + each - at ≡ each = omega arith in rw (count, e, starts, size)
 
-    pub window-inside : at + each ≤ length octets
+    pub window_inside : at + each ≤ length octets
     unfolding pick
-    window-inside = rw (starts, size) (rw e at l.whole)
+    window_inside = rw (starts, size) (rw e at l.whole)
 
 pub judgeable : {s : Setup} {inSectors : Bool} {octets sectors : List ℕ} {k : ℕ} (w : Walk) (start : ℕ) (original field : List ℕ)
-    → Loadable s inSectors octets sectors k → w.set < 2 ^ 32 → w.original ≤ k → start ≡ k * fieldOctets s
-    → original ≡ field_at s (stringIn s inSectors octets sectors) w.original → field ≡ field_at s (stringIn s inSectors octets sectors) k
+    → Loadable s inSectors octets sectors k → w.set < 2 ^ 32 → w.original ≤ k → start ≡ k * field_octets s
+    → original ≡ field_at s (string_in s inSectors octets sectors) w.original → field ≡ field_at s (string_in s inSectors octets sectors) k
     → Judgeable s w start original field
 judgeable {s} {k = k} w start original field l few before e p q =
     let small = limits s l.limits in
-    let some = some-field s k l.inside in
-    let size = ap length q ∙ length-loaded l in
-    let size' = ap length p ∙ length-loaded (loadable-before w.original l before) in
+    let some = some_field s k l.inside in
+    let size = ap length q ∙ length_loaded l in
+    let size' = ap length p ∙ length_loaded (loadable_before w.original l before) in
     record {
-      sized = record { limits = l.limits; least = omega arith; most = omega arith; within = omega (arith, start-few s k l.limits (omega (arith, l.inside))) };
+      sized = record { limits = l.limits; least = omega arith; most = omega arith; within = omega (arith, start_few s k l.limits (omega (arith, l.inside))) };
       alike = size' ∙ sym size;
       few = few;
     }

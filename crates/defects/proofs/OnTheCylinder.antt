@@ -12,117 +12,117 @@ use lib.Dec.{eqb, ltb}
 use lib.ListN.{length, get_or, take}
 use lib.Seq.{take_all}
 use Rattle.laws.specs.Pick.{pick}
-use Rattle.laws.specs.Lists.{writtenOver}
+use Rattle.laws.specs.Lists.{written_over}
 use Rattle.laws.proofs.Pick.{not_f}
-use Rattle.parts.specs.Setup.{withinLimits, allWords}
+use Rattle.parts.specs.Setup.{within_limits, all_words}
 use Rattle.parts.specs.declared.setup.Setup.{Setup}
-use Rattle.defects.specs.Offence.{noOffence, offenceAt}
-use Rattle.defects.specs.Defect.{listOctets}
-use Rattle.defects.specs.Place.{fieldOctets, dataFields}
+use Rattle.defects.specs.Offence.{no_offence, offence_at}
+use Rattle.defects.specs.Defect.{list_octets}
+use Rattle.defects.specs.Place.{field_octets, data_fields}
 use Rattle.defects.specs.Walk.{field_at}
-use Rattle.defects.specs.Decoding.{decodeOffence, defectsOf, mapOf, DecodedMap}
-use Rattle.defects.specs.Encoding.{Value, mapOctets}
-use Rattle.defects.specs.RoundTrip.{tellsOf}
-use Rattle.defects.specs.Sectors.{sectorField, lastCylinder, readOffence, readIn, ReadMap}
-use Rattle.defects.specs.OnTheCylinder.{CanBePut, fieldsFor, withMap, isOfField, asRead, OnTheCylinder}
+use Rattle.defects.specs.Decoding.{decode_offence, defects_of, map_of, DecodedMap}
+use Rattle.defects.specs.Encoding.{Value, map_octets}
+use Rattle.defects.specs.RoundTrip.{tells_of}
+use Rattle.defects.specs.Sectors.{sector_field, last_cylinder, read_offence, read_in, ReadMap}
+use Rattle.defects.specs.OnTheCylinder.{CanBePut, fields_for, with_map, is_of_field, as_read, OnTheCylinder}
 use Rattle.defects.specs.declared.decoding.MapRead.{MapRead}
 use Rattle.defects.specs.declared.defect.Defect.{Defect}
 use Rattle.defects.specs.declared.offence.Offence.{Offence}
-use Rattle.defects.proofs.Fields.{field-length, same-beginning}
-use Rattle.defects.proofs.Promised.{map-decoded, map_read}
-use Rattle.defects.proofs.Offences.{first-miss}
+use Rattle.defects.proofs.Fields.{field_length, same_beginning}
+use Rattle.defects.proofs.Promised.{map_decoded, map_read}
+use Rattle.defects.proofs.Offences.{first_miss}
 use Rattle.defects.proofs.EncodableValue.{Encodable, encodable}
-use Rattle.defects.proofs.EncodedMap.{Begins, length-map, map-alone}
-use Rattle.defects.proofs.EncodedOctets.{map-is-octets}
-use Rattle.defects.proofs.RoundTrip.{told-behind}
-use Rattle.defects.proofs.SectorFields.{field-of-cylinder, length-cylinder}
-use Rattle.defects.proofs.ReadIsDecode.{but-for-28, read-is-decode}
-use Rattle.defects.proofs.CutMap.{cut-map}
-use Rattle.defects.proofs.StoredFields.{length-stored, stored-outside, stored-field}
+use Rattle.defects.proofs.EncodedMap.{Begins, length-map, map_alone}
+use Rattle.defects.proofs.EncodedOctets.{map_is_octets}
+use Rattle.defects.proofs.RoundTrip.{told_behind}
+use Rattle.defects.proofs.SectorFields.{field_of_cylinder, length_cylinder}
+use Rattle.defects.proofs.ReadIsDecode.{but_for_28, read_is_decode}
+use Rattle.defects.proofs.CutMap.{cut_map}
+use Rattle.defects.proofs.StoredFields.{length_stored, stored_outside, stored_field}
 
 module _ (s : Setup) (v : Value) (sectors : List ℕ) (c : CanBePut s v sectors) where
   e : Encodable s v
   e = encodable s v c.limits c.value c.fitting
 
-  whole : (k : ℕ) → k < fieldsFor s v → length (field_at s (mapOctets s v) k) ≡ fieldOctets s
-  whole k h = field-length s (mapOctets s v) k (omega (arith, mul-le-mul_right {m = suc k} (fieldOctets s) h, length-map s v e.field1))
+  whole : (k : ℕ) → k < fields_for s v → length (field_at s (map_octets s v) k) ≡ field_octets s
+  whole k h = field_length s (map_octets s v) k (omega (arith, mul-le-mul_right {m = suc k} (field_octets s) h, length-map s v e.field1))
 
-  as_many : length (withMap s v sectors) ≡ length sectors
-  as_many = length-stored s (mapOctets s v) (fieldsFor s v) c.limits e.room whole sectors 0 (fieldsFor s v) c.room (omega arith)
+  as_many : length (with_map s v sectors) ≡ length sectors
+  as_many = length_stored s (map_octets s v) (fields_for s v) c.limits e.room whole sectors 0 (fields_for s v) c.room (omega arith)
 
-  in_place : (k : ℕ) → k < fieldsFor s v → sectorField s (withMap s v sectors) k ≡ field_at s (mapOctets s v) k
-  in_place k h = stored-field s (mapOctets s v) (fieldsFor s v) c.limits e.room whole sectors k c.room h (map-is-octets s v)
+  in_place_lem : (k : ℕ) → k < fields_for s v → sector_field s (with_map s v sectors) k ≡ field_at s (map_octets s v) k
+  in_place_lem k h = stored_field s (map_octets s v) (fields_for s v) c.limits e.room whole sectors k c.room h (map_is_octets s v)
 
-  others : (i : ℕ) → ((k : ℕ) → k < fieldsFor s v → isOfField s k i ≡ false) → get_or (withMap s v sectors) i 0 ≡ get_or sectors i 0
+  others : (i : ℕ) → ((k : ℕ) → k < fields_for s v → is_of_field s k i ≡ false) → get_or (with_map s v sectors) i 0 ≡ get_or sectors i 0
   others i out =
-      stored-outside s (mapOctets s v) (fieldsFor s v) c.limits e.room whole sectors 0 (fieldsFor s v) i c.room (omega arith)
+      stored_outside s (map_octets s v) (fields_for s v) c.limits e.room whole sectors 0 (fields_for s v) i c.room (omega arith)
       (λ k low high. out k (omega arith))
 
-  in-cylinder : (k : ℕ) → k < fieldsFor s v → field_at s (lastCylinder s (withMap s v sectors)) k ≡ field_at s (mapOctets s v) k
-  in-cylinder k h = field-of-cylinder s (withMap s v sectors) c.limits (omega (arith, as_many, c.room)) k (omega (arith, e.room)) ∙ in_place k h
+  in_cylinder : (k : ℕ) → k < fields_for s v → field_at s (last_cylinder s (with_map s v sectors)) k ≡ field_at s (map_octets s v) k
+  in_cylinder k h = field_of_cylinder s (with_map s v sectors) c.limits (omega (arith, as_many, c.room)) k (omega (arith, e.room)) ∙ in_place_lem k h
 
-  begins-with-map : take (length (mapOctets s v)) (lastCylinder s (withMap s v sectors)) ≡ mapOctets s v
-  begins-with-map =
+  begins_with_map : take (length (map_octets s v)) (last_cylinder s (with_map s v sectors)) ≡ map_octets s v
+  begins_with_map =
       let long = length-map s v e.field1 in
-      rw long (same-beginning s _ _ (fieldsFor s v) in-cylinder ∙ take_all (fieldsFor s v * fieldOctets s) (mapOctets s v) (omega arith))
+      rw long (same_beginning s _ _ (fields_for s v) in_cylinder ∙ take_all (fields_for s v * field_octets s) (map_octets s v) (omega arith))
 
-  begins : Begins s v (lastCylinder s (withMap s v sectors))
+  begins : Begins s v (last_cylinder s (with_map s v sectors))
   begins =
-      let map = map-alone s v e.field1 in
+      let map = map_alone s v e.field1 in
       record {
-        fields = λ set copy h l. in-cylinder (3 * set + copy) (omega arith) ∙ map.fields set copy h l;
-        long = omega (arith, length-cylinder s (withMap s v sectors) c.limits (omega (arith, as_many, c.room)), mul-le-mul_right (fieldOctets s) e.room);
+        fields = λ set copy h l. in_cylinder (3 * set + copy) (omega arith) ∙ map.fields set copy h l;
+        long = omega (arith, length_cylinder s (with_map s v sectors) c.limits (omega (arith, as_many, c.room)), mul-le-mul_right (field_octets s) e.room);
       }
 
-  read_back : (lent : List ℕ) → dataFields s * fieldOctets s / 3 ≤ length lent
-      → (readIn s (withMap s v sectors) lent ≡ tellsOf v) × (defectsOf s (lastCylinder s (withMap s v sectors)) ≡ v.defects)
+  read_back : (lent : List ℕ) → data_fields s * field_octets s / 3 ≤ length lent
+      → (read_in s (with_map s v sectors) lent ≡ tells_of v) × (defects_of s (last_cylinder s (with_map s v sectors)) ≡ v.defects)
   unfolding pick
   read_back lent room =
-      let after = withMap s v sectors in
-      let (none, told, listed) = told-behind s v (lastCylinder s after) e begins in
-      let held : (ltb (length after) (allWords s) || ltb (length lent) (dataFields s * fieldOctets s / 3)) ≡ false =
-      rw (le-ltb (length after) (allWords s) (omega (arith, as_many, c.room))) (le-ltb (length lent) (dataFields s * fieldOctets s / 3) room) in
-      let free : readOffence s after lent ≡ noOffence = sym (first-miss _ _ noOffence (not_f (withinLimits s) c.limits) (first-miss _ _ noOffence held (sym none))) in
+      let after = with_map s v sectors in
+      let (none, told, listed) = told_behind s v (last_cylinder s after) e begins in
+      let held : (ltb (length after) (all_words s) || ltb (length lent) (data_fields s * field_octets s / 3)) ≡ false =
+      rw (le-ltb (length after) (all_words s) (omega (arith, as_many, c.room))) (le-ltb (length lent) (data_fields s * field_octets s / 3) room) in
+      let free : read_offence s after lent ≡ no_offence = sym (first_miss _ _ no_offence (not_f (within_limits s) c.limits) (first_miss _ _ no_offence held (sym none))) in
       (rw free told, listed)
 
 -- ---- reading and decoding
 
 -- the same offence, and the same told
-same-promise : (s : Setup) (sectors octets before after : List ℕ) (r : MapRead) → readOffence s sectors before ≡ decodeOffence s octets before
-    → mapOf s (lastCylinder s sectors) ≡ mapOf s octets → defectsOf s (lastCylinder s sectors) ≡ defectsOf s octets
+same_promise : (s : Setup) (sectors octets before after : List ℕ) (r : MapRead) → read_offence s sectors before ≡ decode_offence s octets before
+    → map_of s (last_cylinder s sectors) ≡ map_of s octets → defects_of s (last_cylinder s sectors) ≡ defects_of s octets
     → ReadMap s sectors before after r ↔ DecodedMap s octets before after r
-same-promise s sectors octets before after r same told listed =
+same_promise s sectors octets before after r same told listed =
     let answers = ap₂ (λ (o : Offence) (map : MapRead). pick o.found (MapRead.Refused o.number o.offset) map) same told in
-    let slices = ap₂ (λ (o : Offence) (defects : List Defect). pick o.found before (writtenOver before (listOctets defects))) same listed in (
-      λ read. map-decoded (read.answer ∙ answers) (read.slice ∙ slices),
+    let slices = ap₂ (λ (o : Offence) (defects : List Defect). pick o.found before (written_over before (list_octets defects))) same listed in (
+      λ read. map_decoded (read.answer ∙ answers) (read.slice ∙ slices),
       λ decoded. map_read (decoded.answer ∙ sym answers) (decoded.slice ∙ sym slices),
     )
 
-module _ (s : Setup) (sectors before after : List ℕ) (r : MapRead) (small : withinLimits s ≡ true) (room : allWords s ≤ length sectors) where
-  promise-whole : eqb (decodeOffence s (lastCylinder s sectors) before).number 28 ≡ false
-      → ReadMap s sectors before after r ↔ DecodedMap s (lastCylinder s sectors) before after r
+module _ (s : Setup) (sectors before after : List ℕ) (r : MapRead) (small : within_limits s ≡ true) (room : all_words s ≤ length sectors) where
+  promise_whole : eqb (decode_offence s (last_cylinder s sectors) before).number 28 ≡ false
+      → ReadMap s sectors before after r ↔ DecodedMap s (last_cylinder s sectors) before after r
   unfolding pick
-  promise-whole e = same-promise s sectors (lastCylinder s sectors) before after r (read-is-decode s sectors before small room ∙ rw e) refl refl
+  promise_whole e = same_promise s sectors (last_cylinder s sectors) before after r (read_is_decode s sectors before small room ∙ rw e) refl refl
 
-  promise-cut : (offset : ℕ) → decodeOffence s (lastCylinder s sectors) before ≡ offenceAt 28 offset
-      → ReadMap s sectors before after r ↔ DecodedMap s (take offset (lastCylinder s sectors)) before after r
+  promise_cut : (offset : ℕ) → decode_offence s (last_cylinder s sectors) before ≡ offence_at 28 offset
+      → ReadMap s sectors before after r ↔ DecodedMap s (take offset (last_cylinder s sectors)) before after r
   unfolding pick
-  promise-cut offset e =
-      let (none, told, listed) = cut-map s (lastCylinder s sectors) before offset e in
-      same-promise s sectors (take offset (lastCylinder s sectors)) before after r (read-is-decode s sectors before small room ∙ ap (λ (o : Offence). asRead o) e ∙ sym none)
+  promise_cut offset e =
+      let (none, told, listed) = cut_map s (last_cylinder s sectors) before offset e in
+      same_promise s sectors (take offset (last_cylinder s sectors)) before after r (read_is_decode s sectors before small room ∙ ap (λ (o : Offence). as_read o) e ∙ sym none)
       (sym told) (sym listed)
 
-pub on-the-cylinder : OnTheCylinder
-on-the-cylinder =
+pub on_the_cylinder : OnTheCylinder
+on_the_cylinder =
     record {
-      as-many-words = as_many;
-      each-in-its-place = in_place;
-      write-is-encode = begins-with-map;
-      others-stay = others;
-      read-after-write = λ s v sectors lent c room. read_back s v sectors c lent room;
-      but-for-28 = but-for-28;
-      read-is-decode = read-is-decode;
-      same-promise = λ s sectors before after r small room e. promise-whole s sectors before after r small room e;
-      cut-where-it-ends = cut-map;
-      same-promise-cut = λ s sectors before after offset r small room e. promise-cut s sectors before after r small room offset e;
+      as_many_words = as_many;
+      each_in_its_place = in_place_lem;
+      write_is_encode = begins_with_map;
+      others_stay = others;
+      read_after_write = λ s v sectors lent c room. read_back s v sectors c lent room;
+      but_for_28 = but_for_28;
+      read_is_decode = read_is_decode;
+      same_promise = λ s sectors before after r small room e. promise_whole s sectors before after r small room e;
+      cut_where_it_ends = cut_map;
+      same_promise_cut = λ s sectors before after offset r small room e. promise_cut s sectors before after r small room offset e;
     }

@@ -10,87 +10,87 @@ use lib.Dec.{eqb}
 use lib.ListN.{length, take, drop, length-append}
 use lib.Seq.{take_at}
 use Rattle.laws.specs.Pick.{pick}
-use Rattle.laws.specs.Lists.{writtenOver}
+use Rattle.laws.specs.Lists.{written_over}
 use Rattle.laws.proofs.Pick.{not_f}
-use Rattle.laws.proofs.Rows.{none-given}
-use Rattle.parts.specs.Setup.{withinLimits}
+use Rattle.laws.proofs.Rows.{none_given}
+use Rattle.parts.specs.Setup.{within_limits}
 use Rattle.parts.specs.declared.setup.Setup.{Setup}
-use Rattle.defects.specs.Defect.{defectOctets, listOctets}
+use Rattle.defects.specs.Defect.{defect_octets, list_octets}
 use Rattle.defects.specs.Decoded.{WithoutOffence}
-use Rattle.defects.specs.Decoding.{decodeOffence, defectsOf, mapOf, DecodedMap}
-use Rattle.defects.specs.Encoding.{list_from, defectsListed, isEncodable, mapLength, mapOctets, encodeRows, EncodedMap}
+use Rattle.defects.specs.Decoding.{decode_offence, defects_of, map_of, DecodedMap}
+use Rattle.defects.specs.Encoding.{list_from, defects_listed, is_encodable, map_length, map_octets, encode_rows, EncodedMap}
 use Rattle.defects.specs.RoundTrip.{AllFitting}
 use Rattle.defects.specs.Plain.{value_of}
 use Rattle.defects.specs.declared.defect.Defect.{Defect}
 use Rattle.defects.specs.declared.decoding.MapRead.{MapRead}
 use Rattle.defects.specs.declared.encoding.MapEncoded.{MapEncoded}
-use Rattle.defects.proofs.Answers.{accepted-map}
-use Rattle.defects.proofs.Offences.{none-head}
-use Rattle.defects.proofs.DefectOctets.{length-defect-octets, length-list}
-use Rattle.defects.proofs.EncodedField.{defect-behind}
+use Rattle.defects.proofs.Answers.{accepted_map}
+use Rattle.defects.proofs.Offences.{none_head}
+use Rattle.defects.proofs.DefectOctets.{length_defect_octets, length_list}
+use Rattle.defects.proofs.EncodedField.{defect_behind}
 use Rattle.defects.proofs.EncodedMap.{length-map}
 
 -- ---- octets that list defects
 
-listed-behind : (defects : List Defect) (front : List ℕ) (start : ℕ) → length front ≡ start → AllFitting defects
-    → list_from (front ++ listOctets defects) start (length defects) ≡ defects
+listed_behind : (defects : List Defect) (front : List ℕ) (start : ℕ) → length front ≡ start → AllFitting defects
+    → list_from (front ++ list_octets defects) start (length defects) ≡ defects
 unfolding list_from
-listed-behind [] front start e f = refl
-listed-behind (d ∷ defects) front start e f =
-    let next : length (front ++ defectOctets d) ≡ start + 12 = omega (arith, length-append front (defectOctets d), length-defect-octets d) in
-    let rest = rw (append_assoc front (defectOctets d) (listOctets defects)) at (listed-behind defects (front ++ defectOctets d) (start + 12) next f.1) in
-    ap₂ (λ (x : Defect) (xs : List Defect). x ∷ xs) (defect-behind d front (listOctets defects) start e f.0) rest
+listed_behind [] front start e f = refl
+listed_behind (d ∷ defects) front start e f =
+    let next : length (front ++ defect_octets d) ≡ start + 12 = omega (arith, length-append front (defect_octets d), length_defect_octets d) in
+    let rest = rw (append_assoc front (defect_octets d) (list_octets defects)) at (listed_behind defects (front ++ defect_octets d) (start + 12) next f.1) in
+    ap₂ (λ (x : Defect) (xs : List Defect). x ∷ xs) (defect_behind d front (list_octets defects) start e f.0) rest
 
-listed-again : (defects : List Defect) → AllFitting defects → defectsListed (listOctets defects) ≡ defects
-listed-again defects f =
-    let count : length (listOctets defects) / 12 ≡ length defects = omega (arith, length-list defects) in
-    rw count (listed-behind defects [] 0 refl f)
+listed_again : (defects : List Defect) → AllFitting defects → defects_listed (list_octets defects) ≡ defects
+listed_again defects f =
+    let count : length (list_octets defects) / 12 ≡ length defects = omega (arith, length_list defects) in
+    rw count (listed_behind defects [] 0 refl f)
 
 -- ---- the calls
 
 pub record Told (s : Setup) (octets lent' : List ℕ) (count cylinder head : ℕ) : Type 0 where
-  pub limits : withinLimits s ≡ true
+  pub limits : within_limits s ≡ true
   pub accepted : WithoutOffence true s octets
-  pub count-is : count ≡ length (defectsOf s octets)
-  pub cylinder-is : cylinder ≡ (value_of s octets).cylinder
-  pub head-is : head ≡ (value_of s octets).head
-  pub listed : take (12 * count) lent' ≡ listOctets (defectsOf s octets)
+  pub count_is : count ≡ length (defects_of s octets)
+  pub cylinder_is : cylinder ≡ (value_of s octets).cylinder
+  pub head_is : head ≡ (value_of s octets).head
+  pub listed : take (12 * count) lent' ≡ list_octets (defects_of s octets)
 
 pub told : (s : Setup) (octets lent lent' : List ℕ) (count cylinder head : ℕ) → DecodedMap s octets lent lent' (MapRead.Map count cylinder head)
     → Told s octets lent' count cylinder head
 unfolding pick
 told s octets lent lent' count cylinder head d =
-    let o = decodeOffence s octets lent in
-    let defects = defectsOf s octets in
-    let (free, map) = accepted-map o (mapOf s octets) (MapRead.Map count cylinder head) (λ n offset e. cc) d.answer in
-    let (within, others) = none-head _ _ free in
+    let o = decode_offence s octets lent in
+    let defects = defects_of s octets in
+    let (free, map) = accepted_map o (map_of s octets) (MapRead.Map count cylinder head) (λ n offset e. cc) d.answer in
+    let (within, others) = none_head _ _ free in
     let many : count ≡ length defects = cc in
-    let written : lent' ≡ writtenOver lent (listOctets defects) = d.slice ∙ rw free in
-    let size : length (listOctets defects) ≡ 12 * count = omega (arith, length-list defects) in
+    let written : lent' ≡ written_over lent (list_octets defects) = d.slice ∙ rw free in
+    let size : length (list_octets defects) ≡ 12 * count = omega (arith, length_list defects) in
     record {
       limits = not-false _ within;
-      accepted = (none-head _ _ others).1;
-      count-is = many;
-      cylinder-is = cc;
-      head-is = cc;
-      listed = rw written (take_at (listOctets defects) (drop (length (listOctets defects)) lent) (12 * count) size);
+      accepted = (none_head _ _ others).1;
+      count_is = many;
+      cylinder_is = cc;
+      head_is = cc;
+      listed = rw written (take_at (list_octets defects) (drop (length (list_octets defects)) lent) (12 * count) size);
     }
 
-module _ (s : Setup) (octets lent' : List ℕ) (count cylinder head : ℕ) (t : Told s octets lent' count cylinder head) (fitting : AllFitting (defectsOf s octets))
-    (encodable : isEncodable s (value_of s octets) ≡ true) (wide : 8 ≤ s.field1) where
-  pub encoded-value : (before after : List ℕ) (answer : MapEncoded) → mapLength s count ≤ length before
+module _ (s : Setup) (octets lent' : List ℕ) (count cylinder head : ℕ) (t : Told s octets lent' count cylinder head) (fitting : AllFitting (defects_of s octets))
+    (encodable : is_encodable s (value_of s octets) ≡ true) (wide : 8 ≤ s.field1) where
+  pub encoded_value : (before after : List ℕ) (answer : MapEncoded) → map_length s count ≤ length before
       → EncodedMap s cylinder head (take (12 * count) lent') before after answer
-      → (answer ≡ MapEncoded.Written (mapLength s count)) × (take (mapLength s count) after ≡ mapOctets s (value_of s octets))
-  encoded-value before after answer room e =
+      → (answer ≡ MapEncoded.Written (map_length s count)) × (take (map_length s count) after ≡ map_octets s (value_of s octets))
+  encoded_value before after answer room e =
       let v = value_of s octets in
-      let list = listOctets v.defects in
-      let e' : EncodedMap s v.cylinder v.head list before after answer = rw (t.listed, t.cylinder-is, t.head-is) at e in
-      let again = listed-again v.defects fitting in
-      let many : length list / 12 ≡ count = omega (arith, length-list v.defects, t.count-is) in
-      let dozens : length list % 12 ≡ 0 = omega (arith, length-list v.defects) in
-      let value : (not (eqb (length list % 12) 0) || not (isEncodable s (record { cylinder = v.cylinder; head = v.head; defects = defectsListed list }))) ≡ false =
+      let list = list_octets v.defects in
+      let e' : EncodedMap s v.cylinder v.head list before after answer = rw (t.listed, t.cylinder_is, t.head_is) at e in
+      let again = listed_again v.defects fitting in
+      let many : length list / 12 ≡ count = omega (arith, length_list v.defects, t.count_is) in
+      let dozens : length list % 12 ≡ 0 = omega (arith, length_list v.defects) in
+      let value : (not (eqb (length list % 12) 0) || not (is_encodable s (record { cylinder = v.cylinder; head = v.head; defects = defects_listed list }))) ≡ false =
       rw (eq-eqb _ _ dozens, again, encodable) in
-      let free = none-given (encodeRows s v.cylinder v.head list (length before)) (not_f _ t.limits, (le-ltb (length before) (mapLength s (length list / 12)) (rw many room), (value, tt))) in
-      let slice : after ≡ writtenOver before (mapOctets s v) = e'.slice ∙ rw (free, again) in
-      let size = length-map s v wide ∙ ap (mapLength s) (sym t.count-is) in
-      (e'.answer ∙ rw (free, many), rw slice (take_at (mapOctets s v) (drop (length (mapOctets s v)) before) (mapLength s count) size))
+      let free = none_given (encode_rows s v.cylinder v.head list (length before)) (not_f _ t.limits, (le-ltb (length before) (map_length s (length list / 12)) (rw many room), (value, tt))) in
+      let slice : after ≡ written_over before (map_octets s v) = e'.slice ∙ rw (free, again) in
+      let size = length-map s v wide ∙ ap (map_length s) (sym t.count_is) in
+      (e'.answer ∙ rw (free, many), rw slice (take_at (map_octets s v) (drop (length (map_octets s v)) before) (map_length s count) size))

@@ -11,127 +11,127 @@ use lib.Dec.{eqb, ltb}
 use lib.ListN.{length}
 use Rattle.laws.specs.Pick.{pick}
 use Rattle.laws.proofs.Pick.{not_f}
-use Rattle.parts.specs.Setup.{withinLimits}
+use Rattle.parts.specs.Setup.{within_limits}
 use Rattle.parts.specs.declared.setup.Setup.{Setup}
-use Rattle.defects.specs.Offence.{noOffence, first_of}
-use Rattle.defects.specs.Defect.{behindAll}
-use Rattle.defects.specs.Field.{isIgnored}
-use Rattle.defects.specs.Place.{fieldOctets, dataFields}
-use Rattle.defects.specs.Judging.{fieldTests}
-use Rattle.defects.specs.Walk.{isEnded, field_at, testsAt, testsFrom, mapTests}
-use Rattle.defects.specs.Decoding.{decodeTests, defectsOf, mapOf, decodedIn}
-use Rattle.defects.specs.Encoding.{Value, dataField, mapOctets}
-use Rattle.defects.specs.RoundTrip.{tellsOf, MapRoundTrip}
+use Rattle.defects.specs.Offence.{no_offence, first_of}
+use Rattle.defects.specs.Defect.{behind_all}
+use Rattle.defects.specs.Field.{is_ignored}
+use Rattle.defects.specs.Place.{field_octets, data_fields}
+use Rattle.defects.specs.Judging.{field_tests}
+use Rattle.defects.specs.Walk.{is_ended, field_at, tests_at, tests_from, map_tests}
+use Rattle.defects.specs.Decoding.{decode_tests, defects_of, map_of, decoded_in}
+use Rattle.defects.specs.Encoding.{Value, data_field, map_octets}
+use Rattle.defects.specs.RoundTrip.{tells_of, MapRoundTrip}
 use Rattle.defects.specs.declared.defect.Defect.{Defect}
 use Rattle.defects.specs.declared.walk.Walk.{Walk}
 use Rattle.defects.proofs.Offences.{Passed, end, next, none_found, both}
 use Rattle.defects.proofs.EncodableValue.{sets, Encodable, encodable}
-use Rattle.defects.proofs.EncodedMap.{Begins, length-map, map-begins, map-alone}
-use Rattle.defects.proofs.EncodedWalk.{StandsAt, withinSet, beforeSet, original-due, not-ended, is-ended, track-told, not-ignored, original-at, at-original, at_second, at-third, behind-end}
-use Rattle.defects.proofs.EncodedTests.{original-passed, copy_passed}
+use Rattle.defects.proofs.EncodedMap.{Begins, length-map, map_begins, map_alone}
+use Rattle.defects.proofs.EncodedWalk.{StandsAt, within_set, before_set, original_due, not_ended, is_ended_lem, track_told, not_ignored, original_at, at_original, at_second, at_third, behind_end}
+use Rattle.defects.proofs.EncodedTests.{original_passed, copy_passed}
 
 -- ---- the tests at a data field
 
 -- one that the map has
-due-passed : (alone : Bool) (s : Setup) (octets : List ℕ) (k : ℕ) (w : Walk) (defects : List Defect) (field : List ℕ)
-    → StandsAt s octets k w defects → field_at s octets k ≡ field → isEnded w ≡ false → isIgnored field ≡ false
-    → k < dataFields s → k * fieldOctets s + fieldOctets s ≤ length octets
-    → Passed (fieldTests s w (behindAll 0 defects) (k * fieldOctets s) (field_at s octets w.original) field) → Passed (testsAt alone s octets k)
-unfolding testsAt pick
-due-passed alone s octets k w defects field r f on read few long p =
-    rw (r.walk, r.listed, on, lt-leb (dataFields s) k few, f, read) (next (le-ltb (length octets) _ long) p)
+due_passed : (alone : Bool) (s : Setup) (octets : List ℕ) (k : ℕ) (w : Walk) (defects : List Defect) (field : List ℕ)
+    → StandsAt s octets k w defects → field_at s octets k ≡ field → is_ended w ≡ false → is_ignored field ≡ false
+    → k < data_fields s → k * field_octets s + field_octets s ≤ length octets
+    → Passed (field_tests s w (behind_all 0 defects) (k * field_octets s) (field_at s octets w.original) field) → Passed (tests_at alone s octets k)
+unfolding tests_at pick
+due_passed alone s octets k w defects field r f on read few long p =
+    rw (r.walk, r.listed, on, lt-leb (data_fields s) k few, f, read) (next (le-ltb (length octets) _ long) p)
 
 -- one behind its end
-nothing-follows : (alone : Bool) (start size : ℕ) → (alone ≡ true → size ≤ start) → (alone && ltb start size) ≡ false
-nothing-follows true start size h = le-ltb start size (h refl)
-nothing-follows false start size h = refl
+nothing_follows : (alone : Bool) (start size : ℕ) → (alone ≡ true → size ≤ start) → (alone && ltb start size) ≡ false
+nothing_follows true start size h = le-ltb start size (h refl)
+nothing_follows false start size h = refl
 
-ended-passed : (alone : Bool) (s : Setup) (octets : List ℕ) (k : ℕ) (w : Walk) (defects : List Defect)
-    → StandsAt s octets k w defects → isEnded w ≡ true → (alone ≡ true → length octets ≤ k * fieldOctets s) → Passed (testsAt alone s octets k)
-unfolding testsAt pick
-ended-passed alone s octets k w defects r over none = rw (r.walk, over) (next (nothing-follows alone (k * fieldOctets s) (length octets) none) end)
+ended_passed : (alone : Bool) (s : Setup) (octets : List ℕ) (k : ℕ) (w : Walk) (defects : List Defect)
+    → StandsAt s octets k w defects → is_ended w ≡ true → (alone ≡ true → length octets ≤ k * field_octets s) → Passed (tests_at alone s octets k)
+unfolding tests_at pick
+ended_passed alone s octets k w defects r over none = rw (r.walk, over) (next (nothing_follows alone (k * field_octets s) (length octets) none) end)
 
 -- ---- all of them, in a string that begins with a map, and ends with it if it is to stand alone
 
 module _ (s : Setup) (v : Value) (e : Encodable s v) (octets : List ℕ) (b : Begins s v octets) where
-  whole-there : (k : ℕ) → k < 3 * sets s v → k * fieldOctets s + fieldOctets s ≤ length octets
-  whole-there k h = omega (arith, mul-le-mul_right {m = suc k} (fieldOctets s) h, b.long)
+  whole_there : (k : ℕ) → k < 3 * sets s v → k * field_octets s + field_octets s ≤ length octets
+  whole_there k h = omega (arith, mul-le-mul_right {m = suc k} (field_octets s) h, b.long)
 
-  at-end : StandsAt s octets (dataFields s) (beforeSet s v (sets s v)) v.defects
-  at-end =
-      let sum : 3 * sets s v + (dataFields s - 3 * sets s v) ≡ dataFields s = omega (arith, e.room) in
-      rw sum at (behind-end s v e octets b (dataFields s - 3 * sets s v))
+  at_end : StandsAt s octets (data_fields s) (before_set s v (sets s v)) v.defects
+  at_end =
+      let sum : 3 * sets s v + (data_fields s - 3 * sets s v) ≡ data_fields s = omega (arith, e.room) in
+      rw sum at (behind_end s v e octets b (data_fields s - 3 * sets s v))
 
-  tells : mapOf s octets ≡ tellsOf v
-  tells = let (cylinder, head) = track-told s v (sets s v) e.some-set in rw (at-end.walk, at-end.listed, cylinder, head)
+  tells : map_of s octets ≡ tells_of v
+  tells = let (cylinder, head) = track_told s v (sets s v) e.some_set in rw (at_end.walk, at_end.listed, cylinder, head)
 
-  module _ (alone : Bool) (only : alone ≡ true → length octets ≤ 3 * sets s v * fieldOctets s) where
-    original-tested : (set : ℕ) → set < sets s v → Passed (testsAt alone s octets (3 * set))
+  module _ (alone : Bool) (only : alone ≡ true → length octets ≤ 3 * sets s v * field_octets s) where
+    original_tested : (set : ℕ) → set < sets s v → Passed (tests_at alone s octets (3 * set))
     unfolding pick
-    original-tested set h =
-        due-passed alone s octets (3 * set) (beforeSet s v set) _ (dataField s v set 0) (at-original s v e octets b set (omega arith))
-        (original-at s v e octets b set h) (not-ended s v set h) (not-ignored s v e set 0 (omega arith)) (omega (arith, e.room)) (whole-there (3 * set) (omega arith))
-        (rw (original-due s v set) (original-passed s v e set (3 * set * fieldOctets s) h))
+    original_tested set h =
+        due_passed alone s octets (3 * set) (before_set s v set) _ (data_field s v set 0) (at_original s v e octets b set (omega arith))
+        (original_at s v e octets b set h) (not_ended s v set h) (not_ignored s v e set 0 (omega arith)) (omega (arith, e.room)) (whole_there (3 * set) (omega arith))
+        (rw (original_due s v set) (original_passed s v e set (3 * set * field_octets s) h))
 
     copy_tested : (set copy : ℕ) (defects : List Defect) → set < sets s v → copy < 3 → eqb copy 0 ≡ false
-        → StandsAt s octets (3 * set + copy) (withinSet s v set copy) defects → Passed (testsAt alone s octets (3 * set + copy))
+        → StandsAt s octets (3 * set + copy) (within_set s v set copy) defects → Passed (tests_at alone s octets (3 * set + copy))
     unfolding pick
     copy_tested set copy defects h c later r =
-        due-passed alone s octets (3 * set + copy) (withinSet s v set copy) defects (dataField s v set copy) r
-        (b.fields set copy h c) (rw (later, and-false (eqb (set + 1) (sets s v)))) (not-ignored s v e set copy c) (omega (arith, e.room)) (whole-there (3 * set + copy) (omega arith))
-        (rw (later, original-at s v e octets b set h) (copy_passed s v e set ((3 * set + copy) * fieldOctets s) copy))
+        due_passed alone s octets (3 * set + copy) (within_set s v set copy) defects (data_field s v set copy) r
+        (b.fields set copy h c) (rw (later, and-false (eqb (set + 1) (sets s v)))) (not_ignored s v e set copy c) (omega (arith, e.room)) (whole_there (3 * set + copy) (omega arith))
+        (rw (later, original_at s v e octets b set h) (copy_passed s v e set ((3 * set + copy) * field_octets s) copy))
 
-    in-set : (set copy : ℕ) → set < sets s v → copy < 3 → Passed (testsAt alone s octets (3 * set + copy))
-    in-set set zero h c = rw add-zero (original-tested set h)
-    in-set set (suc zero) h c = copy_tested set 1 _ h c refl (at_second s v e octets b set h)
-    in-set set (suc (suc zero)) h c = copy_tested set 2 _ h c refl (at-third s v e octets b set h)
-    in-set set (suc (suc (suc copy))) h c = absurd (omega arith)
+    in_set : (set copy : ℕ) → set < sets s v → copy < 3 → Passed (tests_at alone s octets (3 * set + copy))
+    in_set set zero h c = rw add-zero (original_tested set h)
+    in_set set (suc zero) h c = copy_tested set 1 _ h c refl (at_second s v e octets b set h)
+    in_set set (suc (suc zero)) h c = copy_tested set 2 _ h c refl (at_third s v e octets b set h)
+    in_set set (suc (suc (suc copy))) h c = absurd (omega arith)
 
-    each-passed : (k : ℕ) → k ≤ dataFields s → Passed (testsAt alone s octets k)
-    each-passed k h = by-test (ltb k (3 * sets s v)) refl
+    each_passed : (k : ℕ) → k ≤ data_fields s → Passed (tests_at alone s octets k)
+    each_passed k h = by_test (ltb k (3 * sets s v)) refl
       where
-        by-test : (test : Bool) → ltb k (3 * sets s v) ≡ test → Passed (testsAt alone s octets k)
-        by-test true t =
+        by_test : (test : Bool) → ltb k (3 * sets s v) ≡ test → Passed (tests_at alone s octets k)
+        by_test true t =
             let before = ltb-true k (3 * sets s v) t in
             let split : 3 * (k / 3) + k % 3 ≡ k = omega arith in
-            rw split at (in-set (k / 3) (k % 3) (omega arith) (omega arith))
-        by-test false t =
+            rw split at (in_set (k / 3) (k % 3) (omega arith) (omega arith))
+        by_test false t =
             let behind = ltb-false k (3 * sets s v) t in
             let split : 3 * sets s v + (k - 3 * sets s v) ≡ k = omega arith in
-            let there = rw split at (behind-end s v e octets b (k - 3 * sets s v)) in
-            ended-passed alone s octets k _ _ there (is-ended s v (sets s v) e.some-set refl)
-            (λ a. le_trans (only a) (mul-le-mul_right (fieldOctets s) behind))
+            let there = rw split at (behind_end s v e octets b (k - 3 * sets s v)) in
+            ended_passed alone s octets k _ _ there (is_ended_lem s v (sets s v) e.some_set refl)
+            (λ a. le_trans (only a) (mul-le-mul_right (field_octets s) behind))
 
-    all-passed : (k count : ℕ) → k + count ≤ suc (dataFields s) → Passed (testsFrom alone s octets k count)
-    unfolding testsFrom
-    all-passed k zero h = end
-    all-passed k (suc count) h = both (each-passed k (omega arith)) (all-passed (suc k) count (omega arith))
+    all_passed : (k count : ℕ) → k + count ≤ suc (data_fields s) → Passed (tests_from alone s octets k count)
+    unfolding tests_from
+    all_passed k zero h = end
+    all_passed k (suc count) h = both (each_passed k (omega arith)) (all_passed (suc k) count (omega arith))
 
-    pub map-passed : Passed (mapTests alone s octets)
-    map-passed = all-passed 0 (suc (dataFields s)) (omega arith)
+    pub map_passed : Passed (map_tests alone s octets)
+    map_passed = all_passed 0 (suc (data_fields s)) (omega arith)
 
 -- ---- the two laws
 
 -- with anything behind the map
-pub told-behind : (s : Setup) (v : Value) (octets : List ℕ) → Encodable s v → Begins s v octets
-    → (first_of (mapTests false s octets) ≡ noOffence) × (mapOf s octets ≡ tellsOf v) × (defectsOf s octets ≡ v.defects)
-told-behind s v octets e b = (none_found (map-passed s v e octets b false (λ a. absurd (false≢true a))), tells s v e octets b, (at-end s v e octets b).listed)
+pub told_behind : (s : Setup) (v : Value) (octets : List ℕ) → Encodable s v → Begins s v octets
+    → (first_of (map_tests false s octets) ≡ no_offence) × (map_of s octets ≡ tells_of v) × (defects_of s octets ≡ v.defects)
+told_behind s v octets e b = (none_found (map_passed s v e octets b false (λ a. absurd (false≢true a))), tells s v e octets b, (at_end s v e octets b).listed)
 
 -- the map alone
-told-alone : (s : Setup) (v : Value) (lent : List ℕ) → withinLimits s ≡ true → Encodable s v → length (mapOctets s v) / 3 ≤ length lent
-    → (decodedIn s (mapOctets s v) lent ≡ tellsOf v) × (defectsOf s (mapOctets s v) ≡ v.defects)
+told_alone : (s : Setup) (v : Value) (lent : List ℕ) → within_limits s ≡ true → Encodable s v → length (map_octets s v) / 3 ≤ length lent
+    → (decoded_in s (map_octets s v) lent ≡ tells_of v) × (defects_of s (map_octets s v) ≡ v.defects)
 unfolding pick
-told-alone s v lent w e room =
-    let octets = mapOctets s v in
-    let b = map-alone s v e.field1 in
-    let only : length octets ≤ 3 * sets s v * fieldOctets s = omega (arith, length-map s v e.field1) in
-    let map = map-passed s v e octets b true (λ a. only) in
-    let free : first_of (decodeTests s octets lent) ≡ noOffence = none_found (next (not_f (withinLimits s) w) (next (le-ltb (length lent) (length octets / 3) room) map)) in
-    (rw free (tells s v e octets b), (at-end s v e octets b).listed)
+told_alone s v lent w e room =
+    let octets = map_octets s v in
+    let b = map_alone s v e.field1 in
+    let only : length octets ≤ 3 * sets s v * field_octets s = omega (arith, length-map s v e.field1) in
+    let map = map_passed s v e octets b true (λ a. only) in
+    let free : first_of (decode_tests s octets lent) ≡ no_offence = none_found (next (not_f (within_limits s) w) (next (le-ltb (length lent) (length octets / 3) room) map)) in
+    (rw free (tells s v e octets b), (at_end s v e octets b).listed)
 
-pub map-round-trip : MapRoundTrip
-map-round-trip =
+pub map_round_trip : MapRoundTrip
+map_round_trip =
     record {
-      decode-encode = λ s v lent w d f room. told-alone s v lent w (encodable s v w d f) room;
-      decode-behind = λ s v rest w d f. let e = encodable s v w d f in told-behind s v (mapOctets s v ++ rest) e (map-begins s v e.field1 rest);
+      decode_encode = λ s v lent w d f room. told_alone s v lent w (encodable s v w d f) room;
+      decode_behind = λ s v rest w d f. let e = encodable s v w d f in told_behind s v (map_octets s v ++ rest) e (map_begins s v e.field1 rest);
     }

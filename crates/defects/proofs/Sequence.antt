@@ -8,26 +8,26 @@ use mathlib.Core.Logic.{◌⊎◌, inl, inr, ⊎_elim}
 use native.Mathlib.Omega.{arith}
 use borrow.Author.Tests.{lt-ltb, ltb-true, ltb-false}
 use lib.Dec.{ltb}
-use Rattle.defects.specs.Defect.{address, behind, behindAll, isOutOfSequence}
+use Rattle.defects.specs.Defect.{address, behind, behind_all, is_out_of_sequence}
 use Rattle.defects.specs.Sequence.{HasAbove, here, later, Sequence}
 use Rattle.defects.specs.declared.defect.Defect.{Defect}
 
 module _ (d : Defect) where
-  above_of : (least : ℕ) (defects : List Defect) → address d < behindAll least defects → (address d < least) ⊎ HasAbove d defects
+  above_of : (least : ℕ) (defects : List Defect) → address d < behind_all least defects → (address d < least) ⊎ HasAbove d defects
   above_of least [] h = inl h
-  above_of least (e ∷ defects) h = by-test (ltb (address d) least) refl (above_of (behind least e) defects h)
+  above_of least (e ∷ defects) h = by_test (ltb (address d) least) refl (above_of (behind least e) defects h)
     where
-      by-test : (low : Bool) → ltb (address d) least ≡ low → (address d < behind least e) ⊎ HasAbove d defects → (address d < least) ⊎ HasAbove d (e ∷ defects)
-      by-test true p rest = inl (ltb-true _ _ p)
-      by-test false p rest = ⊎_elim (λ h. inr (here (omega (arith, ltb-false (address d) least p)))) (λ above. inr (later above)) rest
+      by_test : (low : Bool) → ltb (address d) least ≡ low → (address d < behind least e) ⊎ HasAbove d defects → (address d < least) ⊎ HasAbove d (e ∷ defects)
+      by_test true p rest = inl (ltb-true _ _ p)
+      by_test false p rest = ⊎_elim (λ h. inr (here (omega (arith, ltb-false (address d) least p)))) (λ above. inr (later above)) rest
 
-  stays-below : (least : ℕ) (defects : List Defect) → address d < least → address d < behindAll least defects
-  stays-below least [] h = h
-  stays-below least (e ∷ defects) h = stays-below (behind least e) defects (omega arith)
+  stays_below : (least : ℕ) (defects : List Defect) → address d < least → address d < behind_all least defects
+  stays_below least [] h = h
+  stays_below least (e ∷ defects) h = stays_below (behind least e) defects (omega arith)
 
-  of-above : (least : ℕ) (defects : List Defect) → HasAbove d defects → address d < behindAll least defects
-  of-above least (e ∷ defects) (here h) = stays-below (behind least e) defects (omega arith)
-  of-above least (e ∷ defects) (later above) = of-above (behind least e) defects above
+  of_above : (least : ℕ) (defects : List Defect) → HasAbove d defects → address d < behind_all least defects
+  of_above least (e ∷ defects) (here h) = stays_below (behind least e) defects (omega arith)
+  of_above least (e ∷ defects) (later above) = of_above (behind least e) defects above
 
   none_below : (before : List Defect) → (address d < 0) ⊎ HasAbove d before → HasAbove d before
   none_below before (inl h) = absurd (omega arith)
@@ -35,4 +35,4 @@ module _ (d : Defect) where
 
 pub sequence : Sequence
 sequence =
-    record { out-of-sequence = λ before d. (λ e. none_below d before (above_of d 0 before (ltb-true _ _ e)), λ above. lt-ltb _ _ (of-above d 0 before above)) }
+    record { out_of_sequence_lem = λ before d. (λ e. none_below d before (above_of d 0 before (ltb-true _ _ e)), λ above. lt-ltb _ _ (of_above d 0 before above)) }

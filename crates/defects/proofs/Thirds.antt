@@ -13,14 +13,14 @@ use lib.ListN.{length, drop, length-append, length-take}
 use Rattle.laws.specs.Pick.{pick}
 use Rattle.laws.proofs.Tests.{and_r}
 use Rattle.parts.specs.declared.setup.Setup.{Setup}
-use Rattle.defects.specs.Field.{frontOf, slots, defectsIn}
-use Rattle.defects.specs.Place.{fieldOctets}
-use Rattle.defects.specs.Walk.{afterOriginal, afterCopy, field_at, walkAt, isOriginal, defectsBefore}
+use Rattle.defects.specs.Field.{front_of, slots, defects_in}
+use Rattle.defects.specs.Place.{field_octets}
+use Rattle.defects.specs.Walk.{after_original, after_copy, field_at, walk_at, is_original, defects_before}
 use Rattle.defects.specs.Steps.{EndsAt}
 use Rattle.defects.specs.declared.defect.Defect.{Defect}
 use Rattle.defects.specs.declared.walk.Walk.{Walk}
-use Rattle.defects.proofs.EntriesLeft.{entries-few}
-use Rattle.defects.proofs.WalkSteps.{begins-set, next-listed}
+use Rattle.defects.proofs.EntriesLeft.{entries_few}
+use Rattle.defects.proofs.WalkSteps.{begins_set, next_listed}
 
 -- sets that have begun
 abbrev pub begun : Walk → ℕ
@@ -30,63 +30,63 @@ pub record Counted (s : Setup) (k : ℕ) (w : Walk) (defects : List Defect) : Ty
   pub fields : 3 * w.set + w.copy ≤ k
   pub copies : w.copy ≤ 2
   pub original : w.original ≤ k
-  pub listed : length defects ≤ begun w * slots (fieldOctets s)
+  pub listed : length defects ≤ begun w * slots (field_octets s)
 
-counted-copy : (s : Setup) (k : ℕ) (w : Walk) (defects : List Defect) → (w.copy ≡ 0 → ⊥) → Counted s k w defects → Counted s (suc k) (afterCopy w) defects
+counted_copy : (s : Setup) (k : ℕ) (w : Walk) (defects : List Defect) → (w.copy ≡ 0 → ⊥) → Counted s k w defects → Counted s (suc k) (after_copy w) defects
 unfolding pick
-counted-copy s k w defects other c = by-third (eqb w.copy 2) refl
+counted_copy s k w defects other c = by_third (eqb w.copy 2) refl
   where
-    by-third : (third : Bool) → eqb w.copy 2 ≡ third
+    by_third : (third : Bool) → eqb w.copy 2 ≡ third
         → Counted s (suc k)
         (record { set = pick third (w.set + 1) w.set; copy = pick third 0 2; original = w.original; sets = w.sets; cylinder = w.cylinder; head = w.head; last = w.last }) defects
-    by-third true e =
+    by_third true e =
         let due : w.copy ≡ 2 = eqb-true _ _ e in
         let same : begun w ≡ w.set + 1 + min 1 0 = omega arith in
         record { fields = omega (arith, c.fields); copies = omega arith; original = omega (arith, c.original); listed = rw same at c.listed }
-    by-third false e =
+    by_third false e =
         let second : w.copy ≡ 1 = omega (arith, c.copies, eqb-false w.copy 2 e) in
         let same : begun w ≡ w.set + min 1 2 = omega arith in
         record { fields = omega (arith, c.fields); copies = omega arith; original = omega (arith, c.original); listed = rw same at c.listed }
 
 module _ (s : Setup) (octets : List ℕ) where
-  pub few-in-field : (k : ℕ) → length (defectsIn (field_at s octets k)) ≤ slots (fieldOctets s)
+  pub few_in_field : (k : ℕ) → length (defects_in (field_at s octets k)) ≤ slots (field_octets s)
   unfolding field_at
-  few-in-field k =
+  few_in_field k =
       let field = field_at s octets k in
-      let short : length field ≤ fieldOctets s = omega (arith, length-take (fieldOctets s) (drop (k * fieldOctets s) octets)) in
-      omega (arith, entries-few field 14 (slots (length field)))
+      let short : length field ≤ field_octets s = omega (arith, length-take (field_octets s) (drop (k * field_octets s) octets)) in
+      omega (arith, entries_few field 14 (slots (length field)))
 
-  counted-original : (k : ℕ) → Counted s k (walkAt s octets k) (defectsBefore s octets k) → isOriginal (walkAt s octets k) (field_at s octets k) ≡ true
-      → Counted s (suc k) (afterOriginal (walkAt s octets k) k (frontOf (field_at s octets k))) (defectsBefore s octets k ++ defectsIn (field_at s octets k))
-  counted-original k c begins =
-      let w = walkAt s octets k in
-      let (going, heard, first) = begins-set w (field_at s octets k) begins in
+  counted_original : (k : ℕ) → Counted s k (walk_at s octets k) (defects_before s octets k) → is_original (walk_at s octets k) (field_at s octets k) ≡ true
+      → Counted s (suc k) (after_original (walk_at s octets k) k (front_of (field_at s octets k))) (defects_before s octets k ++ defects_in (field_at s octets k))
+  counted_original k c begins =
+      let w = walk_at s octets k in
+      let (going, heard, first) = begins_set w (field_at s octets k) begins in
       let none : w.copy ≡ 0 = eqb-true _ _ first in
       let before : begun w ≡ w.set = omega arith in
-      let listed : length (defectsBefore s octets k) ≤ w.set * slots (fieldOctets s) = rw before at c.listed in
+      let listed : length (defects_before s octets k) ≤ w.set * slots (field_octets s) = rw before at c.listed in
       record {
         fields = omega (arith, c.fields);
         copies = omega arith;
         original = omega arith;
-        listed = omega (arith, length-append (defectsBefore s octets k) (defectsIn (field_at s octets k)), few-in-field k);
+        listed = omega (arith, length-append (defects_before s octets k) (defects_in (field_at s octets k)), few_in_field k);
       }
 
-  pub counted : (k : ℕ) → Counted s k (walkAt s octets k) (defectsBefore s octets k)
-  unfolding walkAt defectsBefore
+  pub counted : (k : ℕ) → Counted s k (walk_at s octets k) (defects_before s octets k)
+  unfolding walk_at defects_before
   counted zero = record { fields = omega arith; copies = omega arith; original = omega arith; listed = omega arith }
   counted (suc k) =
       let c = counted k in
-      let w = walkAt s octets k in
-      next-listed s octets k (Counted s (suc k)) (record { fields = omega (arith, c.fields); copies = c.copies; original = omega (arith, c.original); listed = c.listed })
-      (counted-original k c) (λ other. counted-copy s k w _ other c)
+      let w = walk_at s octets k in
+      next_listed s octets k (Counted s (suc k)) (record { fields = omega (arith, c.fields); copies = c.copies; original = omega (arith, c.original); listed = c.listed })
+      (counted_original k c) (λ other. counted_copy s k w _ other c)
 
-pub third-enough : (s : Setup) (octets : List ℕ) (fields : ℕ) (w : Walk) → EndsAt s octets fields w → 12 * length (defectsBefore s octets fields) ≤ length octets / 3
-third-enough s octets fields w ends =
-    let end = walkAt s octets fields in
+pub third_enough : (s : Setup) (octets : List ℕ) (fields : ℕ) (w : Walk) → EndsAt s octets fields w → 12 * length (defects_before s octets fields) ≤ length octets / 3
+third_enough s octets fields w ends =
+    let end = walk_at s octets fields in
     let c = counted s octets fields in
     let none = eqb-true end.copy 0 (and_r end.last (eqb end.copy 0) ends.ended) in
     let sets : begun end ≡ end.set = omega arith in
-    let listed : length (defectsBefore s octets fields) ≤ end.set * slots (fieldOctets s) = rw sets at c.listed in
-    let entries : end.set * (12 * slots (fieldOctets s)) ≤ end.set * fieldOctets s = mul-le-mul_left end.set (omega arith) in
-    let thrice : 3 * end.set * fieldOctets s ≤ fields * fieldOctets s = mul-le-mul_right (fieldOctets s) (omega (arith, c.fields)) in
+    let listed : length (defects_before s octets fields) ≤ end.set * slots (field_octets s) = rw sets at c.listed in
+    let entries : end.set * (12 * slots (field_octets s)) ≤ end.set * field_octets s = mul-le-mul_left end.set (omega arith) in
+    let thrice : 3 * end.set * field_octets s ≤ fields * field_octets s = mul-le-mul_right (field_octets s) (omega (arith, c.fields)) in
     omega (arith, ends.whole)

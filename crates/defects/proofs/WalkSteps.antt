@@ -11,113 +11,113 @@ use Rattle.laws.specs.Pick.{pick}
 use Rattle.laws.proofs.Pick.{cases}
 use Rattle.laws.proofs.Tests.{and_l, and_r}
 use Rattle.parts.specs.declared.setup.Setup.{Setup}
-use Rattle.defects.specs.Field.{frontOf, isIgnored, defectsIn}
-use Rattle.defects.specs.Walk.{isEnded, afterOriginal, afterCopy, after, field_at, walkAt, isOriginal, defectsBefore}
+use Rattle.defects.specs.Field.{front_of, is_ignored, defects_in}
+use Rattle.defects.specs.Walk.{is_ended, after_original, after_copy, after, field_at, walk_at, is_original, defects_before}
 use Rattle.defects.specs.declared.defect.Defect.{Defect}
 use Rattle.defects.specs.declared.walk.Walk.{Walk}
 
 -- where a set begins the map has not ended, the data field is not ignored, and copy 0 is due
-pub begins-set : (w : Walk) (field : List ℕ) → isOriginal w field ≡ true → (isEnded w ≡ false) × (isIgnored field ≡ false) × (eqb w.copy 0 ≡ true)
-begins-set w field h =
-    let both : (not (isEnded w) && not (isIgnored field)) ≡ true = and_l _ _ h in
-    (not-true _ (and_l (not (isEnded w)) _ both), not-true _ (and_r (not (isEnded w)) _ both), and_r (not (isEnded w) && not (isIgnored field)) _ h)
+pub begins_set : (w : Walk) (field : List ℕ) → is_original w field ≡ true → (is_ended w ≡ false) × (is_ignored field ≡ false) × (eqb w.copy 0 ≡ true)
+begins_set w field h =
+    let both : (not (is_ended w) && not (is_ignored field)) ≡ true = and_l _ _ h in
+    (not-true _ (and_l (not (is_ended w)) _ both), not-true _ (and_r (not (is_ended w)) _ both), and_r (not (is_ended w) && not (is_ignored field)) _ h)
 
 -- a step of the walk: behind its end, past an ignored data field, past copy 0 and past another copy
-pub next-step : (P : Walk → Type 0) (s : Setup) (octets : List ℕ) (k : ℕ)
-    → let w = walkAt s octets k in
+pub next_step : (P : Walk → Type 0) (s : Setup) (octets : List ℕ) (k : ℕ)
+    → let w = walk_at s octets k in
     let field = field_at s octets k in
-    (isEnded w ≡ true → P w) → (isEnded w ≡ false → isIgnored field ≡ true → P w) → (isOriginal w field ≡ true → P (afterOriginal w k (frontOf field)))
-    → (isEnded w ≡ false → isIgnored field ≡ false → (w.copy ≡ 0 → ⊥) → P (afterCopy w)) → P (walkAt s octets (suc k))
-unfolding walkAt after
-next-step P s octets k ended ignored begins copies =
-    let w = walkAt s octets k in
+    (is_ended w ≡ true → P w) → (is_ended w ≡ false → is_ignored field ≡ true → P w) → (is_original w field ≡ true → P (after_original w k (front_of field)))
+    → (is_ended w ≡ false → is_ignored field ≡ false → (w.copy ≡ 0 → ⊥) → P (after_copy w)) → P (walk_at s octets (suc k))
+unfolding walk_at after
+next_step P s octets k ended ignored begins copies =
+    let w = walk_at s octets k in
     let field = field_at s octets k in
-    cases P (isEnded w) ended (λ going. cases P (isIgnored field) (ignored going) (λ heard.
+    cases P (is_ended w) ended (λ going. cases P (is_ignored field) (ignored going) (λ heard.
     cases P (eqb w.copy 0) (λ first. begins (rw (going, heard, first))) (λ other. copies going heard (eqb-false _ _ other))))
 
 -- between the copies of a set the map has not ended
-pub going_on : (w : Walk) → (w.copy ≡ 0 → ⊥) → isEnded w ≡ false
-going_on w other = rw (ne_eqb w.copy 0 other) (and-false w.last)
+pub going_on_lem : (w : Walk) → (w.copy ≡ 0 → ⊥) → is_ended w ≡ false
+going_on_lem w other = rw (ne_eqb w.copy 0 other) (and-false w.last)
 
 module _ (s : Setup) (octets : List ℕ) (k : ℕ) where
   -- ---- what is due
 
-  pub walk-next : isEnded (walkAt s octets k) ≡ false → walkAt s octets (suc k) ≡ after (walkAt s octets k) k (field_at s octets k)
-  unfolding walkAt pick
-  walk-next going = rw going
+  pub walk_next : is_ended (walk_at s octets k) ≡ false → walk_at s octets (suc k) ≡ after (walk_at s octets k) k (field_at s octets k)
+  unfolding walk_at pick
+  walk_next going = rw going
 
   -- past a data field that is ignored, that begins a set, and that is another copy
-  pub past-ignored : isEnded (walkAt s octets k) ≡ false → isIgnored (field_at s octets k) ≡ true → walkAt s octets (suc k) ≡ walkAt s octets k
+  pub past_ignored : is_ended (walk_at s octets k) ≡ false → is_ignored (field_at s octets k) ≡ true → walk_at s octets (suc k) ≡ walk_at s octets k
   unfolding after pick
-  past-ignored going ignored = walk-next going ∙ rw ignored
+  past_ignored going ignored = walk_next going ∙ rw ignored
 
-  pub past-original : isOriginal (walkAt s octets k) (field_at s octets k) ≡ true
-      → walkAt s octets (suc k) ≡ afterOriginal (walkAt s octets k) k (frontOf (field_at s octets k))
+  pub past_original : is_original (walk_at s octets k) (field_at s octets k) ≡ true
+      → walk_at s octets (suc k) ≡ after_original (walk_at s octets k) k (front_of (field_at s octets k))
   unfolding after pick
-  past-original begins = let (going, heard, first) = begins-set (walkAt s octets k) (field_at s octets k) begins in walk-next going ∙ rw (heard, first)
+  past_original begins = let (going, heard, first) = begins_set (walk_at s octets k) (field_at s octets k) begins in walk_next going ∙ rw (heard, first)
 
-  pub past-copy : isIgnored (field_at s octets k) ≡ false → ((walkAt s octets k).copy ≡ 0 → ⊥) → walkAt s octets (suc k) ≡ afterCopy (walkAt s octets k)
+  pub past_copy : is_ignored (field_at s octets k) ≡ false → ((walk_at s octets k).copy ≡ 0 → ⊥) → walk_at s octets (suc k) ≡ after_copy (walk_at s octets k)
   unfolding after pick
-  past-copy heard other = walk-next (going_on (walkAt s octets k) other) ∙ rw (heard, ne_eqb (walkAt s octets k).copy 0 other)
+  past_copy heard other = walk_next (going_on_lem (walk_at s octets k) other) ∙ rw (heard, ne_eqb (walk_at s octets k).copy 0 other)
 
   -- ---- what is listed
 
-  pub defects-next : isEnded (walkAt s octets k) ≡ false
-      → defectsBefore s octets (suc k)
-      ≡ defectsBefore s octets k ++ pick (not (isIgnored (field_at s octets k)) && eqb (walkAt s octets k).copy 0) (defectsIn (field_at s octets k)) []
-  unfolding defectsBefore
-  defects-next going = rw going
+  pub defects_next : is_ended (walk_at s octets k) ≡ false
+      → defects_before s octets (suc k)
+      ≡ defects_before s octets k ++ pick (not (is_ignored (field_at s octets k)) && eqb (walk_at s octets k).copy 0) (defects_in (field_at s octets k)) []
+  unfolding defects_before
+  defects_next going = rw going
 
-  pub set-listed : isOriginal (walkAt s octets k) (field_at s octets k) ≡ true → defectsBefore s octets (suc k) ≡ defectsBefore s octets k ++ defectsIn (field_at s octets k)
-  unfolding defectsBefore pick
-  set-listed begins = rw begins
+  pub set_listed : is_original (walk_at s octets k) (field_at s octets k) ≡ true → defects_before s octets (suc k) ≡ defects_before s octets k ++ defects_in (field_at s octets k)
+  unfolding defects_before pick
+  set_listed begins = rw begins
 
-  none-listed : isOriginal (walkAt s octets k) (field_at s octets k) ≡ false → defectsBefore s octets (suc k) ≡ defectsBefore s octets k
-  unfolding defectsBefore pick
-  none-listed other = rw other (append-nil (defectsBefore s octets k))
+  none_listed : is_original (walk_at s octets k) (field_at s octets k) ≡ false → defects_before s octets (suc k) ≡ defects_before s octets k
+  unfolding defects_before pick
+  none_listed other = rw other (append-nil (defects_before s octets k))
 
-  pub next-listed : (P : Walk → List Defect → Type 0)
-      → let w = walkAt s octets k in
+  pub next_listed : (P : Walk → List Defect → Type 0)
+      → let w = walk_at s octets k in
       let field = field_at s octets k in
-      let defects = defectsBefore s octets k in
-      P w defects → (isOriginal w field ≡ true → P (afterOriginal w k (frontOf field)) (defects ++ defectsIn field)) → ((w.copy ≡ 0 → ⊥) → P (afterCopy w) defects)
-      → P (walkAt s octets (suc k)) (defectsBefore s octets (suc k))
-  next-listed P same begins copies =
-      let w = walkAt s octets k in
+      let defects = defects_before s octets k in
+      P w defects → (is_original w field ≡ true → P (after_original w k (front_of field)) (defects ++ defects_in field)) → ((w.copy ≡ 0 → ⊥) → P (after_copy w) defects)
+      → P (walk_at s octets (suc k)) (defects_before s octets (suc k))
+  next_listed P same begins copies =
+      let w = walk_at s octets k in
       let field = field_at s octets k in
-      next-step (λ (w' : Walk). P w' (defectsBefore s octets (suc k))) s octets k
-      (λ ended. rw (none-listed (rw ended)) same) (λ going ignored. rw (none-listed (rw (going, ignored))) same) (λ first. rw (set-listed first) (begins first))
-      (λ going heard other. rw (none-listed (rw (going, heard) (ne_eqb w.copy 0 other))) (copies other))
+      next_step (λ (w' : Walk). P w' (defects_before s octets (suc k))) s octets k
+      (λ ended. rw (none_listed (rw ended)) same) (λ going ignored. rw (none_listed (rw (going, ignored))) same) (λ first. rw (set_listed first) (begins first))
+      (λ going heard other. rw (none_listed (rw (going, heard) (ne_eqb w.copy 0 other))) (copies other))
 
   -- another copy lists nothing anew
-  pub copy-lists-none : ((walkAt s octets k).copy ≡ 0 → ⊥) → defectsBefore s octets (suc k) ≡ defectsBefore s octets k
-  copy-lists-none other = by-test (isOriginal (walkAt s octets k) (field_at s octets k)) refl
+  pub copy_lists_none : ((walk_at s octets k).copy ≡ 0 → ⊥) → defects_before s octets (suc k) ≡ defects_before s octets k
+  copy_lists_none other = by_test (is_original (walk_at s octets k) (field_at s octets k)) refl
     where
-      by-test : (begins : Bool) → isOriginal (walkAt s octets k) (field_at s octets k) ≡ begins → defectsBefore s octets (suc k) ≡ defectsBefore s octets k
-      by-test true e = absurd (other (eqb-true _ _ (begins-set (walkAt s octets k) (field_at s octets k) e).2))
-      by-test false e = none-listed e
+      by_test : (begins : Bool) → is_original (walk_at s octets k) (field_at s octets k) ≡ begins → defects_before s octets (suc k) ≡ defects_before s octets k
+      by_test true e = absurd (other (eqb-true _ _ (begins_set (walk_at s octets k) (field_at s octets k) e).2))
+      by_test false e = none_listed e
 
   -- what was listed stays listed
-  pub listed-on : (more : ℕ) → (rest : List Defect) × (defectsBefore s octets (k + more) ≡ defectsBefore s octets k ++ rest)
-  unfolding defectsBefore
-  listed-on zero = ([], rw add-zero (sym (append-nil (defectsBefore s octets k))))
-  listed-on (suc more) =
-      let (rest, e) = listed-on more in
-      let next = pick (isOriginal (walkAt s octets (k + more)) (field_at s octets (k + more))) (defectsIn (field_at s octets (k + more))) [] in
-      (rest ++ next, rw add-suc (ap (λ (defects : List Defect). defects ++ next) e ∙ append_assoc (defectsBefore s octets k) rest next))
+  pub listed_on : (more : ℕ) → (rest : List Defect) × (defects_before s octets (k + more) ≡ defects_before s octets k ++ rest)
+  unfolding defects_before
+  listed_on zero = ([], rw add-zero (sym (append-nil (defects_before s octets k))))
+  listed_on (suc more) =
+      let (rest, e) = listed_on more in
+      let next = pick (is_original (walk_at s octets (k + more)) (field_at s octets (k + more))) (defects_in (field_at s octets (k + more))) [] in
+      (rest ++ next, rw add-suc (ap (λ (defects : List Defect). defects ++ next) e ∙ append_assoc (defects_before s octets k) rest next))
 
   -- ---- behind the end
 
-  pub still-ended : isEnded (walkAt s octets k) ≡ true → isEnded (walkAt s octets (suc k)) ≡ true
-  unfolding walkAt pick
-  still-ended e = rw e e
+  pub still_ended : is_ended (walk_at s octets k) ≡ true → is_ended (walk_at s octets (suc k)) ≡ true
+  unfolding walk_at pick
+  still_ended e = rw e e
 
-  pub ended-stays : (n : ℕ) → isEnded (walkAt s octets k) ≡ true → walkAt s octets (k + n) ≡ walkAt s octets k
-  unfolding walkAt pick
-  ended-stays zero e = rw add-zero
-  ended-stays (suc n) e = rw (add-suc, ended-stays n e, e)
+  pub ended_stays : (n : ℕ) → is_ended (walk_at s octets k) ≡ true → walk_at s octets (k + n) ≡ walk_at s octets k
+  unfolding walk_at pick
+  ended_stays zero e = rw add-zero
+  ended_stays (suc n) e = rw (add-suc, ended_stays n e, e)
 
-  pub defects-stay : (n : ℕ) → isEnded (walkAt s octets k) ≡ true → defectsBefore s octets (k + n) ≡ defectsBefore s octets k
-  unfolding defectsBefore pick
-  defects-stay zero e = rw add-zero
-  defects-stay (suc n) e = rw (add-suc, ended-stays n e, e, defects-stay n e) (append-nil (defectsBefore s octets k))
+  pub defects_stay : (n : ℕ) → is_ended (walk_at s octets k) ≡ true → defects_before s octets (k + n) ≡ defects_before s octets k
+  unfolding defects_before pick
+  defects_stay zero e = rw add-zero
+  defects_stay (suc n) e = rw (add-suc, ended_stays n e, e, defects_stay n e) (append-nil (defects_before s octets k))

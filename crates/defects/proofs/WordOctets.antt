@@ -8,28 +8,28 @@ use native.Mathlib.Omega.{arith}
 use lib.ListN.{length, get_or}
 use Rattle.laws.specs.Octets.{AllOctets}
 use Rattle.defects.specs.Defect.{number_at}
-use Rattle.defects.specs.Sectors.{wordOctets, octetWords}
+use Rattle.defects.specs.Sectors.{word_octets, octet_words}
 
-pub length-words : (octets : List ℕ) → length (octetWords octets) ≡ length octets / 2
-length-words [] = refl
-length-words (high ∷ []) = refl
-length-words (high ∷ low ∷ octets) = omega (arith, length-words octets)
+pub length_words : (octets : List ℕ) → length (octet_words octets) ≡ length octets / 2
+length_words [] = refl
+length_words (high ∷ []) = refl
+length_words (high ∷ low ∷ octets) = omega (arith, length_words octets)
 
-pub length-word-octets : (words : List ℕ) → length (wordOctets words) ≡ 2 * length words
-length-word-octets [] = refl
-length-word-octets (word ∷ words) = omega (arith, length-word-octets words)
+pub length_word_octets : (words : List ℕ) → length (word_octets words) ≡ 2 * length words
+length_word_octets [] = refl
+length_word_octets (word ∷ words) = omega (arith, length_word_octets words)
 
-pub word-there : (octets : List ℕ) (i : ℕ) → 2 * i + 2 ≤ length octets → get_or (octetWords octets) i 0 ≡ number_at 2 (2 * i) octets
+pub word_there : (octets : List ℕ) (i : ℕ) → 2 * i + 2 ≤ length octets → get_or (octet_words octets) i 0 ≡ number_at 2 (2 * i) octets
 unfolding number_at
-word-there [] i h = absurd (omega arith)
-word-there (high ∷ []) i h = absurd (omega arith)
-word-there (high ∷ low ∷ octets) zero h = rw zero-add
-word-there (high ∷ low ∷ octets) (suc i) h = let e : 2 * suc i ≡ suc (suc (2 * i)) = omega arith in rw e (word-there octets i (omega arith))
+word_there [] i h = absurd (omega arith)
+word_there (high ∷ []) i h = absurd (omega arith)
+word_there (high ∷ low ∷ octets) zero h = rw zero-add
+word_there (high ∷ low ∷ octets) (suc i) h = let e : 2 * suc i ≡ suc (suc (2 * i)) = omega arith in rw e (word_there octets i (omega arith))
 
-pub octets-of-words : (octets : List ℕ) → length octets % 2 ≡ 0 → AllOctets octets → wordOctets (octetWords octets) ≡ octets
-octets-of-words [] even all = refl
-octets-of-words (high ∷ []) even all = absurd (omega arith)
-octets-of-words (high ∷ low ∷ octets) even all =
+pub octets_of_words : (octets : List ℕ) → length octets % 2 ≡ 0 → AllOctets octets → word_octets (octet_words octets) ≡ octets
+octets_of_words [] even all = refl
+octets_of_words (high ∷ []) even all = absurd (omega arith)
+octets_of_words (high ∷ low ∷ octets) even all =
     let first : (high * 256 + low) / 256 ≡ high = omega (arith, all 1) in
     let second : (high * 256 + low) % 256 ≡ low = omega (arith, all 1) in
-    rw (first, second, octets-of-words octets (omega arith) (λ i. all (suc (suc i))))
+    rw (first, second, octets_of_words octets (omega arith) (λ i. all (suc (suc i))))

@@ -27,17 +27,17 @@ one_digit_more a b c x y z hx hy hz h =
     let yz = xor_lt 1 y z hy hz in
     rw (xor_block 1 a b x y, xor_block 1 b c y z, xor_block 1 (a ⊕ b) c (x ⊕ y) z, xor_block 1 a (b ⊕ c) x (y ⊕ z), h, digit_assoc x y z)
 
-pub sum-assoc : (a b c : ℕ) → a ⊕ b ⊕ c ≡ a ⊕ (b ⊕ c)
-sum-assoc =
+pub sum_assoc : (a b c : ℕ) → a ⊕ b ⊕ c ≡ a ⊕ (b ⊕ c)
+sum_assoc =
     bin_ind (λ (a : ℕ). (b c : ℕ) → a ⊕ b ⊕ c ≡ a ⊕ (b ⊕ c)) (λ b c. refl)
     (λ a ih b c. rw (div-add-mod' a 2, div-add-mod' b 2, div-add-mod' c 2) at
     (one_digit_more (a / 2) (b / 2) (c / 2) (a % 2) (b % 2) (c % 2) (omega arith) (omega arith) (omega arith) (ih (b / 2) (c / 2))))
 
 pub exchange : (a b c d : ℕ) → (a ⊕ b) ⊕ (c ⊕ d) ≡ (a ⊕ c) ⊕ (b ⊕ d)
-exchange a b c d = rw (sum-assoc a b (c ⊕ d), ← (sum-assoc b c d), xor_comm b c, sum-assoc c b d, ← (sum-assoc a c (b ⊕ d)))
+exchange a b c d = rw (sum_assoc a b (c ⊕ d), ← (sum_assoc b c d), xor_comm b c, sum_assoc c b d, ← (sum_assoc a c (b ⊕ d)))
 
 -- a sum in the high octet
-pub sum-high : (n b : ℕ) → n ⊕ b * 256 ≡ (n / 256 ⊕ b) * 256 ⊕ n % 256
-sum-high n b =
+pub sum_high : (n b : ℕ) → n ⊕ b * 256 ≡ (n / 256 ⊕ b) * 256 ⊕ n % 256
+sum_high n b =
     let low : n % 256 < 256 = omega arith in
     rw (div-add-mod' n 256, add-zero, xor_zero_r (n % 256), ← (xor_shifted (n / 256 ⊕ b) 8 (n % 256))) at (xor_block 8 (n / 256) b (n % 256) 0 low (omega arith))

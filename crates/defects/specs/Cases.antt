@@ -1,12 +1,12 @@
 -- Worked maps, and what decoding and encoding make of them. Each data field is written as one long number, its octets in hex.
 use Rattle.std.specs.Prelude.{ℕ, ◌≡◌, List, [], ◌∷◌, ◌++◌, replicate}
-use Rattle.laws.specs.Octets.{octetsOf}
+use Rattle.laws.specs.Octets.{octets_of}
 use Rattle.parts.specs.declared.setup.Setup.{Setup}
 use Rattle.parts.specs.declared.setup.Place.{Place}
-use Rattle.defects.specs.Crc.{crcOf}
-use Rattle.defects.specs.Place.{place_of, placeRefusal}
-use Rattle.defects.specs.Decoding.{decodedIn, defectsOf}
-use Rattle.defects.specs.Encoding.{Value, mapOctets, encodeRefusal}
+use Rattle.defects.specs.Crc.{crc_of}
+use Rattle.defects.specs.Place.{place_of, place_refusal}
+use Rattle.defects.specs.Decoding.{decoded_in, defects_of}
+use Rattle.defects.specs.Encoding.{Value, map_octets, encode_refusal}
 use Rattle.defects.specs.declared.defect.Defect.{Defect}
 use Rattle.defects.specs.declared.decoding.MapRead.{MapRead}
 use Rattle.defects.specs.declared.decoding.MapRead.TheVariants.{Map, Refused}
@@ -34,176 +34,176 @@ value cylinder head defects = record { cylinder = cylinder; head = head; defects
 
 -- Decoded with room for 96 octets of defects.
 abbrev pub decoded : Setup → List ℕ → MapRead
-decoded s octets = decodedIn s octets (replicate 96 0xFF)
+decoded s octets = decoded_in s octets (replicate 96 0xFF)
 
 -- No defects, the smallest data field.
-abbrev pub noDefects : List ℕ
-noDefects =
-    octetsOf 16 0x000e80000001000000000001000044bb
-    ++ octetsOf 16 0x000e800100010000000000010000d1f8
-    ++ octetsOf 16 0x000e800200010000000000010000ee38
+abbrev pub no_defects : List ℕ
+no_defects =
+    octets_of 16 0x000e80000001000000000001000044bb
+    ++ octets_of 16 0x000e800100010000000000010000d1f8
+    ++ octets_of 16 0x000e800200010000000000010000ee38
 
 -- One defect.
-abbrev pub oneDefect : List ℕ
-oneDefect =
-    octetsOf 28 0x001a8000000100000000000100000000000100010000012c000546f2
-    ++ octetsOf 28 0x001a8001000100000000000100000000000100010000012c00055094
-    ++ octetsOf 28 0x001a8002000100000000000100000000000100010000012c00056a3e
+abbrev pub one_defect : List ℕ
+one_defect =
+    octets_of 28 0x001a8000000100000000000100000000000100010000012c000546f2
+    ++ octets_of 28 0x001a8001000100000000000100000000000100010000012c00055094
+    ++ octets_of 28 0x001a8002000100000000000100000000000100010000012c00056a3e
 
 -- Two sets, the second out of sequence: bit 3.
-abbrev pub outOfSequence : List ℕ
-outOfSequence =
-    octetsOf 28 0x001a000000020000000000010000000000010000000000070009604f
-    ++ octetsOf 28 0x001a0001000200000000000100000000000100000000000700097629
-    ++ octetsOf 28 0x001a0002000200000000000100000000000100000000000700094c83
-    ++ octetsOf 28 0x001a8800000200010000000100000000000000010000012c00056c73
-    ++ octetsOf 28 0x001a8801000200010000000100000000000000010000012c00057a15
-    ++ octetsOf 28 0x001a8802000200010000000100000000000000010000012c000540bf
+abbrev pub out_of_sequence : List ℕ
+out_of_sequence =
+    octets_of 28 0x001a000000020000000000010000000000010000000000070009604f
+    ++ octets_of 28 0x001a0001000200000000000100000000000100000000000700097629
+    ++ octets_of 28 0x001a0002000200000000000100000000000100000000000700094c83
+    ++ octets_of 28 0x001a8800000200010000000100000000000000010000012c00056c73
+    ++ octets_of 28 0x001a8801000200010000000100000000000000010000012c00057a15
+    ++ octets_of 28 0x001a8802000200010000000100000000000000010000012c000540bf
 
 -- An ignored data field before the second copy.
-abbrev pub oneIgnored : List ℕ
-oneIgnored =
-    octetsOf 16 0x000e80000001000000000001000044bb
-    ++ octetsOf 16 0xdeadbeffdeadbeefdeadbeefdeadbeef
-    ++ octetsOf 16 0x000e800100010000000000010000d1f8
-    ++ octetsOf 16 0x000e800200010000000000010000ee38
+abbrev pub one_ignored : List ℕ
+one_ignored =
+    octets_of 16 0x000e80000001000000000001000044bb
+    ++ octets_of 16 0xdeadbeffdeadbeefdeadbeefdeadbeef
+    ++ octets_of 16 0x000e800100010000000000010000d1f8
+    ++ octets_of 16 0x000e800200010000000000010000ee38
 
 -- A set that is not full, and another.
-abbrev pub notFull : List ℕ
-notFull =
-    octetsOf 42 0x002800000002000000000009000000000003000100000014000b00000000000000000000000000004e70
-    ++ octetsOf 42 0x002800010002000000000009000000000003000100000014000b0000000000000000000000000000c903
-    ++ octetsOf 42 0x002800020002000000000009000000000003000100000014000b0000000000000000000000000000c093
-    ++ octetsOf 42 0x00288000000200010000000900000000000400000000000000010000000000000000000000000000ae81
-    ++ octetsOf 42 0x0028800100020001000000090000000000040000000000000001000000000000000000000000000029f2
-    ++ octetsOf 42 0x002880020002000100000009000000000004000000000000000100000000000000000000000000002062
+abbrev pub not_full : List ℕ
+not_full =
+    octets_of 42 0x002800000002000000000009000000000003000100000014000b00000000000000000000000000004e70
+    ++ octets_of 42 0x002800010002000000000009000000000003000100000014000b0000000000000000000000000000c903
+    ++ octets_of 42 0x002800020002000000000009000000000003000100000014000b0000000000000000000000000000c093
+    ++ octets_of 42 0x00288000000200010000000900000000000400000000000000010000000000000000000000000000ae81
+    ++ octets_of 42 0x0028800100020001000000090000000000040000000000000001000000000000000000000000000029f2
+    ++ octets_of 42 0x002880020002000100000009000000000004000000000000000100000000000000000000000000002062
 
 -- Bit 3 without need.
-abbrev pub flaggedWithoutNeed : List ℕ
-flaggedWithoutNeed =
-    octetsOf 28 0x001a8800000100000000000100000000000100010000012c0005f55b
-    ++ octetsOf 28 0x001a8801000100000000000100000000000100010000012c0005e33d
-    ++ octetsOf 28 0x001a8802000100000000000100000000000100010000012c0005d997
+abbrev pub flagged_without_need : List ℕ
+flagged_without_need =
+    octets_of 28 0x001a8800000100000000000100000000000100010000012c0005f55b
+    ++ octets_of 28 0x001a8801000100000000000100000000000100010000012c0005e33d
+    ++ octets_of 28 0x001a8802000100000000000100000000000100010000012c0005d997
 
 -- Ignored data fields until the last cylinder is full.
-abbrev pub allIgnored : List ℕ
-allIgnored =
-    octetsOf 16 0xdeadbeffdeadbeefdeadbeefdeadbeef
-    ++ octetsOf 16 0xdeadbeffdeadbeefdeadbeefdeadbeef
-    ++ octetsOf 16 0xdeadbeffdeadbeefdeadbeefdeadbeef
-    ++ octetsOf 16 0xdeadbeffdeadbeefdeadbeefdeadbeef
-    ++ octetsOf 16 0xdeadbeffdeadbeefdeadbeefdeadbeef
-    ++ octetsOf 16 0xdeadbeffdeadbeefdeadbeefdeadbeef
-    ++ octetsOf 16 0xdeadbeffdeadbeefdeadbeefdeadbeef
+abbrev pub all_ignored : List ℕ
+all_ignored =
+    octets_of 16 0xdeadbeffdeadbeefdeadbeefdeadbeef
+    ++ octets_of 16 0xdeadbeffdeadbeefdeadbeefdeadbeef
+    ++ octets_of 16 0xdeadbeffdeadbeefdeadbeefdeadbeef
+    ++ octets_of 16 0xdeadbeffdeadbeefdeadbeefdeadbeef
+    ++ octets_of 16 0xdeadbeffdeadbeefdeadbeefdeadbeef
+    ++ octets_of 16 0xdeadbeffdeadbeefdeadbeefdeadbeef
+    ++ octets_of 16 0xdeadbeffdeadbeefdeadbeefdeadbeef
 
 -- The count is not 14.
-abbrev pub countWrong : List ℕ
-countWrong =
-    octetsOf 16 0x000d800000010000000000010000c43b
-    ++ octetsOf 16 0x000e800100010000000000010000d1f8
-    ++ octetsOf 16 0x000e800200010000000000010000ee38
+abbrev pub count_wrong : List ℕ
+count_wrong =
+    octets_of 16 0x000d800000010000000000010000c43b
+    ++ octets_of 16 0x000e800100010000000000010000d1f8
+    ++ octets_of 16 0x000e800200010000000000010000ee38
 
 -- Bit 6: continues on the next lower cylinder.
 abbrev pub continues : List ℕ
 continues =
-    octetsOf 16 0x000ec00000010000000000010000db58
-    ++ octetsOf 16 0x000e800100010000000000010000d1f8
-    ++ octetsOf 16 0x000e800200010000000000010000ee38
+    octets_of 16 0x000ec00000010000000000010000db58
+    ++ octets_of 16 0x000e800100010000000000010000d1f8
+    ++ octets_of 16 0x000e800200010000000000010000ee38
 
 -- The second copy says 03.
-abbrev pub copyThree : List ℕ
-copyThree =
-    octetsOf 16 0x000e80000001000000000001000044bb
-    ++ octetsOf 16 0x000e8003000100000000000100007b7b
-    ++ octetsOf 16 0x000e800200010000000000010000ee38
+abbrev pub copy_three : List ℕ
+copy_three =
+    octets_of 16 0x000e80000001000000000001000044bb
+    ++ octets_of 16 0x000e8003000100000000000100007b7b
+    ++ octets_of 16 0x000e800200010000000000010000ee38
 
 -- A defect on cylinder 2 of 2.
-abbrev pub behindTheLastCylinder : List ℕ
-behindTheLastCylinder =
-    octetsOf 28 0x001a8000000100000000000100000000000200010000012c00054c52
-    ++ octetsOf 28 0x001a8001000100000000000100000000000100010000012c00055094
-    ++ octetsOf 28 0x001a8002000100000000000100000000000100010000012c00056a3e
+abbrev pub behind_the_last_cylinder : List ℕ
+behind_the_last_cylinder =
+    octets_of 28 0x001a8000000100000000000100000000000200010000012c00054c52
+    ++ octets_of 28 0x001a8001000100000000000100000000000100010000012c00055094
+    ++ octets_of 28 0x001a8002000100000000000100000000000100010000012c00056a3e
 
 -- The second set below the first, bit 3 clear.
-abbrev pub orderBroken : List ℕ
-orderBroken =
-    octetsOf 28 0x001a000000020000000000010000000000010000000000070009604f
-    ++ octetsOf 28 0x001a0001000200000000000100000000000100000000000700097629
-    ++ octetsOf 28 0x001a0002000200000000000100000000000100000000000700094c83
-    ++ octetsOf 28 0x001a8000000200010000000100000000000000010000012c0005dfda
-    ++ octetsOf 28 0x001a8801000200010000000100000000000000010000012c00057a15
-    ++ octetsOf 28 0x001a8802000200010000000100000000000000010000012c000540bf
+abbrev pub order_broken : List ℕ
+order_broken =
+    octets_of 28 0x001a000000020000000000010000000000010000000000070009604f
+    ++ octets_of 28 0x001a0001000200000000000100000000000100000000000700097629
+    ++ octets_of 28 0x001a0002000200000000000100000000000100000000000700094c83
+    ++ octets_of 28 0x001a8000000200010000000100000000000000010000012c0005dfda
+    ++ octets_of 28 0x001a8801000200010000000100000000000000010000012c00057a15
+    ++ octets_of 28 0x001a8802000200010000000100000000000000010000012c000540bf
 
 -- An octet behind the last entry.
-abbrev pub octetInThePadding : List ℕ
-octetInThePadding =
-    octetsOf 42 0x002880000001000000000009000000000003000100000014000b0000000000000000000000000001445e
-    ++ octetsOf 42 0x002880010001000000000009000000000003000100000014000b00000000000000000000000000004328
-    ++ octetsOf 42 0x002880020001000000000009000000000003000100000014000b00000000000000000000000000004ab8
+abbrev pub octet_in_the_padding : List ℕ
+octet_in_the_padding =
+    octets_of 42 0x002880000001000000000009000000000003000100000014000b0000000000000000000000000001445e
+    ++ octets_of 42 0x002880010001000000000009000000000003000100000014000b00000000000000000000000000004328
+    ++ octets_of 42 0x002880020001000000000009000000000003000100000014000b00000000000000000000000000004ab8
 
 -- One bit of the CRC.
-abbrev pub bitOfTheCrc : List ℕ
-bitOfTheCrc =
-    octetsOf 16 0x000e80000001000000000001000044ba
-    ++ octetsOf 16 0x000e800100010000000000010000d1f8
-    ++ octetsOf 16 0x000e800200010000000000010000ee38
+abbrev pub bit_of_the_crc : List ℕ
+bit_of_the_crc =
+    octets_of 16 0x000e80000001000000000001000044ba
+    ++ octets_of 16 0x000e800100010000000000010000d1f8
+    ++ octets_of 16 0x000e800200010000000000010000ee38
 
 -- The third copy differs in octet 13.
-abbrev pub thirdCopyDiffers : List ℕ
-thirdCopyDiffers =
-    octetsOf 16 0x000e80000001000000000001000044bb
-    ++ octetsOf 16 0x000e800100010000000000010000d1f8
-    ++ octetsOf 16 0x000e8002000100000000000100016e3d
+abbrev pub third_copy_differs : List ℕ
+third_copy_differs =
+    octets_of 16 0x000e80000001000000000001000044bb
+    ++ octets_of 16 0x000e800100010000000000010000d1f8
+    ++ octets_of 16 0x000e8002000100000000000100016e3d
 
 -- A fourth data field.
-abbrev pub fourthDataField : List ℕ
-fourthDataField =
-    octetsOf 16 0x000e80000001000000000001000044bb
-    ++ octetsOf 16 0x000e800100010000000000010000d1f8
-    ++ octetsOf 16 0x000e800200010000000000010000ee38
-    ++ octetsOf 16 0x000e80000001000000000001000044bb
+abbrev pub fourth_data_field : List ℕ
+fourth_data_field =
+    octets_of 16 0x000e80000001000000000001000044bb
+    ++ octets_of 16 0x000e800100010000000000010000d1f8
+    ++ octets_of 16 0x000e800200010000000000010000ee38
+    ++ octets_of 16 0x000e80000001000000000001000044bb
 
 pub record Cases : Type 0 where
   -- The nine digits.
-  pub check-value : crcOf (octetsOf 9 0x313233343536373839) ≡ 0xFEE8
+  pub check_value : crc_of (octets_of 9 0x313233343536373839) ≡ 0xFEE8
   -- ---- decoded
-  pub no-defects : decoded narrow noDefects ≡ Map 0 1 0
-  pub one-defect : decoded small oneDefect ≡ Map 1 1 0
-  pub one-defect-lists : defectsOf small oneDefect ≡ (defect 1 1 300 5 ∷ [])
-  pub out-of-sequence : decoded small outOfSequence ≡ Map 2 1 0
-  pub out-of-sequence-lists : defectsOf small outOfSequence ≡ (defect 1 0 7 9 ∷ defect 0 1 300 5 ∷ [])
-  pub one-ignored : decoded narrow oneIgnored ≡ Map 0 1 0
-  pub not_full : decoded wide notFull ≡ Map 2 9 0
-  pub not-full-lists : defectsOf wide notFull ≡ (defect 3 1 20 11 ∷ defect 4 0 0 1 ∷ [])
-  pub flagged-without-need : decoded small flaggedWithoutNeed ≡ Map 1 1 0
-  pub flagged-without-need-lists : defectsOf small flaggedWithoutNeed ≡ (defect 1 1 300 5 ∷ [])
-  pub all-ignored : decoded narrow allIgnored ≡ Refused 16 96
-  pub count-wrong : decoded narrow countWrong ≡ Refused 18 0
+  pub no_defects_lem : decoded narrow no_defects ≡ Map 0 1 0
+  pub one_defect_lem : decoded small one_defect ≡ Map 1 1 0
+  pub one_defect_lists : defects_of small one_defect ≡ (defect 1 1 300 5 ∷ [])
+  pub out_of_sequence_lem : decoded small out_of_sequence ≡ Map 2 1 0
+  pub out_of_sequence_lists : defects_of small out_of_sequence ≡ (defect 1 0 7 9 ∷ defect 0 1 300 5 ∷ [])
+  pub one_ignored_lem : decoded narrow one_ignored ≡ Map 0 1 0
+  pub not_full_lem : decoded wide not_full ≡ Map 2 9 0
+  pub not_full_lists : defects_of wide not_full ≡ (defect 3 1 20 11 ∷ defect 4 0 0 1 ∷ [])
+  pub flagged_without_need_lem : decoded small flagged_without_need ≡ Map 1 1 0
+  pub flagged_without_need_lists : defects_of small flagged_without_need ≡ (defect 1 1 300 5 ∷ [])
+  pub all_ignored_lem : decoded narrow all_ignored ≡ Refused 16 96
+  pub count_wrong_lem : decoded narrow count_wrong ≡ Refused 18 0
   pub continues : decoded narrow continues ≡ Refused 19 2
-  pub copy-three : decoded narrow copyThree ≡ Refused 20 19
-  pub behind-the-last-cylinder : decoded small behindTheLastCylinder ≡ Refused 23 14
-  pub order-broken : decoded small orderBroken ≡ Refused 24 98
-  pub octet-in-the-padding : decoded wide octetInThePadding ≡ Refused 25 39
-  pub bit-of-the-crc : decoded narrow bitOfTheCrc ≡ Refused 26 14
-  pub third-copy-differs : decoded narrow thirdCopyDiffers ≡ Refused 27 45
-  pub fourth-data-field : decoded narrow fourthDataField ≡ Refused 28 48
+  pub copy_three_lem : decoded narrow copy_three ≡ Refused 20 19
+  pub behind_the_last_cylinder_lem : decoded small behind_the_last_cylinder ≡ Refused 23 14
+  pub order_broken_lem : decoded small order_broken ≡ Refused 24 98
+  pub octet_in_the_padding_lem : decoded wide octet_in_the_padding ≡ Refused 25 39
+  pub bit_of_the_crc_lem : decoded narrow bit_of_the_crc ≡ Refused 26 14
+  pub third_copy_differs_lem : decoded narrow third_copy_differs ≡ Refused 27 45
+  pub fourth_data_field_lem : decoded narrow fourth_data_field ≡ Refused 28 48
   -- A data field cut short is not judged: the first octets of one are 17 where it begins.
-  pub cut_short : decoded narrow (octetsOf 7 0x000e8000000100) ≡ Refused 17 0
+  pub cut_short : decoded narrow (octets_of 7 0x000e8000000100) ≡ Refused 17 0
   -- No data field has room for a map on a drive whose field 1 has two words.
-  pub no_room : decoded (drive 2 2 3 2) noDefects ≡ Refused 16 0
+  pub no_room : decoded (drive 2 2 3 2) no_defects ≡ Refused 16 0
   -- ---- encoded
-  pub no-defects-anew : mapOctets narrow (value 1 0 []) ≡ noDefects
-  pub one-defect-anew : mapOctets small (value 1 0 (defect 1 1 300 5 ∷ [])) ≡ oneDefect
-  pub out-of-sequence-anew : mapOctets small (value 1 0 (defect 1 0 7 9 ∷ defect 0 1 300 5 ∷ [])) ≡ outOfSequence
-  pub not-full-anew : mapOctets wide (value 9 0 (defect 3 1 20 11 ∷ defect 4 0 0 1 ∷ []))
-      ≡ octetsOf 42 0x002880000001000000000009000000000003000100000014000b0000000400000000000000010000914f
-      ++ octetsOf 42 0x002880010001000000000009000000000003000100000014000b0000000400000000000000010000163c
-      ++ octetsOf 42 0x002880020001000000000009000000000003000100000014000b00000004000000000000000100001fac
+  pub no_defects_anew : map_octets narrow (value 1 0 []) ≡ no_defects
+  pub one_defect_anew : map_octets small (value 1 0 (defect 1 1 300 5 ∷ [])) ≡ one_defect
+  pub out_of_sequence_anew : map_octets small (value 1 0 (defect 1 0 7 9 ∷ defect 0 1 300 5 ∷ [])) ≡ out_of_sequence
+  pub not_full_anew : map_octets wide (value 9 0 (defect 3 1 20 11 ∷ defect 4 0 0 1 ∷ []))
+      ≡ octets_of 42 0x002880000001000000000009000000000003000100000014000b0000000400000000000000010000914f
+      ++ octets_of 42 0x002880010001000000000009000000000003000100000014000b0000000400000000000000010000163c
+      ++ octets_of 42 0x002880020001000000000009000000000003000100000014000b00000004000000000000000100001fac
   -- Three sets do not fit six data fields, and a defect does not fit data fields without room for entries.
-  pub three-sets : encodeRefusal small 1 0 (octetsOf 36 0x0000000100010000012c00050000000100010000012c00050000000100010000012c0005) 252 ≡ 8
-  pub no-entries : encodeRefusal narrow 1 0 (octetsOf 12 0x0000000100010000012c0005) 48 ≡ 8
+  pub three_sets : encode_refusal small 1 0 (octets_of 36 0x0000000100010000012c00050000000100010000012c00050000000100010000012c0005) 252 ≡ 8
+  pub no_entries : encode_refusal narrow 1 0 (octets_of 12 0x0000000100010000012c0005) 48 ≡ 8
   -- ---- places
-  pub first-place : place_of small 0 ≡ record { cylinder = 1; head = 1; sector = 0 }
-  pub next-track : place_of small 3 ≡ record { cylinder = 1; head = 0; sector = 0 }
-  pub last-place : place_of (drive 4096 32 256 256) 8191 ≡ record { cylinder = 4095; head = 0; sector = 255 }
-  pub none_left : placeRefusal (drive 4096 32 256 256) 8192 ≡ 16
+  pub first_place : place_of small 0 ≡ record { cylinder = 1; head = 1; sector = 0 }
+  pub next_track : place_of small 3 ≡ record { cylinder = 1; head = 0; sector = 0 }
+  pub last_place : place_of (drive 4096 32 256 256) 8191 ≡ record { cylinder = 4095; head = 0; sector = 255 }
+  pub none_left : place_refusal (drive 4096 32 256 256) 8192 ≡ 16

@@ -1,8 +1,8 @@
 -- "Each defect entry in the map is 12 octets in length": a defect, both ways, and the order of defects.
 use Rattle.std.specs.Prelude.{ℕ, ◌+◌, ◌*◌, ◌^◌, max, ◌≡◌, Bool, ◌&&◌, List, [], ◌∷◌, ◌++◌, eqb, ltb, length, take, drop}
-use Rattle.laws.specs.Rows.{Row, first, ◌when◌, unlessRefused, Paper, refusedWith, tells, refusedOr}
-use Rattle.laws.specs.Lists.{writtenOver}
-use Rattle.laws.specs.Octets.{number_of, octetsOf}
+use Rattle.laws.specs.Rows.{Row, first, ◌when◌, unless_refused, Paper, refused_with, tells, refused_or}
+use Rattle.laws.specs.Lists.{written_over}
+use Rattle.laws.specs.Octets.{number_of, octets_of}
 use Rattle.defects.specs.declared.defect.Defect.{Defect}
 use Rattle.defects.specs.declared.defect.DefectRead.{DefectRead}
 use Rattle.defects.specs.declared.defect.Encoded.{Encoded}
@@ -13,8 +13,8 @@ number_at width at octets = number_of (take width (drop at octets))
 
 -- "Cylinder Address of Defect", "Head address of defect", "Offset of defect from Index (octets)", "Length of defect (bits)": 4, 2, 4 and 2
 -- octets, from an index on.
-abbrev pub defectAt : ℕ → List ℕ → Defect
-defectAt at octets =
+abbrev pub defect_at : ℕ → List ℕ → Defect
+defect_at at octets =
     record {
       cylinder = number_at 4 at octets;
       head = number_at 2 (at + 4) octets;
@@ -23,49 +23,49 @@ defectAt at octets =
     }
 
 -- The same octets, from the defect.
-unfoldable pub defectOctets : Defect → List ℕ
-defectOctets d = octetsOf 4 d.cylinder ++ octetsOf 2 d.head ++ octetsOf 4 d.offset ++ octetsOf 2 d.length
+unfoldable pub defect_octets : Defect → List ℕ
+defect_octets d = octets_of 4 d.cylinder ++ octets_of 2 d.head ++ octets_of 4 d.offset ++ octets_of 2 d.length
 
-abbrev pub listOctets : List Defect → List ℕ
-listOctets [] = []
-listOctets (d ∷ defects) = defectOctets d ++ listOctets defects
+abbrev pub list_octets : List Defect → List ℕ
+list_octets [] = []
+list_octets (d ∷ defects) = defect_octets d ++ list_octets defects
 
 -- "other decoders and all encoders [test] 10, then 8": any 12 octets are a defect and every defect is what a decoding yields, so no row
 -- 8 can hold.
-abbrev pub defectRows : List ℕ → List Row
-defectRows slice = 10 when ltb (length slice) 12 ∷ []
+abbrev pub defect_rows : List ℕ → List Row
+defect_rows slice = 10 when ltb (length slice) 12 ∷ []
 
-abbrev pub defectRefusal : List ℕ → ℕ
-defectRefusal slice = first (defectRows slice)
+abbrev pub defect_refusal : List ℕ → ℕ
+defect_refusal slice = first (defect_rows slice)
 
 -- The number that an answer refuses with, 0 where it refuses nothing.
-abbrev pub refusalIn : DefectRead → ℕ
-refusalIn (DefectRead.Decoded d) = 0
-refusalIn (DefectRead.Refused n) = n
+abbrev pub refusal_in : DefectRead → ℕ
+refusal_in (DefectRead.Decoded d) = 0
+refusal_in (DefectRead.Refused n) = n
 
-abbrev pub refusalInEncoded : Encoded → ℕ
-refusalInEncoded Encoded.Written = 0
-refusalInEncoded (Encoded.Refused n) = n
+abbrev pub refusal_in_encoded : Encoded → ℕ
+refusal_in_encoded Encoded.Written = 0
+refusal_in_encoded (Encoded.Refused n) = n
 
 -- What `decode_defect` answers, on paper: the number of the refusal, or the four numbers of the defect.
 abbrev pub paper : DefectRead → Paper Defect
 paper (DefectRead.Decoded d) = tells d
-paper (DefectRead.Refused n) = refusedWith n
+paper (DefectRead.Refused n) = refused_with n
 
 -- The promise of `decode_defect`.
 pub record DecodedDefect (octets : List ℕ) (r : DefectRead) : Type 0 where
-  pub answer : r ≡ unlessRefused (defectRefusal octets) (DefectRead.Refused (defectRefusal octets)) (DefectRead.Decoded (defectAt 0 octets))
-  pub on-paper : paper r ≡ refusedOr (defectRows octets) (defectAt 0 octets)
+  pub answer : r ≡ unless_refused (defect_refusal octets) (DefectRead.Refused (defect_refusal octets)) (DefectRead.Decoded (defect_at 0 octets))
+  pub on_paper : paper r ≡ refused_or (defect_rows octets) (defect_at 0 octets)
 
 -- The promise of `encode_defect`.
 pub record EncodedDefect (d : Defect) (before after : List ℕ) (r : Encoded) : Type 0 where
-  pub answer : r ≡ unlessRefused (defectRefusal before) (Encoded.Refused (defectRefusal before)) Encoded.Written
-  pub on-paper : refusalInEncoded r ≡ defectRefusal before
-  pub slice : after ≡ unlessRefused (defectRefusal before) before (writtenOver before (defectOctets d))
+  pub answer : r ≡ unless_refused (defect_refusal before) (Encoded.Refused (defect_refusal before)) Encoded.Written
+  pub on_paper : refusal_in_encoded r ≡ defect_refusal before
+  pub slice : after ≡ unless_refused (defect_refusal before) before (written_over before (defect_octets d))
 
 -- Twelve zeros are no defect: "the remainder following the last defect entry will be padded with zeros".
-unfoldable pub isBlank : Defect → Bool
-isBlank d = eqb d.cylinder 0 && eqb d.head 0 && eqb d.offset 0 && eqb d.length 0
+unfoldable pub is_blank : Defect → Bool
+is_blank d = eqb d.cylinder 0 && eqb d.head 0 && eqb d.offset 0 && eqb d.length 0
 
 -- "in order of increasing physical addresses": cylinder, head and offset, compared in that order.
 unfoldable pub address : Defect → ℕ
@@ -75,10 +75,10 @@ address d = (d.cylinder * 2 ^ 16 + d.head) * 2 ^ 32 + d.offset
 abbrev pub behind : ℕ → Defect → ℕ
 behind least d = max least (address d + 1)
 
-abbrev pub behindAll : ℕ → List Defect → ℕ
-behindAll least [] = least
-behindAll least (d ∷ defects) = behindAll (behind least d) defects
+abbrev pub behind_all : ℕ → List Defect → ℕ
+behind_all least [] = least
+behind_all least (d ∷ defects) = behind_all (behind least d) defects
 
 -- A defect before it in the map has the same address or a higher one.
-abbrev pub isOutOfSequence : ℕ → Defect → Bool
-isOutOfSequence least d = ltb (address d) least
+abbrev pub is_out_of_sequence : ℕ → Defect → Bool
+is_out_of_sequence least d = ltb (address d) least

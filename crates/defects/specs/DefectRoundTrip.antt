@@ -1,7 +1,7 @@
 -- "Decoding and encoding of captures and status octets undo each other wherever the decoding succeeds": so do those of a defect, said
 -- of what the calls promise. `proofs/DefectRoundTrip` proves it.
 use Rattle.std.specs.Prelude.{ℕ, ◌^◌, ◌<◌, ◌≤◌, ◌≡◌, List, length, take}
-use Rattle.laws.specs.Lists.{writtenOver}
+use Rattle.laws.specs.Lists.{written_over}
 use Rattle.laws.specs.Octets.{AllOctets}
 use Rattle.defects.specs.Defect.{DecodedDefect, EncodedDefect}
 use Rattle.defects.specs.declared.defect.Defect.{Defect}
@@ -17,10 +17,10 @@ pub record Fitting (d : Defect) : Type 0 where
 
 pub record DefectRoundTrip : Type 0 where
   -- What was decoded, encoded into any slice long enough, gives the octets that were decoded.
-  pub encode-decode : (octets before after : List ℕ) (d : Defect) (answer : Encoded)
+  pub encode_decode : (octets before after : List ℕ) (d : Defect) (answer : Encoded)
       → AllOctets octets → DecodedDefect octets (DefectRead.Decoded d) → 12 ≤ length before → EncodedDefect d before after answer
-      → (answer ≡ Encoded.Written) × (after ≡ writtenOver before (take 12 octets))
+      → (answer ≡ Encoded.Written) × (after ≡ written_over before (take 12 octets))
   -- What was encoded into any slice long enough, decoded, gives the defect that was encoded.
-  pub decode-encode : (before after : List ℕ) (d : Defect) (answer : Encoded)
+  pub decode_encode : (before after : List ℕ) (d : Defect) (answer : Encoded)
       → Fitting d → 12 ≤ length before → EncodedDefect d before after answer
       → (answer ≡ Encoded.Written) × DecodedDefect after (DefectRead.Decoded d)

@@ -1,15 +1,15 @@
 -- What the private functions of the encoder ask and promise.
 use Rattle.std.specs.Prelude.{ℕ, ◌+◌, ◌-◌, ◌*◌, ◌/◌, ◌<◌, ◌≤◌, ◌^◌, min, ◌≡◌, Bool, true, false, List, [], ◌∷◌, ◌++◌, length, take, set}
-use Rattle.laws.specs.Lists.{writtenOver, writtenAt}
-use Rattle.laws.specs.Octets.{octetsOf}
-use Rattle.parts.specs.Setup.{withinLimits, allWords}
+use Rattle.laws.specs.Lists.{written_over, written_at}
+use Rattle.laws.specs.Octets.{octets_of}
+use Rattle.parts.specs.Setup.{within_limits, all_words}
 use Rattle.parts.specs.declared.setup.Setup.{Setup}
-use Rattle.defects.specs.Crc.{crcOf}
-use Rattle.defects.specs.Defect.{behindAll}
+use Rattle.defects.specs.Crc.{crc_of}
+use Rattle.defects.specs.Defect.{behind_all}
 use Rattle.defects.specs.Field.{slots}
-use Rattle.defects.specs.Place.{fieldOctets, dataFields}
-use Rattle.defects.specs.Encoding.{Value, defectsListed, setsFor, defectsBeforeSet, isUnordered, bodyOctets, mapOctets, isEncodable}
-use Rattle.defects.specs.Sectors.{octetWords, fieldStart, storedFields}
+use Rattle.defects.specs.Place.{field_octets, data_fields}
+use Rattle.defects.specs.Encoding.{Value, defects_listed, sets_for, defects_before_set, is_unordered, body_octets, map_octets, is_encodable}
+use Rattle.defects.specs.Sectors.{octet_words, field_start, stored_fields}
 use Rattle.defects.specs.declared.body.Job.{Job}
 use Rattle.defects.specs.declared.body.Order.{Order}
 use Rattle.defects.specs.declared.body.Run.{Run}
@@ -19,26 +19,26 @@ use Rattle.defects.specs.declared.front.Front.{Front}
 -- ---- a map that can be encoded
 
 -- Its value: the storage track of the job, and the defects that the octets list.
-abbrev pub valueIn : Job → List ℕ → Value
-valueIn job octets = record { cylinder = job.cylinder; head = job.head; defects = defectsListed octets }
+abbrev pub value_in : Job → List ℕ → Value
+value_in job octets = record { cylinder = job.cylinder; head = job.head; defects = defects_listed octets }
 
 pub record Planned (s : Setup) (job : Job) (octets : List ℕ) : Type 0 where
-  pub limits : withinLimits s ≡ true
-  pub encodable : isEncodable s (valueIn job octets) ≡ true
-  pub sets : job.sets ≡ setsFor s (length octets / 12)
+  pub limits : within_limits s ≡ true
+  pub encodable : is_encodable s (value_in job octets) ≡ true
+  pub sets : job.sets ≡ sets_for s (length octets / 12)
 
 -- One of its sets, and the least address that is higher than all before it.
 pub record Due (s : Setup) (job : Job) (octets : List ℕ) (set least : ℕ) : Type 0 where
   pub planned : Planned s job octets
   pub within : set < job.sets
-  pub above : least ≡ behindAll 0 (defectsBeforeSet s (valueIn job octets) set)
+  pub above : least ≡ behind_all 0 (defects_before_set s (value_in job octets) set)
 
 -- ---- the defects of a set
 
 -- Where their octets start, and how many defects they are.
 pub record RunOf (s : Setup) (set size : ℕ) (r : Run) : Type 0 where
-  pub at : r.at ≡ 12 * (set * slots (fieldOctets s))
-  pub count : r.count ≡ min (slots (fieldOctets s)) (size / 12 - set * slots (fieldOctets s))
+  pub at : r.at ≡ 12 * (set * slots (field_octets s))
+  pub count : r.count ≡ min (slots (field_octets s)) (size / 12 - set * slots (field_octets s))
 
 -- Their cylinders are those of a drive, so their addresses fit 63 bits.
 abbrev pub AllNear : List Defect → Type 0
@@ -46,57 +46,57 @@ AllNear [] = Unit
 AllNear (d ∷ defects) = (d.cylinder < 2 ^ 15) × AllNear defects
 
 pub record Ordered (least : ℕ) (defects : List Defect) (r : Order) : Type 0 where
-  pub unordered : r.unordered ≡ isUnordered least defects
-  pub next : r.least ≡ behindAll least defects
+  pub unordered : r.unordered ≡ is_unordered least defects
+  pub next : r.least ≡ behind_all least defects
 
 -- ---- a data field
 
 -- The octets in front of the entries.
-unfoldable pub octetsInFront : Front → List ℕ
-octetsInFront front =
-    octetsOf 2 front.count
+unfoldable pub octets_in_front : Front → List ℕ
+octets_in_front front =
+    octets_of 2 front.count
     ++ (front.flags ∷ front.copy ∷ [])
-    ++ octetsOf 2 front.sets
-    ++ octetsOf 2 front.set
-    ++ octetsOf 4 front.cylinder
-    ++ octetsOf 2 front.head
+    ++ octets_of 2 front.sets
+    ++ octets_of 2 front.set
+    ++ octets_of 4 front.cylinder
+    ++ octets_of 2 front.head
 
 -- Copy 0 of a set, but for its CRC; and the least address that is higher than all up to its last defect.
 pub record Filled (s : Setup) (job : Job) (octets : List ℕ) (set : ℕ) (field : List ℕ) (r : ℕ) : Type 0 where
-  pub body : field ≡ bodyOctets s (valueIn job octets) set 0 ++ (0 ∷ 0 ∷ [])
-  pub next : r ≡ behindAll 0 (defectsBeforeSet s (valueIn job octets) (set + 1))
+  pub body : field ≡ body_octets s (value_in job octets) set 0 ++ (0 ∷ 0 ∷ [])
+  pub next : r ≡ behind_all 0 (defects_before_set s (value_in job octets) (set + 1))
 
 -- The data field as one of the copies, with its CRC.
 unfoldable pub finished : ℕ → List ℕ → List ℕ
-finished copy field = let body = set (take (length field - 2) field) 3 copy in body ++ octetsOf 2 (crcOf body)
+finished copy field = let body = set (take (length field - 2) field) 3 copy in body ++ octets_of 2 (crc_of body)
 
 -- ---- a data field put into its place
 
 -- The octets lent, or the sector words, have the place of data field k.
 pub record HasPlace (s : Setup) (stored : Bool) (k : ℕ) (field out sectors : List ℕ) : Type 0 where
-  pub limits : withinLimits s ≡ true
-  pub size : length field ≡ fieldOctets s
-  pub in-octets : stored ≡ false → k * fieldOctets s + fieldOctets s ≤ length out
-  pub in_words : stored ≡ true → (k < dataFields s) × (allWords s ≤ length sectors)
+  pub limits : within_limits s ≡ true
+  pub size : length field ≡ field_octets s
+  pub in_octets : stored ≡ false → k * field_octets s + field_octets s ≤ length out
+  pub in_words : stored ≡ true → (k < data_fields s) × (all_words s ≤ length sectors)
 
 pub record FieldPut (s : Setup) (stored : Bool) (k : ℕ) (field out out' sectors sectors' : List ℕ) : Type 0 where
-  pub octets : stored ≡ false → out' ≡ writtenAt out (k * fieldOctets s) field
-  pub words : stored ≡ true → sectors' ≡ writtenAt sectors (fieldStart s k) (octetWords field)
+  pub octets : stored ≡ false → out' ≡ written_at out (k * field_octets s) field
+  pub words : stored ≡ true → sectors' ≡ written_at sectors (field_start s k) (octet_words field)
 
 -- The first k data fields of a map are in their places.
 pub record FieldsPut (s : Setup) (stored : Bool) (map : List ℕ) (k : ℕ) (out out' sectors sectors' : List ℕ) : Type 0 where
-  pub octets : stored ≡ false → out' ≡ writtenOver out (take (k * fieldOctets s) map)
-  pub words : stored ≡ true → sectors' ≡ storedFields s map sectors 0 k
+  pub octets : stored ≡ false → out' ≡ written_over out (take (k * field_octets s) map)
+  pub words : stored ≡ true → sectors' ≡ stored_fields s map sectors 0 k
 
 -- ---- the walk over the sets
 
 -- The octets lent, or the sector words, have room for all data fields.
 pub record HasRoom (s : Setup) (job : Job) (out sectors : List ℕ) : Type 0 where
-  pub octets : job.stored ≡ false → 3 * job.sets * fieldOctets s ≤ length out
-  pub words : job.stored ≡ true → allWords s ≤ length sectors
+  pub octets : job.stored ≡ false → 3 * job.sets * field_octets s ≤ length out
+  pub words : job.stored ≡ true → all_words s ≤ length sectors
 
 -- A set behind those before it.
 pub record SetPut (s : Setup) (job : Job) (octets : List ℕ) (set : ℕ) (out out' sectors sectors' : List ℕ) (r : ℕ) : Type 0 where
-  pub next : r ≡ behindAll 0 (defectsBeforeSet s (valueIn job octets) (set + 1))
-  pub put : (out₀ sectors₀ : List ℕ) → FieldsPut s job.stored (mapOctets s (valueIn job octets)) (3 * set) out₀ out sectors₀ sectors
-      → FieldsPut s job.stored (mapOctets s (valueIn job octets)) (3 * set + 3) out₀ out' sectors₀ sectors'
+  pub next : r ≡ behind_all 0 (defects_before_set s (value_in job octets) (set + 1))
+  pub put : (out₀ sectors₀ : List ℕ) → FieldsPut s job.stored (map_octets s (value_in job octets)) (3 * set) out₀ out sectors₀ sectors
+      → FieldsPut s job.stored (map_octets s (value_in job octets)) (3 * set + 3) out₀ out' sectors₀ sectors'

@@ -2,9 +2,9 @@
 -- proves it.
 use Rattle.std.specs.Prelude.{ℕ, ◌≤◌, ◌≡◌, true, false, List, [], ◌∷◌, ◌↔◌}
 use Rattle.parts.specs.declared.setup.Setup.{Setup}
-use Rattle.defects.specs.Offence.{Test, offenceAt, first_of}
-use Rattle.defects.specs.Decoding.{decodeTests, DecodedMap}
-use Rattle.defects.specs.Sectors.{readTests, ReadMap}
+use Rattle.defects.specs.Offence.{Test, offence_at, first_of}
+use Rattle.defects.specs.Decoding.{decode_tests, DecodedMap}
+use Rattle.defects.specs.Sectors.{read_tests, ReadMap}
 use Rattle.defects.specs.declared.decoding.MapRead.{MapRead}
 
 -- Number n at this offset: a test of that number and offset holds, and no test before it does.
@@ -23,16 +23,16 @@ Least n offset tests = Each (λ test. test.holds ≡ true → (offset ≤ test.o
 
 pub record ExactOffence : Type 0 where
   -- The first offence of any tests is the one that is given.
-  pub first-offence-is-exact : (tests : List Test) (n offset : ℕ) → first_of tests ≡ offenceAt n offset ↔ GivenAt n offset tests
+  pub first_offence_is_exact : (tests : List Test) (n offset : ℕ) → first_of tests ≡ offence_at n offset ↔ GivenAt n offset tests
   -- `decode_map` refuses with a number and an offset exactly when they are given.
-  pub decode-map-exactly : (s : Setup) (octets before after : List ℕ) (r : MapRead) (n offset : ℕ) → DecodedMap s octets before after r
-      → r ≡ MapRead.Refused n offset ↔ GivenAt n offset (decodeTests s octets before)
+  pub decode_map_exactly : (s : Setup) (octets before after : List ℕ) (r : MapRead) (n offset : ℕ) → DecodedMap s octets before after r
+      → r ≡ MapRead.Refused n offset ↔ GivenAt n offset (decode_tests s octets before)
   -- So does `read_map`.
-  pub read-map-exactly : (s : Setup) (sectors before after : List ℕ) (r : MapRead) (n offset : ℕ) → ReadMap s sectors before after r
-      → r ≡ MapRead.Refused n offset ↔ GivenAt n offset (readTests s sectors before)
+  pub read_map_exactly : (s : Setup) (sectors before after : List ℕ) (r : MapRead) (n offset : ℕ) → ReadMap s sectors before after r
+      → r ≡ MapRead.Refused n offset ↔ GivenAt n offset (read_tests s sectors before)
   -- "The first offence is the one with the least offset, and at one offset the one with the lower number."
-  pub decode-map-least : (s : Setup) (octets lent : List ℕ) (n offset : ℕ)
-      → GivenAt n offset (decodeTests s octets lent) → Least n offset (decodeTests s octets lent)
+  pub decode_map_least : (s : Setup) (octets lent : List ℕ) (n offset : ℕ)
+      → GivenAt n offset (decode_tests s octets lent) → Least n offset (decode_tests s octets lent)
   -- The same of a map that is read off the last cylinder.
-  pub read-map-least : (s : Setup) (sectors lent : List ℕ) (n offset : ℕ)
-      → GivenAt n offset (readTests s sectors lent) → Least n offset (readTests s sectors lent)
+  pub read_map_least : (s : Setup) (sectors lent : List ℕ) (n offset : ℕ)
+      → GivenAt n offset (read_tests s sectors lent) → Least n offset (read_tests s sectors lent)

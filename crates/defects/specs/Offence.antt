@@ -13,18 +13,18 @@ infix 70 ◌at◌when◌
 abbrev pub ◌at◌when◌ : ℕ → ℕ → Bool → Test
 n at offset when test = record { number = n; offset = offset; holds = test }
 
-abbrev pub noOffence : Offence
-noOffence = record { found = false; number = 0; offset = 0 }
+abbrev pub no_offence : Offence
+no_offence = record { found = false; number = 0; offset = 0 }
 
-abbrev pub offenceAt : ℕ → ℕ → Offence
-offenceAt n offset = record { found = true; number = n; offset = offset }
+abbrev pub offence_at : ℕ → ℕ → Offence
+offence_at n offset = record { found = true; number = n; offset = offset }
 
 -- "exactly when no offence lies before it": the first test that holds.
 unfoldable pub first_of : List Test → Offence
-first_of [] = noOffence
-first_of (test ∷ tests) = pick test.holds (offenceAt test.number test.offset) (first_of tests)
+first_of [] = no_offence
+first_of (test ∷ tests) = pick test.holds (offence_at test.number test.offset) (first_of tests)
 
 -- The same test at so many indices one after another.
-unfoldable pub testsOver : (ℕ → Test) → ℕ → ℕ → List Test
-testsOver test i zero = []
-testsOver test i (suc left) = test i ∷ testsOver test (i + 1) left
+unfoldable pub tests_over : (ℕ → Test) → ℕ → ℕ → List Test
+tests_over test i zero = []
+tests_over test i (suc left) = test i ∷ tests_over test (i + 1) left

@@ -1,46 +1,46 @@
 -- "The Defect Map is written starting on the last track of the cylinder .. The map continues on tracks of decreasing address".
 use Rattle.std.specs.Prelude.{ℕ, ◌-◌, ◌*◌, ◌/◌, ◌%◌, ◌≡◌, not, List, [], ◌∷◌, ltb, leb}
 use Rattle.laws.specs.Pick.{pick}
-use Rattle.laws.specs.Rows.{Row, first, ◌when◌, unlessRefused, Paper, refusedWith, tells, refusedOr}
-use Rattle.parts.specs.Setup.{withinLimits}
+use Rattle.laws.specs.Rows.{Row, first, ◌when◌, unless_refused, Paper, refused_with, tells, refused_or}
+use Rattle.parts.specs.Setup.{within_limits}
 use Rattle.parts.specs.declared.setup.Setup.{Setup}
 use Rattle.parts.specs.declared.setup.Place.{Place}
 use Rattle.defects.specs.declared.place.MapPlace.{MapPlace}
 use Rattle.defects.specs.declared.place.MapPlace.TheVariants.{At, Refused}
 
 -- A data field is field 1 of a sector, two octets a word.
-abbrev pub fieldOctets : Setup → ℕ
-fieldOctets s = 2 * s.field1
+abbrev pub field_octets : Setup → ℕ
+field_octets s = 2 * s.field1
 
 -- How many the last cylinder has: a sector each, and none where the octets in front and the CRC do not fit.
-unfoldable pub dataFields : Setup → ℕ
-dataFields s = pick (ltb s.field1 8) 0 (s.heads * s.sectors)
+unfoldable pub data_fields : Setup → ℕ
+data_fields s = pick (ltb s.field1 8) 0 (s.heads * s.sectors)
 
 -- "Sectors shall be read in their physical order from Index": data field k, from the last track of the last cylinder down.
 unfoldable pub place_of : Setup → ℕ → Place
 place_of s k = record { cylinder = s.cylinders - 1; head = s.heads - 1 - k / s.sectors; sector = k % s.sectors }
 
 -- 9, "a map's set-up" outside its limits; 16, no such data field.
-abbrev pub placeRows : Setup → ℕ → List Row
-placeRows s k = 9 when not (withinLimits s) ∷ 16 when leb (dataFields s) k ∷ []
+abbrev pub place_rows : Setup → ℕ → List Row
+place_rows s k = 9 when not (within_limits s) ∷ 16 when leb (data_fields s) k ∷ []
 
-abbrev pub placeRefusal : Setup → ℕ → ℕ
-placeRefusal s k = first (placeRows s k)
+abbrev pub place_refusal : Setup → ℕ → ℕ
+place_refusal s k = first (place_rows s k)
 
 -- The number that an answer refuses with, 0 where it refuses nothing.
-abbrev pub refusalIn : MapPlace → ℕ
-refusalIn (At place) = 0
-refusalIn (Refused n) = n
+abbrev pub refusal_in : MapPlace → ℕ
+refusal_in (At place) = 0
+refusal_in (Refused n) = n
 
 -- The answer on paper: the number of the refusal, or the place.
 abbrev pub paper : MapPlace → Paper Place
 paper (At place) = tells place
-paper (Refused n) = refusedWith n
+paper (Refused n) = refused_with n
 
 abbrev pub place_in : Setup → ℕ → MapPlace
-place_in s k = unlessRefused (placeRefusal s k) (Refused (placeRefusal s k)) (At (place_of s k))
+place_in s k = unless_refused (place_refusal s k) (Refused (place_refusal s k)) (At (place_of s k))
 
 -- The promise of `map_place`.
 pub record Placed (s : Setup) (k : ℕ) (r : MapPlace) : Type 0 where
   pub answer : r ≡ place_in s k
-  pub on-paper : paper r ≡ refusedOr (placeRows s k) (place_of s k)
+  pub on_paper : paper r ≡ refused_or (place_rows s k) (place_of s k)

@@ -1,16 +1,16 @@
 -- "read off the last cylinder": the data fields of a map in a drive's sector words, and a map put there.
 use Rattle.std.specs.Prelude.{ℕ, zero, suc, ◌+◌, ◌*◌, ◌/◌, ◌%◌, ◌≡◌, false, not, ◌||◌, List, [], ◌∷◌, ◌++◌, eqb, ltb, length, take, drop}
 use Rattle.laws.specs.Pick.{pick}
-use Rattle.laws.specs.Lists.{writtenOver, writtenAt}
-use Rattle.laws.specs.Rows.{Row, first, ◌when◌, unlessRefused}
-use Rattle.parts.specs.Setup.{withinLimits, allWords, sectorStart}
+use Rattle.laws.specs.Lists.{written_over, written_at}
+use Rattle.laws.specs.Rows.{Row, first, ◌when◌, unless_refused}
+use Rattle.parts.specs.Setup.{within_limits, all_words, sector_start}
 use Rattle.parts.specs.declared.setup.Setup.{Setup}
 use Rattle.defects.specs.Offence.{Test, ◌at◌when◌, first_of}
-use Rattle.defects.specs.Defect.{listOctets, refusalInEncoded}
-use Rattle.defects.specs.Place.{fieldOctets, dataFields, place_of}
-use Rattle.defects.specs.Walk.{field_at, mapTests}
-use Rattle.defects.specs.Decoding.{defectsOf, mapOf, paper, paperOf}
-use Rattle.defects.specs.Encoding.{Value, defectsListed, setsFor, mapOctets, isEncodable}
+use Rattle.defects.specs.Defect.{list_octets, refusal_in_encoded}
+use Rattle.defects.specs.Place.{field_octets, data_fields, place_of}
+use Rattle.defects.specs.Walk.{field_at, map_tests}
+use Rattle.defects.specs.Decoding.{defects_of, map_of, paper, paper_of}
+use Rattle.defects.specs.Encoding.{Value, defects_listed, sets_for, map_octets, is_encodable}
 use Rattle.defects.specs.declared.offence.Offence.{Offence}
 use Rattle.defects.specs.declared.decoding.MapRead.{MapRead}
 use Rattle.defects.specs.declared.defect.Encoded.{Encoded}
@@ -18,79 +18,79 @@ use Rattle.defects.specs.declared.defect.Encoded.{Encoded}
 -- ---- words and octets
 
 -- "Even numbered octets are transmitted on BUS A and odd numbered octets are transmitted on BUS B": the high octet of a word is the first.
-abbrev pub wordOctets : List ℕ → List ℕ
-wordOctets [] = []
-wordOctets (word ∷ words) = word / 256 ∷ word % 256 ∷ wordOctets words
+abbrev pub word_octets : List ℕ → List ℕ
+word_octets [] = []
+word_octets (word ∷ words) = word / 256 ∷ word % 256 ∷ word_octets words
 
 -- The same words, from the octets.
-abbrev pub octetWords : List ℕ → List ℕ
-octetWords [] = []
-octetWords (high ∷ []) = []
-octetWords (high ∷ low ∷ octets) = (high * 256 + low) ∷ octetWords octets
+abbrev pub octet_words : List ℕ → List ℕ
+octet_words [] = []
+octet_words (high ∷ []) = []
+octet_words (high ∷ low ∷ octets) = (high * 256 + low) ∷ octet_words octets
 
 -- ---- the last cylinder
 
 -- Where data field k begins in the sector words: behind the header of its sector.
-unfoldable pub fieldStart : Setup → ℕ → ℕ
-fieldStart s k = sectorStart s (place_of s k) + s.header
+unfoldable pub field_start : Setup → ℕ → ℕ
+field_start s k = sector_start s (place_of s k) + s.header
 
 -- Its octets.
-unfoldable pub sectorField : Setup → List ℕ → ℕ → List ℕ
-sectorField s sectors k = wordOctets (take s.field1 (drop (fieldStart s k) sectors))
+unfoldable pub sector_field : Setup → List ℕ → ℕ → List ℕ
+sector_field s sectors k = word_octets (take s.field1 (drop (field_start s k) sectors))
 
 -- The octets of so many data fields from data field k on, and those of all that the last cylinder has.
-unfoldable pub sectorFields : Setup → List ℕ → ℕ → ℕ → List ℕ
-sectorFields s sectors k zero = []
-sectorFields s sectors k (suc count) = sectorField s sectors k ++ sectorFields s sectors (suc k) count
+unfoldable pub sector_fields : Setup → List ℕ → ℕ → ℕ → List ℕ
+sector_fields s sectors k zero = []
+sector_fields s sectors k (suc count) = sector_field s sectors k ++ sector_fields s sectors (suc k) count
 
-abbrev pub lastCylinder : Setup → List ℕ → List ℕ
-lastCylinder s sectors = sectorFields s sectors 0 (dataFields s)
+abbrev pub last_cylinder : Setup → List ℕ → List ℕ
+last_cylinder s sectors = sector_fields s sectors 0 (data_fields s)
 
 -- ---- a map read off it
 
 -- 9 and 10 as in a decoding, 10 for the sector words too; then the map's own. What stands behind the map is no offence.
-abbrev pub readTests : Setup → List ℕ → List ℕ → List Test
-readTests s sectors lent =
-    9 at 0 when not (withinLimits s)
-    ∷ 10 at 0 when (ltb (length sectors) (allWords s) || ltb (length lent) (dataFields s * fieldOctets s / 3))
-    ∷ mapTests false s (lastCylinder s sectors)
+abbrev pub read_tests : Setup → List ℕ → List ℕ → List Test
+read_tests s sectors lent =
+    9 at 0 when not (within_limits s)
+    ∷ 10 at 0 when (ltb (length sectors) (all_words s) || ltb (length lent) (data_fields s * field_octets s / 3))
+    ∷ map_tests false s (last_cylinder s sectors)
 
-abbrev pub readOffence : Setup → List ℕ → List ℕ → Offence
-readOffence s sectors lent = first_of (readTests s sectors lent)
+abbrev pub read_offence : Setup → List ℕ → List ℕ → Offence
+read_offence s sectors lent = first_of (read_tests s sectors lent)
 
-abbrev pub readIn : Setup → List ℕ → List ℕ → MapRead
-readIn s sectors lent =
-    let offence = readOffence s sectors lent in
-    pick offence.found (MapRead.Refused offence.number offence.offset) (mapOf s (lastCylinder s sectors))
+abbrev pub read_in : Setup → List ℕ → List ℕ → MapRead
+read_in s sectors lent =
+    let offence = read_offence s sectors lent in
+    pick offence.found (MapRead.Refused offence.number offence.offset) (map_of s (last_cylinder s sectors))
 
 -- The promise of `read_map`.
 pub record ReadMap (s : Setup) (sectors before after : List ℕ) (r : MapRead) : Type 0 where
-  pub answer : r ≡ readIn s sectors before
-  pub on-paper : paper r ≡ paperOf (readOffence s sectors before) s (lastCylinder s sectors)
-  pub slice : after ≡ pick (readOffence s sectors before).found before (writtenOver before (listOctets (defectsOf s (lastCylinder s sectors))))
+  pub answer : r ≡ read_in s sectors before
+  pub on_paper : paper r ≡ paper_of (read_offence s sectors before) s (last_cylinder s sectors)
+  pub slice : after ≡ pick (read_offence s sectors before).found before (written_over before (list_octets (defects_of s (last_cylinder s sectors))))
 
 -- ---- a map put there
 
 -- The sector words with so many data fields of a string in their places, from data field k on.
-unfoldable pub storedFields : Setup → List ℕ → List ℕ → ℕ → ℕ → List ℕ
-storedFields s octets sectors k zero = sectors
-storedFields s octets sectors k (suc count) = storedFields s octets (writtenAt sectors (fieldStart s k) (octetWords (field_at s octets k))) (suc k) count
+unfoldable pub stored_fields : Setup → List ℕ → List ℕ → ℕ → ℕ → List ℕ
+stored_fields s octets sectors k zero = sectors
+stored_fields s octets sectors k (suc count) = stored_fields s octets (written_at sectors (field_start s k) (octet_words (field_at s octets k))) (suc k) count
 
 -- 9, 10 for the sector words, 8 as in an encoding.
-abbrev pub writeRows : Setup → ℕ → ℕ → List ℕ → List ℕ → List Row
-writeRows s cylinder head defects sectors =
-    9 when not (withinLimits s)
-    ∷ 10 when ltb (length sectors) (allWords s)
-    ∷ 8 when (not (eqb (length defects % 12) 0) || not (isEncodable s (record { cylinder = cylinder; head = head; defects = defectsListed defects })))
+abbrev pub write_rows : Setup → ℕ → ℕ → List ℕ → List ℕ → List Row
+write_rows s cylinder head defects sectors =
+    9 when not (within_limits s)
+    ∷ 10 when ltb (length sectors) (all_words s)
+    ∷ 8 when (not (eqb (length defects % 12) 0) || not (is_encodable s (record { cylinder = cylinder; head = head; defects = defects_listed defects })))
     ∷ []
 
-abbrev pub writeRefusal : Setup → ℕ → ℕ → List ℕ → List ℕ → ℕ
-writeRefusal s cylinder head defects sectors = first (writeRows s cylinder head defects sectors)
+abbrev pub write_refusal : Setup → ℕ → ℕ → List ℕ → List ℕ → ℕ
+write_refusal s cylinder head defects sectors = first (write_rows s cylinder head defects sectors)
 
 -- The promise of `write_map`.
 pub record WroteMap (s : Setup) (cylinder head : ℕ) (defects before after : List ℕ) (r : Encoded) : Type 0 where
-  pub answer : r ≡ unlessRefused (writeRefusal s cylinder head defects before) (Encoded.Refused (writeRefusal s cylinder head defects before)) Encoded.Written
-  pub on-paper : refusalInEncoded r ≡ writeRefusal s cylinder head defects before
+  pub answer : r ≡ unless_refused (write_refusal s cylinder head defects before) (Encoded.Refused (write_refusal s cylinder head defects before)) Encoded.Written
+  pub on_paper : refusal_in_encoded r ≡ write_refusal s cylinder head defects before
   pub sectors : after
-      ≡ unlessRefused (writeRefusal s cylinder head defects before) before
-      (storedFields s (mapOctets s (record { cylinder = cylinder; head = head; defects = defectsListed defects })) before 0 (3 * setsFor s (length defects / 12)))
+      ≡ unless_refused (write_refusal s cylinder head defects before) before
+      (stored_fields s (map_octets s (record { cylinder = cylinder; head = head; defects = defects_listed defects })) before 0 (3 * sets_for s (length defects / 12)))

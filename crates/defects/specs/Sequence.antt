@@ -1,6 +1,6 @@
 -- "stored in order of increasing physical addresses": what it is to be out of sequence. `proofs/Sequence` proves it.
 use Rattle.std.specs.Prelude.{ℕ, ◌≤◌, ◌≡◌, true, List, ◌∷◌, ◌↔◌}
-use Rattle.defects.specs.Defect.{address, behindAll, isOutOfSequence}
+use Rattle.defects.specs.Defect.{address, behind_all, is_out_of_sequence}
 use Rattle.defects.specs.declared.defect.Defect.{Defect}
 
 -- One of the defects has the same address as this one, or a higher one.
@@ -10,4 +10,4 @@ pub data HasAbove (d : Defect) : List Defect → Type 0 where
 
 pub record Sequence : Type 0 where
   -- The one number that is kept tells it: the least address that is higher than all before.
-  pub out-of-sequence : (before : List Defect) (d : Defect) → isOutOfSequence (behindAll 0 before) d ≡ true ↔ HasAbove d before
+  pub out_of_sequence_lem : (before : List Defect) (d : Defect) → is_out_of_sequence (behind_all 0 before) d ≡ true ↔ HasAbove d before

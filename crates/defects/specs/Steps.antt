@@ -1,17 +1,17 @@
 -- What the private functions of the decoder ask and promise.
 use Rattle.std.specs.Prelude.{ℕ, ◌+◌, ◌*◌, ◌^◌, ◌≤◌, ◌<◌, ◌≡◌, Bool, true, false, not, ◌&&◌, List, [], ◌∷◌, eqb, ltb, length}
 use Rattle.laws.specs.Pick.{pick}
-use Rattle.parts.specs.Setup.{withinLimits, allWords}
+use Rattle.parts.specs.Setup.{within_limits, all_words}
 use Rattle.parts.specs.declared.setup.Setup.{Setup}
-use Rattle.defects.specs.Offence.{Test, ◌at◌when◌, noOffence, first_of, testsOver}
-use Rattle.laws.specs.Lists.{writtenOver, writtenAt}
-use Rattle.defects.specs.Defect.{behind, behindAll, listOctets}
-use Rattle.defects.specs.Field.{isIgnored, defectsIn}
-use Rattle.defects.specs.Judging.{entryTests, listTests, sameTest, originalTests, fieldTests}
-use Rattle.defects.specs.Place.{fieldOctets, dataFields}
-use Rattle.defects.specs.Walk.{after, isEnded, walkAt, defectsBefore, mapTests}
-use Rattle.defects.specs.Decoding.{defectsOf, mapOf}
-use Rattle.defects.specs.Sectors.{lastCylinder}
+use Rattle.defects.specs.Offence.{Test, ◌at◌when◌, no_offence, first_of, tests_over}
+use Rattle.laws.specs.Lists.{written_over, written_at}
+use Rattle.defects.specs.Defect.{behind, behind_all, list_octets}
+use Rattle.defects.specs.Field.{is_ignored, defects_in}
+use Rattle.defects.specs.Judging.{entry_tests, list_tests, same_test, original_tests, field_tests}
+use Rattle.defects.specs.Place.{field_octets, data_fields}
+use Rattle.defects.specs.Walk.{after, is_ended, walk_at, defects_before, map_tests}
+use Rattle.defects.specs.Decoding.{defects_of, map_of}
+use Rattle.defects.specs.Sectors.{last_cylinder}
 use Rattle.defects.specs.declared.defect.Defect.{Defect}
 use Rattle.defects.specs.declared.entries.Entries.{Entries}
 use Rattle.defects.specs.declared.judging.Judged.{Judged}
@@ -24,34 +24,34 @@ use Rattle.defects.specs.declared.walk.Stepped.{Stepped}
 
 -- A data field of a map in a drive, and its offset.
 pub record Sized (s : Setup) (start : ℕ) (field : List ℕ) : Type 0 where
-  pub limits : withinLimits s ≡ true
+  pub limits : within_limits s ≡ true
   pub least : 16 ≤ length field
   pub most : length field ≤ 2048
   pub within : start ≤ 2 ^ 32
 
 -- No offence in so many entries.
-abbrev pub noneAfter : ℕ → ℕ → Entries
-noneAfter count least = record { offence = noOffence; count = count; least = least }
+abbrev pub none_after : ℕ → ℕ → Entries
+none_after count least = record { offence = no_offence; count = count; least = least }
 
 -- An entry: its offence, or the least address that is higher than all up to it.
 pub record EntryJudged (s : Setup) (flagged : Bool) (least offset : ℕ) (d : Defect) (r : Judged) : Type 0 where
-  pub offence : r.offence ≡ first_of (entryTests s flagged least offset d)
+  pub offence : r.offence ≡ first_of (entry_tests s flagged least offset d)
   pub next : r.offence.found ≡ false → r.least ≡ behind least d
 
 -- All entries: how many they are, too.
 pub record EntriesJudged (s : Setup) (flagged : Bool) (least start : ℕ) (field : List ℕ) (r : Entries) : Type 0 where
-  pub offence : r.offence ≡ first_of (listTests s flagged least (start + 14) (defectsIn field))
-  pub count : r.offence.found ≡ false → r.count ≡ length (defectsIn field)
-  pub next : r.offence.found ≡ false → r.least ≡ behindAll least (defectsIn field)
+  pub offence : r.offence ≡ first_of (list_tests s flagged least (start + 14) (defects_in field))
+  pub count : r.offence.found ≡ false → r.count ≡ length (defects_in field)
+  pub next : r.offence.found ≡ false → r.least ≡ behind_all least (defects_in field)
 
 -- Copy 0 of a set.
 pub record OriginalJudged (s : Setup) (w : Walk) (least start : ℕ) (field : List ℕ) (r : Judged) : Type 0 where
-  pub offence : r.offence ≡ first_of (originalTests s w least start field)
-  pub next : r.offence.found ≡ false → r.least ≡ behindAll least (defectsIn field)
+  pub offence : r.offence ≡ first_of (original_tests s w least start field)
+  pub next : r.offence.found ≡ false → r.least ≡ behind_all least (defects_in field)
 
 -- No one of so many octets from an index on is told as unlike that of copy 0.
 abbrev pub NoneUnlike : List ℕ → List ℕ → ℕ → ℕ → Bool → Type 0
-NoneUnlike field original from count alike = (start : ℕ) → alike ≡ true → first_of (testsOver (sameTest start field original) from count) ≡ noOffence
+NoneUnlike field original from count alike = (start : ℕ) → alike ≡ true → first_of (tests_over (same_test start field original) from count) ≡ no_offence
 
 -- A data field that can be judged at an offset, and copy 0 of its set beside it.
 pub record Judgeable (s : Setup) (w : Walk) (start : ℕ) (original field : List ℕ) : Type 0 where
@@ -60,66 +60,66 @@ pub record Judgeable (s : Setup) (w : Walk) (start : ℕ) (original field : List
   pub few : w.set < 2 ^ 32
 
 -- The defects that a data field lists where a copy is due.
-abbrev pub ownDefects : ℕ → List ℕ → List Defect
-ownDefects copy field = pick (not (isIgnored field) && eqb copy 0) (defectsIn field) []
+abbrev pub own_defects : ℕ → List ℕ → List Defect
+own_defects copy field = pick (not (is_ignored field) && eqb copy 0) (defects_in field) []
 
 -- Data field k: its offence, or what is due behind it.
 pub record StepTaken (s : Setup) (w : Walk) (least k start : ℕ) (original field : List ℕ) (r : Stepped) : Type 0 where
-  pub offence : r.offence ≡ first_of (pick (isIgnored field) [] (fieldTests s w least start original field))
+  pub offence : r.offence ≡ first_of (pick (is_ignored field) [] (field_tests s w least start original field))
   pub walk : r.offence.found ≡ false → r.walk ≡ after w k field
-  pub least' : r.offence.found ≡ false → r.least ≡ behindAll least (ownDefects w.copy field)
+  pub least' : r.offence.found ≡ false → r.least ≡ behind_all least (own_defects w.copy field)
 
 -- The map's octets: those of the last cylinder in a drive's sector words, or a string.
-abbrev pub stringIn : Setup → Bool → List ℕ → List ℕ → List ℕ
-stringIn s inSectors octets sectors = pick inSectors (lastCylinder s sectors) octets
+abbrev pub string_in : Setup → Bool → List ℕ → List ℕ → List ℕ
+string_in s inSectors octets sectors = pick inSectors (last_cylinder s sectors) octets
 
 -- A drive within its limits, whose sector words are all there where the map is read off them, and how many octets the map may have.
 pub record Readable (s : Setup) (inSectors : Bool) (octets sectors : List ℕ) (size : ℕ) : Type 0 where
-  pub limits : withinLimits s ≡ true
-  pub room : inSectors ≡ true → allWords s ≤ length sectors
-  pub sized : size ≡ length (stringIn s inSectors octets sectors)
+  pub limits : within_limits s ≡ true
+  pub room : inSectors ≡ true → all_words s ≤ length sectors
+  pub sized : size ≡ length (string_in s inSectors octets sectors)
 
 -- Data field k is there, whole.
 pub record Loadable (s : Setup) (inSectors : Bool) (octets sectors : List ℕ) (k : ℕ) : Type 0 where
-  pub limits : withinLimits s ≡ true
-  pub room : inSectors ≡ true → allWords s ≤ length sectors
-  pub inside : k < dataFields s
-  pub whole : k * fieldOctets s + fieldOctets s ≤ length (stringIn s inSectors octets sectors)
+  pub limits : within_limits s ≡ true
+  pub room : inSectors ≡ true → all_words s ≤ length sectors
+  pub inside : k < data_fields s
+  pub whole : k * field_octets s + field_octets s ≤ length (string_in s inSectors octets sectors)
 
 -- A map without an offence ends before this data field, and these are what is due there and what it lists.
 pub record EndsAt (s : Setup) (octets : List ℕ) (fields : ℕ) (w : Walk) : Type 0 where
-  pub within : fields ≤ dataFields s
-  pub whole : fields * fieldOctets s ≤ length octets
-  pub going : (k : ℕ) → k < fields → isEnded (walkAt s octets k) ≡ false
-  pub ended : isEnded (walkAt s octets fields) ≡ true
-  pub walk : w ≡ walkAt s octets (dataFields s)
-  pub defects : defectsBefore s octets fields ≡ defectsOf s octets
+  pub within : fields ≤ data_fields s
+  pub whole : fields * field_octets s ≤ length octets
+  pub going : (k : ℕ) → k < fields → is_ended (walk_at s octets k) ≡ false
+  pub ended : is_ended (walk_at s octets fields) ≡ true
+  pub walk : w ≡ walk_at s octets (data_fields s)
+  pub defects : defects_before s octets fields ≡ defects_of s octets
 
 -- The map: its offence, or where it ends.
 pub record MapJudged (s : Setup) (inSectors : Bool) (octets : List ℕ) (r : Judgement) : Type 0 where
-  pub offence : r.offence ≡ first_of (mapTests (not inSectors) s octets)
+  pub offence : r.offence ≡ first_of (map_tests (not inSectors) s octets)
   pub ends : r.offence.found ≡ false → EndsAt s octets r.fields r.walk
 
 -- The map decoded, once 9 and 10 are passed.
 pub record MapListed (s : Setup) (inSectors : Bool) (octets before after : List ℕ) (r : MapRead) : Type 0 where
-  pub answer : r ≡ (let offence = first_of (mapTests (not inSectors) s octets) in pick offence.found (Refused offence.number offence.offset) (mapOf s octets))
-  pub slice : after ≡ pick (first_of (mapTests (not inSectors) s octets)).found before (writtenOver before (listOctets (defectsOf s octets)))
+  pub answer : r ≡ (let offence = first_of (map_tests (not inSectors) s octets) in pick offence.found (Refused offence.number offence.offset) (map_of s octets))
+  pub slice : after ≡ pick (first_of (map_tests (not inSectors) s octets)).found before (written_over before (list_octets (defects_of s octets)))
 
 -- Behind the last data field of the cylinder.
-abbrev pub lastTests : Walk → Bool → ℕ → ℕ → List Test
-lastTests w alone start size = pick (isEnded w) (28 at start when (alone && ltb start size) ∷ []) (16 at start when true ∷ [])
+abbrev pub last_tests : Walk → Bool → ℕ → ℕ → List Test
+last_tests w alone start size = pick (is_ended w) (28 at start when (alone && ltb start size) ∷ []) (16 at start when true ∷ [])
 
 -- A data field behind so many defects.
 pub record FieldListed (copy count : ℕ) (field before after : List ℕ) (r : Gathered) : Type 0 where
-  pub count' : r.count ≡ count + length (ownDefects copy field)
-  pub copy' : r.copy ≡ pick (isIgnored field) copy (pick (eqb copy 0) 1 (pick (eqb copy 2) 0 2))
-  pub slice : after ≡ writtenAt before (12 * count) (listOctets (ownDefects copy field))
+  pub count' : r.count ≡ count + length (own_defects copy field)
+  pub copy' : r.copy ≡ pick (is_ignored field) copy (pick (eqb copy 0) 1 (pick (eqb copy 2) 0 2))
+  pub slice : after ≡ written_at before (12 * count) (list_octets (own_defects copy field))
 
 -- So many data fields of a map are there, it has not ended before them, and their defects have room.
 pub record Listable (s : Setup) (inSectors : Bool) (octets sectors : List ℕ) (fields : ℕ) (defects : List ℕ) : Type 0 where
-  pub limits : withinLimits s ≡ true
-  pub room : inSectors ≡ true → allWords s ≤ length sectors
-  pub within : fields ≤ dataFields s
-  pub whole : fields * fieldOctets s ≤ length (stringIn s inSectors octets sectors)
-  pub going : (k : ℕ) → k < fields → isEnded (walkAt s (stringIn s inSectors octets sectors) k) ≡ false
-  pub held : 12 * length (defectsBefore s (stringIn s inSectors octets sectors) fields) ≤ length defects
+  pub limits : within_limits s ≡ true
+  pub room : inSectors ≡ true → all_words s ≤ length sectors
+  pub within : fields ≤ data_fields s
+  pub whole : fields * field_octets s ≤ length (string_in s inSectors octets sectors)
+  pub going : (k : ℕ) → k < fields → is_ended (walk_at s (string_in s inSectors octets sectors) k) ≡ false
+  pub held : 12 * length (defects_before s (string_in s inSectors octets sectors) fields) ≤ length defects

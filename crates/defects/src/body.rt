@@ -1,10 +1,10 @@
 // The data fields of one set, built in octets that are lent.
 ghost use Rattle.std.specs.Prelude.{◌+◌, ◌*◌, ◌/◌, ◌^◌, ◌<◌, ◌≤◌, max, ◌≡◌, ◌||◌, ltb, length};
-ghost use Rattle.laws.specs.Lists.{writtenOver};
+ghost use Rattle.laws.specs.Lists.{written_over};
 ghost use Rattle.defects.specs.Field.{slots};
-ghost use Rattle.defects.specs.Place.{fieldOctets};
-ghost use Rattle.defects.specs.Encoding.{list_from, flagsFor};
-ghost use Rattle.defects.specs.EncodeSteps.{Due, RunOf, AllNear, Ordered, octetsInFront, Filled, finished};
+ghost use Rattle.defects.specs.Place.{field_octets};
+ghost use Rattle.defects.specs.Encoding.{list_from, flags_for};
+ghost use Rattle.defects.specs.EncodeSteps.{Due, RunOf, AllNear, Ordered, octets_in_front, Filled, finished};
 
 use crate::crc::crc;
 use crate::defect::{ENTRY_LENGTH, defect_at};
@@ -56,7 +56,7 @@ pub(crate) fn fill(
     defects: &[u8],
     field: &mut [u8],
 ) -> u64
-    requires { Due setup job defects.now set least × (length field.old ≡ fieldOctets setup) }
+    requires { Due setup job defects.now set least × (length field.old ≡ field_octets setup) }
     ensures { Filled setup job defects.now set field.new result }
 {
     let run = run_of(setup, set, defects.len());
@@ -79,7 +79,7 @@ pub(crate) fn fill(
 
 // `size` is the number of octets of all defects.
 fn run_of(setup: Setup, set: u16, size: usize) -> Run
-    requires { (16 ≤ fieldOctets setup) × (set * slots (fieldOctets setup) ≤ size / 12) }
+    requires { (16 ≤ field_octets setup) × (set * slots (field_octets setup) ≤ size / 12) }
     ensures { RunOf setup set size result }
 {
     let each = slots_of(field_octets(setup));
@@ -127,14 +127,14 @@ fn order_with(order: Order, address: u64) -> Order
 }
 
 fn flags_for(last: bool, unordered: bool) -> u8
-    ensures { result ≡ flagsFor last unordered }
+    ensures { result ≡ flags_for last unordered }
 {
     (parts::part_of(last, LAST) + parts::part_of(unordered, OUT_OF_SEQUENCE)) as u8
 }
 
 fn write_front(front: Front, field: &mut [u8])
     requires { 14 ≤ length field.old }
-    ensures { field.new ≡ writtenOver field.old (octetsInFront front) }
+    ensures { field.new ≡ written_over field.old (octets_in_front front) }
 {
     field[0] = (front.count / 256) as u8;
     field[1] = (front.count % 256) as u8;

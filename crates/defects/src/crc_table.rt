@@ -1,9 +1,9 @@
 // The table of the CRC: at each octet the CRC of that octet alone.
 ghost use Rattle.std.specs.Prelude.{◌≡◌};
-ghost use Rattle.defects.specs.CrcTable.{crcTable};
+ghost use Rattle.defects.specs.CrcTable.{crc_table};
 
 pub(crate) fn crc_table() -> [u16; 256]
-    ensures { result ≡ crcTable }
+    ensures { result ≡ crc_table }
 {
     TABLE
 }

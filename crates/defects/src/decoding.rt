@@ -2,7 +2,7 @@
 ghost use Rattle.std.specs.Prelude.{◌/◌, ◌≤◌, length};
 ghost use Rattle.defects.specs.Decoding.{DecodedMap};
 ghost use Rattle.defects.specs.Sectors.{ReadMap};
-ghost use Rattle.defects.specs.Steps.{stringIn, Readable, MapListed};
+ghost use Rattle.defects.specs.Steps.{string_in, Readable, MapListed};
 
 use crate::gathering::gather;
 use crate::place::{data_fields, field_octets};
@@ -78,7 +78,7 @@ pub(crate) fn decode(
     defects: &mut [u8],
 ) -> MapRead
     requires { Readable setup in_sectors octets.now sectors.now size × (size / 3 ≤ length defects.old) }
-    ensures { MapListed setup in_sectors (stringIn setup in_sectors octets.now sectors.now) defects.old defects.new result }
+    ensures { MapListed setup in_sectors (string_in setup in_sectors octets.now sectors.now) defects.old defects.new result }
 {
     let mut field = room();
     let mut original = room();

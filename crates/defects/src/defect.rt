@@ -1,7 +1,7 @@
 // A defect: 12 octets, both ways, and its place in the order of defects.
 ghost use Rattle.std.specs.Prelude.{◌+◌, ◌≤◌, ◌≡◌, length};
-ghost use Rattle.laws.specs.Lists.{writtenOver};
-ghost use Rattle.defects.specs.Defect.{number_at, defectAt, defectOctets, isBlank, DecodedDefect, EncodedDefect};
+ghost use Rattle.laws.specs.Lists.{written_over};
+ghost use Rattle.defects.specs.Defect.{number_at, defect_at, defect_octets, is_blank, DecodedDefect, EncodedDefect};
 
 #[derive(Drop)]
 pub struct Defect {
@@ -49,7 +49,7 @@ pub fn encode_defect(defect: Defect, octets: &mut [u8]) -> Encoded
 
 pub(crate) fn write_defect(defect: Defect, octets: &mut [u8])
     requires { 12 ≤ length octets.old }
-    ensures { octets.new ≡ writtenOver octets.old (defectOctets defect) }
+    ensures { octets.new ≡ written_over octets.old (defect_octets defect) }
 {
     octets[0] = (defect.cylinder / 0x100_0000) as u8;
     octets[1] = (defect.cylinder / 0x1_0000 % 256) as u8;
@@ -67,7 +67,7 @@ pub(crate) fn write_defect(defect: Defect, octets: &mut [u8])
 
 pub(crate) fn defect_at(octets: &[u8], at: usize) -> Defect
     requires { at + 12 ≤ length octets.now }
-    ensures { result ≡ defectAt at octets.now }
+    ensures { result ≡ defect_at at octets.now }
 {
     Defect {
         cylinder: long_at(octets, at),
@@ -98,7 +98,7 @@ fn wide(octet: u8) -> u16
 }
 
 pub(crate) fn is_blank(d: Defect) -> bool
-    ensures { result ≡ isBlank d }
+    ensures { result ≡ is_blank d }
 {
     (d.cylinder == 0) & (d.head == 0) & (d.offset == 0) & (d.length == 0)
 }

@@ -1,8 +1,8 @@
 // Which maps can be encoded, and in how many sets.
 ghost use Rattle.std.specs.Prelude.{◌/◌, ◌^◌, ◌<◌, ◌≡◌, length};
 ghost use Rattle.defects.specs.Field.{slots};
-ghost use Rattle.defects.specs.Place.{fieldOctets};
-ghost use Rattle.defects.specs.Encoding.{defectsListed, setsFor, isListable, areListable, fits, isEncodable};
+ghost use Rattle.defects.specs.Place.{field_octets};
+ghost use Rattle.defects.specs.Encoding.{defects_listed, sets_for, is_listable, are_listable, fits, is_encodable};
 
 use crate::body::COPIES;
 use crate::defect::{Defect, ENTRY_LENGTH, defect_at, is_blank};
@@ -21,8 +21,8 @@ pub(crate) fn is_encodable(
     sets: usize,
     defects: &[u8],
 ) -> bool
-    requires { sets ≡ setsFor setup (length defects.now / 12) }
-    ensures { result ≡ isEncodable setup (record { cylinder = cylinder; head = head; defects = defectsListed defects.now }) }
+    requires { sets ≡ sets_for setup (length defects.now / 12) }
+    ensures { result ≡ is_encodable setup (record { cylinder = cylinder; head = head; defects = defects_listed defects.now }) }
 {
     (cylinder < setup.cylinders)
         & (head < setup.heads)
@@ -31,7 +31,7 @@ pub(crate) fn is_encodable(
 }
 
 fn are_listable(setup: Setup, defects: &[u8]) -> bool
-    ensures { result ≡ areListable setup (defectsListed defects.now) }
+    ensures { result ≡ are_listable setup (defects_listed defects.now) }
 {
     let mut at = 0;
     let mut left = defects.len() / ENTRY_LENGTH;
@@ -46,14 +46,14 @@ fn are_listable(setup: Setup, defects: &[u8]) -> bool
 }
 
 fn is_listable(setup: Setup, d: Defect) -> bool
-    ensures { result ≡ isListable setup d }
+    ensures { result ≡ is_listable setup d }
 {
     (d.cylinder < setup.cylinders as u32) & (d.head < setup.heads) & !is_blank(d)
 }
 
 // The last cylinder has data fields for so many sets, and they have room for entries if there are any.
 fn has_fields(setup: Setup, sets: usize, count: usize) -> bool
-    requires { sets ≡ setsFor setup count }
+    requires { sets ≡ sets_for setup count }
     ensures { result ≡ fits setup count }
 {
     (sets <= data_fields(setup) / COPIES) & ((0 < slots_each(setup)) | (count == 0))
@@ -62,7 +62,7 @@ fn has_fields(setup: Setup, sets: usize, count: usize) -> bool
 // How many sets so many defects take.
 pub(crate) fn sets_for(setup: Setup, count: usize) -> usize
     requires { count < 2 ^ 62 }
-    ensures { result ≡ setsFor setup count }
+    ensures { result ≡ sets_for setup count }
 {
     let each = slots_each(setup);
     if each == 0 {
@@ -76,7 +76,7 @@ pub(crate) fn sets_for(setup: Setup, count: usize) -> usize
 }
 
 fn slots_each(setup: Setup) -> usize
-    ensures { (result ≡ slots (fieldOctets setup)) × (result < 2 ^ 32) }
+    ensures { (result ≡ slots (field_octets setup)) × (result < 2 ^ 32) }
 {
     let size = field_octets(setup);
     if size < LEAST_FIELD_OCTETS {

@@ -1,9 +1,9 @@
 // The entries of copy 0.
 ghost use Rattle.std.specs.Prelude.{◌+◌, ◌≤◌, ◌<◌, ◌^◌, ◌≡◌, true};
-ghost use Rattle.parts.specs.Setup.{withinLimits};
+ghost use Rattle.parts.specs.Setup.{within_limits};
 ghost use Rattle.defects.specs.Defect.{address};
 ghost use Rattle.defects.specs.Field.{slots};
-ghost use Rattle.defects.specs.Steps.{Sized, noneAfter, EntryJudged, EntriesJudged};
+ghost use Rattle.defects.specs.Steps.{Sized, none_after, EntryJudged, EntriesJudged};
 
 use crate::defect::{Defect, ENTRY_LENGTH, defect_at, is_blank};
 use crate::judging::{CRC_LENGTH, Judged};
@@ -57,7 +57,7 @@ pub(crate) fn entries_offence(
 }
 
 fn none_after(count: usize, least: u64) -> Entries
-    ensures { result ≡ noneAfter count least }
+    ensures { result ≡ none_after count least }
 {
     Entries {
         offence: no_offence(),
@@ -67,7 +67,7 @@ fn none_after(count: usize, least: u64) -> Entries
 }
 
 fn judge_entry(setup: Setup, flagged: bool, least: u64, offset: usize, d: Defect) -> Judged
-    requires { (withinLimits setup ≡ true) × (offset < 2 ^ 63) }
+    requires { (within_limits setup ≡ true) × (offset < 2 ^ 63) }
     ensures { EntryJudged setup flagged least offset d result }
 {
     if setup.cylinders as u32 <= d.cylinder {

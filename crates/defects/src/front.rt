@@ -1,8 +1,8 @@
 // The octets in front of the entries of a data field.
 ghost use Rattle.std.specs.Prelude.{◌≤◌, ◌<◌, ◌^◌, ◌≡◌, length};
 ghost use Rattle.defects.specs.Offence.{first_of};
-ghost use Rattle.defects.specs.Field.{frontOf};
-ghost use Rattle.defects.specs.Judging.{hasWrongFlags, openingTests, laterTests, frontTests};
+ghost use Rattle.defects.specs.Field.{front_of};
+ghost use Rattle.defects.specs.Judging.{has_wrong_flags, opening_tests, later_tests, front_tests};
 
 use crate::defect::{long_at, word_at};
 use crate::offence::{Offence, no_offence, offence_at};
@@ -38,7 +38,7 @@ const STORAGE_HEAD: usize = 12;
 
 pub(crate) fn front_of(field: &[u8]) -> Front
     requires { 16 ≤ length field.now }
-    ensures { result ≡ frontOf field.now }
+    ensures { result ≡ front_of field.now }
 {
     Front {
         count: word_at(field, COUNT),
@@ -60,7 +60,7 @@ pub(crate) fn front_offence(
     front: Front,
 ) -> Offence
     requires { (start < 2 ^ 63) × (2 ≤ size) × (walk.set < 2 ^ 32) }
-    ensures { result ≡ first_of (frontTests setup walk start size front) }
+    ensures { result ≡ first_of (front_tests setup walk start size front) }
 {
     if front.count as usize != size - 2 {
         return offence_at(18, start);
@@ -74,7 +74,7 @@ pub(crate) fn front_offence(
 // The first data field of the map.
 fn opening_offence(setup: Setup, start: usize, front: Front) -> Offence
     requires { start < 2 ^ 63 }
-    ensures { result ≡ first_of (openingTests setup start front) }
+    ensures { result ≡ first_of (opening_tests setup start front) }
 {
     if has_wrong_flags(front.flags, front.sets == 1) {
         return offence_at(19, start + FLAGS);
@@ -100,7 +100,7 @@ fn opening_offence(setup: Setup, start: usize, front: Front) -> Offence
 // Copy 0 of a later set.
 fn later_offence(walk: Walk, start: usize, front: Front) -> Offence
     requires { (start < 2 ^ 63) × (walk.set < 2 ^ 32) }
-    ensures { result ≡ first_of (laterTests walk start front) }
+    ensures { result ≡ first_of (later_tests walk start front) }
 {
     if has_wrong_flags(front.flags, walk.sets as usize == walk.set + 1) {
         return offence_at(19, start + FLAGS);
@@ -124,7 +124,7 @@ fn later_offence(walk: Walk, start: usize, front: Front) -> Offence
 }
 
 fn has_wrong_flags(flags: u8, last: bool) -> bool
-    ensures { result ≡ hasWrongFlags flags last }
+    ensures { result ≡ has_wrong_flags flags last }
 {
     let says_last = flags / 128 % 2 == 1;
     (flags / 16 % 8 != 0) | (flags % 8 != 0) | (last & !says_last) | (!last & says_last)

@@ -1,11 +1,11 @@
 // The defects of a map that was judged, listed in a lent slice.
 ghost use Rattle.std.specs.Prelude.{◌+◌, ◌*◌, ◌≤◌, ◌≡◌, eqb, length};
 ghost use Rattle.laws.specs.Pick.{pick};
-ghost use Rattle.laws.specs.Lists.{writtenOver, writtenAt};
-ghost use Rattle.defects.specs.Defect.{listOctets};
-ghost use Rattle.defects.specs.Field.{defectsIn};
-ghost use Rattle.defects.specs.Walk.{field_at, defectsBefore};
-ghost use Rattle.defects.specs.Steps.{stringIn, ownDefects, Loadable, FieldListed, Listable};
+ghost use Rattle.laws.specs.Lists.{written_over, written_at};
+ghost use Rattle.defects.specs.Defect.{list_octets};
+ghost use Rattle.defects.specs.Field.{defects_in};
+ghost use Rattle.defects.specs.Walk.{field_at, defects_before};
+ghost use Rattle.defects.specs.Steps.{string_in, own_defects, Loadable, FieldListed, Listable};
 
 use crate::defect::{ENTRY_LENGTH, defect_at, is_blank, write_defect};
 use crate::entries::{ENTRIES, slots_of};
@@ -33,7 +33,7 @@ pub(crate) fn gather(
     defects: &mut [u8],
 ) -> usize
     requires { Listable setup in_sectors octets.now sectors.now fields defects.old × (2048 ≤ length field.old) }
-    ensures { (result ≡ length (defectsBefore setup (stringIn setup in_sectors octets.now sectors.now) fields)) × (defects.new ≡ writtenOver defects.old (listOctets (defectsBefore setup (stringIn setup in_sectors octets.now sectors.now) fields))) }
+    ensures { (result ≡ length (defects_before setup (string_in setup in_sectors octets.now sectors.now) fields)) × (defects.new ≡ written_over defects.old (list_octets (defects_before setup (string_in setup in_sectors octets.now sectors.now) fields))) }
 {
     let mut count = 0;
     let mut copy: u8 = 0;
@@ -61,8 +61,8 @@ fn list_at(
     field: &mut [u8],
     defects: &mut [u8],
 ) -> Gathered
-    requires { Loadable setup in_sectors octets.now sectors.now k × (12 * (count + length (ownDefects copy (field_at setup (stringIn setup in_sectors octets.now sectors.now) k))) ≤ length defects.old) × (2048 ≤ length field.old) }
-    ensures { FieldListed copy count (field_at setup (stringIn setup in_sectors octets.now sectors.now) k) defects.old defects.new result }
+    requires { Loadable setup in_sectors octets.now sectors.now k × (12 * (count + length (own_defects copy (field_at setup (string_in setup in_sectors octets.now sectors.now) k))) ≤ length defects.old) × (2048 ≤ length field.old) }
+    ensures { FieldListed copy count (field_at setup (string_in setup in_sectors octets.now sectors.now) k) defects.old defects.new result }
 {
     let each = field_octets(setup);
     if in_sectors {
@@ -75,7 +75,7 @@ fn list_at(
 
 // A data field behind so many defects: its own are listed where copy 0 is due and it is not ignored.
 fn list_field(copy: u8, count: usize, field: &[u8], defects: &mut [u8]) -> Gathered
-    requires { (16 ≤ length field.now) × (12 * (count + length (ownDefects copy field.now)) ≤ length defects.old) }
+    requires { (16 ≤ length field.now) × (12 * (count + length (own_defects copy field.now)) ≤ length defects.old) }
     ensures { FieldListed copy count field.now defects.old defects.new result }
 {
     if field[COPY] == IGNORED {
@@ -95,8 +95,8 @@ fn list_field(copy: u8, count: usize, field: &[u8], defects: &mut [u8]) -> Gathe
 
 // The entries of a data field behind so many others: how many they are then.
 fn list_entries(field: &[u8], count: usize, defects: &mut [u8]) -> usize
-    requires { (16 ≤ length field.now) × (12 * (count + length (defectsIn field.now)) ≤ length defects.old) }
-    ensures { (result ≡ count + length (defectsIn field.now)) × (defects.new ≡ writtenAt defects.old (12 * count) (listOctets (defectsIn field.now))) }
+    requires { (16 ≤ length field.now) × (12 * (count + length (defects_in field.now)) ≤ length defects.old) }
+    ensures { (result ≡ count + length (defects_in field.now)) × (defects.new ≡ written_at defects.old (12 * count) (list_octets (defects_in field.now))) }
 {
     let slots = slots_of(field.len());
     let mut i = 0;

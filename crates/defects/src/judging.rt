@@ -1,8 +1,8 @@
 // The tests of one data field, in the order of its octets. `start` is the offset of its octet 0 in the map.
 ghost use Rattle.std.specs.Prelude.{◌+◌, ◌-◌, ◌*◌, ◌≤◌, ◌<◌, ◌^◌, ◌≡◌, length};
-ghost use Rattle.defects.specs.Offence.{first_of, testsOver};
-ghost use Rattle.defects.specs.Field.{frontOf};
-ghost use Rattle.defects.specs.Judging.{sameTest, crcTests, paddingTests, copyTests};
+ghost use Rattle.defects.specs.Offence.{first_of, tests_over};
+ghost use Rattle.defects.specs.Field.{front_of};
+ghost use Rattle.defects.specs.Judging.{same_test, crc_tests, padding_tests, copy_tests};
 ghost use Rattle.defects.specs.Steps.{Sized, OriginalJudged, NoneUnlike};
 
 use crate::crc::crc;
@@ -31,7 +31,7 @@ pub(crate) fn judge_original(
     front: Front,
     field: &[u8],
 ) -> Judged
-    requires { Sized setup start field.now × (walk.set < 2 ^ 32) × (front ≡ frontOf field.now) }
+    requires { Sized setup start field.now × (walk.set < 2 ^ 32) × (front ≡ front_of field.now) }
     ensures { OriginalJudged setup walk least start field.now result }
 {
     let fore = front_offence(setup, walk, start, field.len(), front);
@@ -62,7 +62,7 @@ pub(crate) fn judge_original(
 // Copies 1 and 2.
 pub(crate) fn copy_offence(walk: Walk, start: usize, original: &[u8], field: &[u8]) -> Offence
     requires { (16 ≤ length field.now) × (length original.now ≡ length field.now) × (start + length field.now < 2 ^ 63) }
-    ensures { result ≡ first_of (copyTests walk start original.now field.now) }
+    ensures { result ≡ first_of (copy_tests walk start original.now field.now) }
 {
     let front = same_offence(start, field, original, 0, COPY);
     if front.found {
@@ -87,7 +87,7 @@ pub(crate) fn copy_offence(walk: Walk, start: usize, original: &[u8], field: &[u
 // The octets behind so many entries are zero.
 fn padding_offence(start: usize, field: &[u8], count: usize) -> Offence
     requires { (14 + 12 * count + 2 ≤ length field.now) × (start + length field.now < 2 ^ 63) }
-    ensures { result ≡ first_of (paddingTests start field.now count) }
+    ensures { result ≡ first_of (padding_tests start field.now count) }
 {
     let end = field.len() - CRC_LENGTH;
     let mut i = ENTRIES + ENTRY_LENGTH * count;
@@ -103,7 +103,7 @@ fn padding_offence(start: usize, field: &[u8], count: usize) -> Offence
 // So many octets from an index on are as in copy 0.
 fn same_offence(start: usize, field: &[u8], original: &[u8], from: usize, count: usize) -> Offence
     requires { (from + count ≤ length field.now) × (length original.now ≡ length field.now) × (start + length field.now < 2 ^ 63) }
-    ensures { result ≡ first_of (testsOver (sameTest start field.now original.now) from count) }
+    ensures { result ≡ first_of (tests_over (same_test start field.now original.now) from count) }
 {
     if is_alike(field, original, from, count) {
         return no_offence();
@@ -128,7 +128,7 @@ fn is_alike(field: &[u8], original: &[u8], from: usize, count: usize) -> bool
 
 fn first_unlike(start: usize, field: &[u8], original: &[u8], from: usize, count: usize) -> Offence
     requires { (from + count ≤ length field.now) × (length original.now ≡ length field.now) × (start + length field.now < 2 ^ 63) }
-    ensures { result ≡ first_of (testsOver (sameTest start field.now original.now) from count) }
+    ensures { result ≡ first_of (tests_over (same_test start field.now original.now) from count) }
 {
     let end = from + count;
     let mut i = from;
@@ -143,7 +143,7 @@ fn first_unlike(start: usize, field: &[u8], original: &[u8], from: usize, count:
 
 fn crc_offence(start: usize, field: &[u8]) -> Offence
     requires { (2 ≤ length field.now) × (start + length field.now < 2 ^ 63) }
-    ensures { result ≡ first_of (crcTests start field.now) }
+    ensures { result ≡ first_of (crc_tests start field.now) }
 {
     let end = field.len() - CRC_LENGTH;
     if word_at(field, end) != crc(&field[..end]) {

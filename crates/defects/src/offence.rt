@@ -1,6 +1,6 @@
 // An offence of a map: its number and where it lies, or none.
 ghost use Rattle.std.specs.Prelude.{◌≡◌};
-ghost use Rattle.defects.specs.Offence.{noOffence, offenceAt};
+ghost use Rattle.defects.specs.Offence.{no_offence, offence_at};
 
 #[derive(Drop)]
 pub(crate) struct Offence {
@@ -10,7 +10,7 @@ pub(crate) struct Offence {
 }
 
 pub(crate) fn no_offence() -> Offence
-    ensures { result ≡ noOffence }
+    ensures { result ≡ no_offence }
 {
     Offence {
         found: false,
@@ -20,7 +20,7 @@ pub(crate) fn no_offence() -> Offence
 }
 
 pub(crate) fn offence_at(number: u8, offset: usize) -> Offence
-    ensures { result ≡ offenceAt number offset }
+    ensures { result ≡ offence_at number offset }
 {
     Offence {
         found: true,

@@ -1,7 +1,7 @@
 // Where the data fields of a map are.
 ghost use Rattle.std.specs.Prelude.{◌≡◌, true, ◌≤◌, ◌<◌};
-ghost use Rattle.parts.specs.Setup.{withinLimits};
-ghost use Rattle.defects.specs.Place.{fieldOctets, dataFields, place_of, Placed};
+ghost use Rattle.parts.specs.Setup.{within_limits};
+ghost use Rattle.defects.specs.Place.{field_octets, data_fields, place_of, Placed};
 
 use parts::{Place, Setup};
 
@@ -31,7 +31,7 @@ pub fn map_place(setup: Setup, k: usize) -> MapPlace
 }
 
 pub(crate) fn place_of(setup: Setup, k: usize) -> Place
-    requires { (withinLimits setup ≡ true) × (k < dataFields setup) }
+    requires { (within_limits setup ≡ true) × (k < data_fields setup) }
     ensures { result ≡ place_of setup k }
 {
     let sectors = setup.sectors as usize;
@@ -43,7 +43,7 @@ pub(crate) fn place_of(setup: Setup, k: usize) -> Place
 }
 
 pub(crate) fn data_fields(setup: Setup) -> usize
-    ensures { result ≡ dataFields setup }
+    ensures { result ≡ data_fields setup }
 {
     if setup.field1 < LEAST_FIELD_WORDS {
         return 0;
@@ -52,7 +52,7 @@ pub(crate) fn data_fields(setup: Setup) -> usize
 }
 
 pub(crate) fn field_octets(setup: Setup) -> usize
-    ensures { result ≡ fieldOctets setup }
+    ensures { result ≡ field_octets setup }
 {
     2 * setup.field1 as usize
 }

@@ -1,17 +1,17 @@
 // The data fields of a map in a drive's sector words.
 ghost use Rattle.std.specs.Prelude.{◌+◌, ◌*◌, ◌^◌, ◌≤◌, ◌<◌, ◌≡◌, true, length, take, drop};
-ghost use Rattle.parts.specs.Setup.{withinLimits, allWords, sectorNumber, sectorStart, isPlace};
-ghost use Rattle.defects.specs.Place.{fieldOctets, dataFields};
+ghost use Rattle.parts.specs.Setup.{within_limits, all_words, sector_number, sector_start, is_place};
+ghost use Rattle.defects.specs.Place.{field_octets, data_fields};
 ghost use Rattle.defects.specs.Walk.{field_at};
-ghost use Rattle.defects.specs.Sectors.{wordOctets, fieldStart, lastCylinder};
+ghost use Rattle.defects.specs.Sectors.{word_octets, field_start, last_cylinder};
 
 use crate::place::place_of;
 use parts::{Place, Setup};
 
 // Data field k of the map, at the front of a lent slice.
 pub(crate) fn load(setup: Setup, sectors: &[u16], k: usize, field: &mut [u8])
-    requires { (withinLimits setup ≡ true) × (allWords setup ≤ length sectors.now) × (k < dataFields setup) × (2048 ≤ length field.old) }
-    ensures { take (fieldOctets setup) field.new ≡ field_at setup (lastCylinder setup sectors.now) k }
+    requires { (within_limits setup ≡ true) × (all_words setup ≤ length sectors.now) × (k < data_fields setup) × (2048 ≤ length field.old) }
+    ensures { take (field_octets setup) field.new ≡ field_at setup (last_cylinder setup sectors.now) k }
 {
     load_words(sectors, field_start(setup, k), setup.field1 as usize, field);
 }
@@ -19,7 +19,7 @@ pub(crate) fn load(setup: Setup, sectors: &[u16], k: usize, field: &mut [u8])
 // The high octet of a word is the first.
 fn load_words(sectors: &[u16], start: usize, count: usize, field: &mut [u8])
     requires { (start + count ≤ length sectors.now) × (2 * count ≤ length field.old) }
-    ensures { take (2 * count) field.new ≡ wordOctets (take count (drop start sectors.now)) }
+    ensures { take (2 * count) field.new ≡ word_octets (take count (drop start sectors.now)) }
 {
     let mut i = 0;
     while i < count {
@@ -32,24 +32,24 @@ fn load_words(sectors: &[u16], start: usize, count: usize, field: &mut [u8])
 
 // Where data field k begins in the sector words.
 pub(crate) fn field_start(setup: Setup, k: usize) -> usize
-    requires { (withinLimits setup ≡ true) × (k < dataFields setup) }
-    ensures { result ≡ fieldStart setup k }
+    requires { (within_limits setup ≡ true) × (k < data_fields setup) }
+    ensures { result ≡ field_start setup k }
 {
     sector_start(setup, place_of(setup, k)) + setup.header as usize
 }
 
 // Where the words of the sector at a place begin.
 fn sector_start(setup: Setup, place: Place) -> usize
-    requires { (withinLimits setup ≡ true) × (isPlace setup place ≡ true) }
-    ensures { (result ≡ sectorStart setup place) × (result < 2 ^ 40) }
+    requires { (within_limits setup ≡ true) × (is_place setup place ≡ true) }
+    ensures { (result ≡ sector_start setup place) × (result < 2 ^ 40) }
 {
     sector_number(setup, place) * setup.sector_words()
 }
 
 // The sectors before the one at a place.
 fn sector_number(setup: Setup, place: Place) -> usize
-    requires { (withinLimits setup ≡ true) × (isPlace setup place ≡ true) }
-    ensures { result ≡ sectorNumber setup place }
+    requires { (within_limits setup ≡ true) × (is_place setup place ≡ true) }
+    ensures { result ≡ sector_number setup place }
 {
     let track = place.cylinder as usize * setup.heads as usize + place.head as usize;
     track * setup.sectors as usize + place.sector as usize

@@ -1,7 +1,7 @@
 // The walk over the sets of a map: each is built once and put into its places three times.
 ghost use Rattle.std.specs.Prelude.{◌*◌};
-ghost use Rattle.defects.specs.Encoding.{mapOctets};
-ghost use Rattle.defects.specs.EncodeSteps.{valueIn, Planned, Due, HasRoom, FieldsPut, SetPut};
+ghost use Rattle.defects.specs.Encoding.{map_octets};
+ghost use Rattle.defects.specs.EncodeSteps.{value_in, Planned, Due, HasRoom, FieldsPut, SetPut};
 
 use crate::body::{COPIES, Job, fill, finish};
 use crate::place::field_octets;
@@ -12,7 +12,7 @@ use parts::Setup;
 // All sets of a map.
 pub(crate) fn put_sets(setup: Setup, job: Job, defects: &[u8], out: &mut [u8], sectors: &mut [u16])
     requires { Planned setup job defects.now × HasRoom setup job out.old sectors.old }
-    ensures { FieldsPut setup job.stored (mapOctets setup (valueIn job defects.now)) (3 * job.sets) out.old out.new sectors.old sectors.new }
+    ensures { FieldsPut setup job.stored (map_octets setup (value_in job defects.now)) (3 * job.sets) out.old out.new sectors.old sectors.new }
 {
     let mut set: u16 = 0;
     let mut least: u64 = 0;

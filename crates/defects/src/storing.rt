@@ -1,7 +1,7 @@
 // A data field put into its place: into the octets of a map, or into the sector words.
 ghost use Rattle.std.specs.Prelude.{◌+◌, ◌-◌, ◌%◌, ◌≤◌, ◌≡◌, ◌++◌, length, replicate, get_or};
-ghost use Rattle.laws.specs.Lists.{writtenAt};
-ghost use Rattle.defects.specs.Sectors.{octetWords};
+ghost use Rattle.laws.specs.Lists.{written_at};
+ghost use Rattle.defects.specs.Sectors.{octet_words};
 ghost use Rattle.defects.specs.EncodeSteps.{FieldPut, HasPlace};
 
 use crate::defect::word_at;
@@ -29,8 +29,8 @@ pub(crate) fn put_field(
 
 // The octets go to the words from the index `at` on, two a word, the first of them the high one.
 fn store(words: &mut [u16], at: usize, octets: &[u8])
-    requires { at + length (octetWords octets.now) ≤ length words.old }
-    ensures { words.new ≡ writtenAt words.old at (octetWords octets.now) }
+    requires { at + length (octet_words octets.now) ≤ length words.old }
+    ensures { words.new ≡ written_at words.old at (octet_words octets.now) }
 {
     let count = octets.len() / 2;
     let mut i = 0;
@@ -43,7 +43,7 @@ fn store(words: &mut [u16], at: usize, octets: &[u8])
 // The octets go to `out` from the index `at` on.
 fn put(out: &mut [u8], at: usize, octets: &[u8])
     requires { (at + length octets.now ≤ length out.old) × (length octets.now % 2 ≡ 0) }
-    ensures { out.new ≡ writtenAt out.old at octets.now }
+    ensures { out.new ≡ written_at out.old at octets.now }
 {
     // Two octets a turn: one a turn would be made a call of `memcpy`.
     let pairs = octets.len() / 2;
@@ -58,7 +58,7 @@ fn put(out: &mut [u8], at: usize, octets: &[u8])
 // The octets go to `out` from the index `at` on, and zeros behind them.
 pub(crate) fn put_padded(out: &mut [u8], at: usize, octets: &[u8])
     requires { at + length octets.now ≤ length out.old }
-    ensures { out.new ≡ writtenAt out.old at (octets.now ++ replicate (length out.old - at - length octets.now) 0) }
+    ensures { out.new ≡ written_at out.old at (octets.now ++ replicate (length out.old - at - length octets.now) 0) }
 {
     let room = out.len() - at;
     let mut i = 0;

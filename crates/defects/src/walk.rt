@@ -1,6 +1,6 @@
 // The walk over the data fields of a map: which copy of which set each of them is.
 ghost use Rattle.std.specs.Prelude.{◌<◌, ◌^◌, ◌≡◌};
-ghost use Rattle.defects.specs.Walk.{outset, isEnded, afterOriginal, afterCopy};
+ghost use Rattle.defects.specs.Walk.{outset, is_ended, after_original, after_copy};
 ghost use Rattle.defects.specs.Steps.{Judgeable, StepTaken};
 
 use crate::front::{COPY, Front, front_of};
@@ -50,7 +50,7 @@ pub(crate) fn outset_of_map() -> Walk
 }
 
 pub(crate) fn is_ended(walk: Walk) -> bool
-    ensures { result ≡ isEnded walk }
+    ensures { result ≡ is_ended walk }
 {
     walk.last & (walk.copy == 0)
 }
@@ -93,7 +93,7 @@ pub(crate) fn step(
 }
 
 fn after_original(walk: Walk, k: usize, front: Front) -> Walk
-    ensures { result ≡ afterOriginal walk k front }
+    ensures { result ≡ after_original walk k front }
 {
     Walk {
         set: walk.set,
@@ -108,7 +108,7 @@ fn after_original(walk: Walk, k: usize, front: Front) -> Walk
 
 fn after_copy(walk: Walk) -> Walk
     requires { walk.set < 2 ^ 32 }
-    ensures { result ≡ afterCopy walk }
+    ensures { result ≡ after_copy walk }
 {
     let mut next = walk;
     if walk.copy == LAST_COPY {

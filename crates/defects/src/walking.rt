@@ -1,9 +1,9 @@
 // A map judged: data field after data field, up to its end or its first offence.
 ghost use Rattle.std.specs.Prelude.{◌*◌, ◌≤◌, ◌<◌, ◌^◌, ◌≡◌, ◌&&◌, [], ◌∷◌, ltb, length};
 ghost use Rattle.defects.specs.Offence.{◌at◌when◌, first_of};
-ghost use Rattle.defects.specs.Place.{fieldOctets};
+ghost use Rattle.defects.specs.Place.{field_octets};
 ghost use Rattle.defects.specs.Walk.{field_at};
-ghost use Rattle.defects.specs.Steps.{stringIn, lastTests, Readable, Loadable, StepTaken, MapJudged};
+ghost use Rattle.defects.specs.Steps.{string_in, last_tests, Readable, Loadable, StepTaken, MapJudged};
 
 use crate::offence::{Offence, no_offence, offence_at};
 use crate::place::{NO_DATA_FIELD, data_fields, field_octets};
@@ -33,7 +33,7 @@ pub(crate) fn judge(
     field: &mut [u8],
 ) -> Judgement
     requires { Readable setup in_sectors octets.now sectors.now size × (2048 ≤ length original.old) × (2048 ≤ length field.old) }
-    ensures { MapJudged setup in_sectors (stringIn setup in_sectors octets.now sectors.now) result }
+    ensures { MapJudged setup in_sectors (string_in setup in_sectors octets.now sectors.now) result }
 {
     let count = data_fields(setup);
     let each = field_octets(setup);
@@ -91,7 +91,7 @@ fn turn(
     field: &mut [u8],
 ) -> Stepped
     requires { Loadable setup in_sectors octets.now sectors.now k × (walk.set < 2 ^ 32) × (walk.original ≤ k) × (2048 ≤ length original.old) × (2048 ≤ length field.old) }
-    ensures { StepTaken setup walk least k (k * fieldOctets setup) (field_at setup (stringIn setup in_sectors octets.now sectors.now) walk.original) (field_at setup (stringIn setup in_sectors octets.now sectors.now) k) result }
+    ensures { StepTaken setup walk least k (k * field_octets setup) (field_at setup (string_in setup in_sectors octets.now sectors.now) walk.original) (field_at setup (string_in setup in_sectors octets.now sectors.now) k) result }
 {
     let each = field_octets(setup);
     let at = k * each;
@@ -107,7 +107,7 @@ fn turn(
 
 // Behind the last data field of the cylinder.
 fn last_offence(walk: Walk, alone: bool, start: usize, size: usize) -> Offence
-    ensures { result ≡ first_of (lastTests walk alone start size) }
+    ensures { result ≡ first_of (last_tests walk alone start size) }
 {
     if is_ended(walk) {
         return end_offence(alone, start, size);

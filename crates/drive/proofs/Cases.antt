@@ -4,6 +4,6 @@ use mathlib.Core.Path.{refl}
 use Rattle.drive.specs.Cases.{CasesHold}
 use Rattle.drive.proofs.Computing.{computing}
 
-pub cases-hold : CasesHold
+pub cases_hold : CasesHold
 unfolding computing
-cases-hold = record { all = (record { answered = refl; words = refl; position = refl }, (record { answered = refl; words = refl; position = refl }, (record { answered = refl; words = refl; position = refl }, (record { answered = refl; words = refl; position = refl }, (record { answered = refl; words = refl; position = refl }, (record { answered = refl; words = refl; position = refl }, (record { answered = refl; words = refl; position = refl }, (record { answered = refl; words = refl; position = refl }, (record { answered = refl; words = refl; position = refl }, tt))))))))) }
+cases_hold = record { all = (record { answered = refl; words = refl; position = refl }, (record { answered = refl; words = refl; position = refl }, (record { answered = refl; words = refl; position = refl }, (record { answered = refl; words = refl; position = refl }, (record { answered = refl; words = refl; position = refl }, (record { answered = refl; words = refl; position = refl }, (record { answered = refl; words = refl; position = refl }, (record { answered = refl; words = refl; position = refl }, (record { answered = refl; words = refl; position = refl }, tt))))))))) }

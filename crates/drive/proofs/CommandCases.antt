@@ -4,6 +4,6 @@ use mathlib.Core.Path.{refl}
 use Rattle.drive.specs.CommandCases.{CommandCasesHold}
 use Rattle.drive.proofs.Computing.{computing}
 
-pub command-cases-hold : CommandCasesHold
+pub command_cases_hold : CommandCasesHold
 unfolding computing
-command-cases-hold = record { all = (record { answered = refl; ended = refl }, (record { answered = refl; ended = refl }, (record { answered = refl; ended = refl }, (record { answered = refl; ended = refl }, (record { answered = refl; ended = refl }, (record { answered = refl; ended = refl }, (record { answered = refl; ended = refl }, (record { answered = refl; ended = refl }, (record { answered = refl; ended = refl }, tt))))))))) }
+command_cases_hold = record { all = (record { answered = refl; ended = refl }, (record { answered = refl; ended = refl }, (record { answered = refl; ended = refl }, (record { answered = refl; ended = refl }, (record { answered = refl; ended = refl }, (record { answered = refl; ended = refl }, (record { answered = refl; ended = refl }, (record { answered = refl; ended = refl }, (record { answered = refl; ended = refl }, tt))))))))) }

@@ -10,158 +10,158 @@ use native.Mathlib.Omega.{arith}
 use borrow.Author.Tests.{eq-eqb, ne_eqb}
 use lib.ListN.{get_or}
 use Rattle.laws.specs.Pick.{pick}
-use Rattle.parts.specs.Setup.{isPlace, isTarget}
-use Rattle.parts.specs.Command.{loadPosition, readStatus, code_of, parameterWords}
-use Rattle.parts.specs.Control.{controlOf, wordsToCome}
+use Rattle.parts.specs.Setup.{is_place, is_target}
+use Rattle.parts.specs.Command.{load_position, read_status, code_of, parameter_words}
+use Rattle.parts.specs.Control.{control_of, words_to_come}
 use Rattle.parts.specs.Kind.{DataControl, WordFromHost, TakeWord, Target, ReadStatus, kind_of}
-use Rattle.parts.specs.Pending.{nothingPending}
-use Rattle.parts.specs.Tests.{parameters, noParameters, transferringWith}
+use Rattle.parts.specs.Pending.{nothing_pending}
+use Rattle.parts.specs.Tests.{parameters, no_parameters, transferring_with}
 use Rattle.parts.specs.declared.setup.Place.{Place}
 use Rattle.parts.specs.declared.pending.Pending.{Pending}
 use Rattle.parts.specs.declared.transfer.Parameters.{Parameters}
 use Rattle.drive.specs.Answer.{normal}
-use Rattle.drive.specs.State.{at_place, withPlace, withTarget, withTransfer, pendingOn, postedOn, told}
+use Rattle.drive.specs.State.{at_place, with_place, with_target, with_transfer, pending_on, posted_on, told}
 use Rattle.drive.specs.Drive.{closed}
-use Rattle.drive.specs.Request.{octet2Cleared, opened, dataControl, targeted, statusRead}
-use Rattle.drive.specs.Command.{keptAs, cylinderOf, placeSought, targetSought, seeking, obeyed, parameterSent, statusTold, wordsTold, statusCleared, responseTaken, wordFromHost, wordToHost}
+use Rattle.drive.specs.Request.{octet2_cleared, opened, data_control, targeted, status_read}
+use Rattle.drive.specs.Command.{kept_as, cylinder_of, place_sought, target_sought, seeking, obeyed, parameter_sent, status_told, words_told, status_cleared, response_taken, word_from_host, word_to_host}
 use Rattle.drive.specs.Run.{Machine, after, final}
 use Rattle.drive.specs.StaysSound.{IsSound}
 use Rattle.drive.specs.Calls.{Ran}
-use Rattle.drive.specs.NeverDead.{sent, wordSent, positionSent}
-use Rattle.drive.specs.Commands.{Idle, takesSent, statusAsked, taken, StatusBy44, positionSentBy07, PositionBy07, Commands}
-use Rattle.drive.specs.Ignored.{clearedOn}
+use Rattle.drive.specs.NeverDead.{sent, word_sent, position_sent}
+use Rattle.drive.specs.Commands.{Idle, takes_sent, status_asked, taken, StatusBy44, position_sent_by07, PositionBy07, Commands}
+use Rattle.drive.specs.Ignored.{cleared_on}
 use Rattle.drive.specs.declared.answer.Answer.TheVariants.{Done, Status, Opened, Word, LastWord}
-use Rattle.drive.proofs.Cleared.{nothing-to-clear, nothing_left}
-use Rattle.drive.proofs.NeverDead.{Does, follows, nothing-follows, work-does, quietly, withDrive, position-does}
-use Rattle.drive.proofs.Commands.{holds-by-command, commands-keep-out, command-cut-short}
+use Rattle.drive.proofs.Cleared.{nothing_to_clear, nothing_left_lem}
+use Rattle.drive.proofs.NeverDead.{Does, follows, nothing_follows, work_does, quietly, with_drive, position_does}
+use Rattle.drive.proofs.Commands.{holds_by_command, commands_keep_out, command_cut_short}
 
 -- this code is open, with so many words moved and kept
 abbrev within : Machine → ℕ → ℕ → Parameters → Machine
-within m c moved kept = withDrive m (withTransfer m.drive (transferringWith c moved kept))
+within m c moved kept = with_drive m (with_transfer m.drive (transferring_with c moved kept))
 
 module _ (m : Machine) (port : ℕ) (q : Idle m port) where
-  -- ---- `status-by-44`
+  -- ---- `status_by_44`
 
   abbrev responding : ℕ → Machine
-  responding moved = within m readStatus moved noParameters
+  responding moved = within m read_status moved no_parameters
 
-  status-opens : Does m (sent port 3 readStatus 0) (quietly m (told (Opened 4 m.drive.place) (responding 0).drive))
-  unfolding kind_of dataControl opened wordsToCome parameterWords pick
-  status-opens = work-does DataControl q.sound q.real refl refl q.mine q.idle refl
+  status_opens : Does m (sent port 3 read_status 0) (quietly m (told (Opened 4 m.drive.place) (responding 0).drive))
+  unfolding kind_of data_control opened words_to_come parameter_words pick
+  status_opens = work_does DataControl q.sound q.real refl refl q.mine q.idle refl
 
-  status-tells : (moved : ℕ) → moved + 1 < 4 → IsSound (responding moved)
-      → Does (responding moved) (sent port 5 0 0) (quietly m (told (Word (get_or (statusTold (pendingOn m.drive port)) moved 0)) (responding (suc moved)).drive))
-  unfolding kind_of controlOf code_of wordToHost responseTaken wordsToCome parameterWords wordsTold pendingOn pick
-  status-tells moved h s = work-does TakeWord s q.real refl refl q.mine refl (rw (ne_eqb (moved + 1) 4 (λ z. omega arith), add-one moved))
+  status_tells : (moved : ℕ) → moved + 1 < 4 → IsSound (responding moved)
+      → Does (responding moved) (sent port 5 0 0) (quietly m (told (Word (get_or (status_told (pending_on m.drive port)) moved 0)) (responding (suc moved)).drive))
+  unfolding kind_of control_of code_of word_to_host response_taken words_to_come parameter_words words_told pending_on pick
+  status_tells moved h s = work_does TakeWord s q.real refl refl q.mine refl (rw (ne_eqb (moved + 1) 4 (λ z. omega arith), add-one moved))
 
-  status-clears : IsSound (responding 3)
-      → Does (responding 3) (sent port 5 0 0) (quietly m (told (LastWord 0) (closed (postedOn m.drive port nothingPending))))
-  unfolding kind_of controlOf code_of wordToHost responseTaken wordsToCome parameterWords wordsTold statusCleared closed postedOn pick
-  status-clears s = work-does TakeWord s q.real refl refl q.mine refl refl
+  status_clears : IsSound (responding 3)
+      → Does (responding 3) (sent port 5 0 0) (quietly m (told (LastWord 0) (closed (posted_on m.drive port nothing_pending))))
+  unfolding kind_of control_of code_of word_to_host response_taken words_to_come parameter_words words_told status_cleared closed posted_on pick
+  status_clears s = work_does TakeWord s q.real refl refl q.mine refl refl
 
-  status-run : Ran m (statusAsked port 4) (Opened 4 m.drive.place ∷ taken (statusTold (pendingOn m.drive port)))
-      (withDrive m (closed (postedOn m.drive port nothingPending)))
-  status-run =
-      let first = status-tells 0 (omega arith) status-opens.sound in
-      let second = status-tells 1 (omega arith) first.sound in
-      let third = status-tells 2 (omega arith) second.sound in
-      follows status-opens (follows first (follows second (follows third (follows (status-clears third.sound) nothing-follows))))
+  status_run : Ran m (status_asked port 4) (Opened 4 m.drive.place ∷ taken (status_told (pending_on m.drive port)))
+      (with_drive m (closed (posted_on m.drive port nothing_pending)))
+  status_run =
+      let first = status_tells 0 (omega arith) status_opens.sound in
+      let second = status_tells 1 (omega arith) first.sound in
+      let third = status_tells 2 (omega arith) second.sound in
+      follows status_opens (follows first (follows second (follows third (follows (status_clears third.sound) nothing_follows))))
 
-  words-taken : (moved count end : ℕ) → moved + count ≡ end → end < 4 → IsSound (responding moved)
-      → (final (responding moved) (takesSent port count)).drive ≡ (responding end).drive
+  words_taken : (moved count end : ℕ) → moved + count ≡ end → end < 4 → IsSound (responding moved)
+      → (final (responding moved) (takes_sent port count)).drive ≡ (responding end).drive
   unfolding final
-  words-taken moved zero end z h s = ap (λ (n : ℕ). (responding n).drive) (omega arith)
-  words-taken moved (suc count) end z h s =
-      let now = status-tells moved (omega arith) s in
-      ap (λ (x : Machine). (final x (takesSent port count)).drive) now.next ∙ words-taken (suc moved) count end (omega arith) h now.sound
+  words_taken moved zero end z h s = ap (λ (n : ℕ). (responding n).drive) (omega arith)
+  words_taken moved (suc count) end z h s =
+      let now = status_tells moved (omega arith) s in
+      ap (λ (x : Machine). (final x (takes_sent port count)).drive) now.next ∙ words_taken (suc moved) count end (omega arith) h now.sound
 
-  status-read : (after m (sent port 9 0 0)).drive ≡ postedOn m.drive port nothingPending
-  unfolding kind_of statusRead pick
-  status-read = ap (λ (x : Machine). x.drive) (work-does ReadStatus q.sound q.real refl refl q.mine q.idle refl).next
+  status_read_lem : (after m (sent port 9 0 0)).drive ≡ posted_on m.drive port nothing_pending
+  unfolding kind_of status_read pick
+  status_read_lem = ap (λ (x : Machine). x.drive) (work_does ReadStatus q.sound q.real refl refl q.mine q.idle refl).next
 
-  status-by-44 : StatusBy44 m port
+  status_by_44 : StatusBy44 m port
   unfolding final
-  status-by-44 =
+  status_by_44 =
       record {
-        told = sym status-run.answered;
+        told = sym status_run.answered;
         before = λ count h.
-            ap (λ (x : Machine). (final x (takesSent port count)).drive) status-opens.next ∙ words-taken 0 count count (omega arith) h status-opens.sound;
-        afterwards = rw (← status-run.ended, status-read);
+            ap (λ (x : Machine). (final x (takes_sent port count)).drive) status_opens.next ∙ words_taken 0 count count (omega arith) h status_opens.sound;
+        afterwards = rw (← status_run.ended, status_read_lem);
       }
 
-  -- ---- `position-by-07`
+  -- ---- `position_by_07`
 
-  module _ (quiet : (pendingOn m.drive port).octet1 ≡ 0) where
+  module _ (quiet : (pending_on m.drive port).octet1 ≡ 0) where
     -- what the three find
     abbrev heard : Machine
-    heard = clearedOn m port
+    heard = cleared_on m port
 
-    position-opens : Does m (sent port 3 loadPosition 0) (quietly m (told (Opened 4 m.drive.place) (within heard loadPosition 0 noParameters).drive))
-    unfolding kind_of dataControl controlOf code_of opened wordsToCome parameterWords octet2Cleared postedOn pick
-    position-opens = work-does DataControl q.sound q.real refl refl q.mine q.idle (rw (eq-eqb (pendingOn m.drive port).octet1 0 quiet))
+    position_opens : Does m (sent port 3 load_position 0) (quietly m (told (Opened 4 m.drive.place) (within heard load_position 0 no_parameters).drive))
+    unfolding kind_of data_control control_of code_of opened words_to_come parameter_words octet2_cleared posted_on pick
+    position_opens = work_does DataControl q.sound q.real refl refl q.mine q.idle (rw (eq-eqb (pending_on m.drive port).octet1 0 quiet))
 
-    position-keeps : (moved : ℕ) (kept : Parameters) (word : ℕ) → moved + 1 < 4 → IsSound (within heard loadPosition moved kept)
-        → Does (within heard loadPosition moved kept) (wordSent port word) (quietly m (told Done (within heard loadPosition (suc moved) (keptAs kept moved word)).drive))
-    unfolding kind_of controlOf code_of wordFromHost parameterSent wordsToCome parameterWords octet2Cleared postedOn pick
-    position-keeps moved kept word h s =
-        work-does WordFromHost s q.real refl refl q.mine refl (rw (div-add-mod' word 256, ne_eqb (moved + 1) 4 (λ z. omega arith), add-one moved))
+    position_keeps : (moved : ℕ) (kept : Parameters) (word : ℕ) → moved + 1 < 4 → IsSound (within heard load_position moved kept)
+        → Does (within heard load_position moved kept) (word_sent port word) (quietly m (told Done (within heard load_position (suc moved) (kept_as kept moved word)).drive))
+    unfolding kind_of control_of code_of word_from_host parameter_sent words_to_come parameter_words octet2_cleared posted_on pick
+    position_keeps moved kept word h s =
+        work_does WordFromHost s q.real refl refl q.mine refl (rw (div-add-mod' word 256, ne_eqb (moved + 1) 4 (λ z. omega arith), add-one moved))
 
-    module _ (p : Place) (target : ℕ) (inside : isPlace m.drive.setup p ≡ true) (sector : p.sector ≡ m.drive.place.sector)
-        (aimed : isTarget m.drive.setup target ≡ true) where
-      there : at_place (cylinderOf 0 p.cylinder) p.head m.drive.place.sector ≡ p
+    module _ (p : Place) (target : ℕ) (inside : is_place m.drive.setup p ≡ true) (sector : p.sector ≡ m.drive.place.sector)
+        (aimed : is_target m.drive.setup target ≡ true) where
+      there : at_place (cylinder_of 0 p.cylinder) p.head m.drive.place.sector ≡ p
       there = rw (zero-add p.cylinder, ← sector)
 
-      position-obeys : IsSound (within heard loadPosition 3 (parameters 0 p.cylinder p.head))
-          → Does (within heard loadPosition 3 (parameters 0 p.cylinder p.head)) (wordSent port target)
-          (quietly m (told (Status normal) (closed (withTarget (withPlace heard.drive p) target))))
-      unfolding kind_of controlOf code_of wordFromHost parameterSent obeyed seeking placeSought targetSought closed wordsToCome parameterWords octet2Cleared postedOn pick
-      position-obeys s = work-does WordFromHost s q.real refl refl q.mine refl (rw (div-add-mod' target 256, there, inside, aimed))
+      position_obeys : IsSound (within heard load_position 3 (parameters 0 p.cylinder p.head))
+          → Does (within heard load_position 3 (parameters 0 p.cylinder p.head)) (word_sent port target)
+          (quietly m (told (Status normal) (closed (with_target (with_place heard.drive p) target))))
+      unfolding kind_of control_of code_of word_from_host parameter_sent obeyed seeking place_sought target_sought closed words_to_come parameter_words octet2_cleared posted_on pick
+      position_obeys s = work_does WordFromHost s q.real refl refl q.mine refl (rw (div-add-mod' target 256, there, inside, aimed))
 
-      position-run : Ran m (positionSentBy07 port p target) (Opened 4 m.drive.place ∷ Done ∷ Done ∷ Done ∷ Status normal ∷ [])
-          (withDrive m (closed (withTarget (withPlace heard.drive p) target)))
-      unfolding keptAs pick
-      position-run =
-          let first = position-keeps 0 noParameters 0 (omega arith) position-opens.sound in
-          let second = position-keeps 1 noParameters p.cylinder (omega arith) first.sound in
-          let third = position-keeps 2 (parameters 0 p.cylinder 0) p.head (omega arith) second.sound in
-          follows position-opens (follows first (follows second (follows third (follows (position-obeys third.sound) nothing-follows))))
+      position_run : Ran m (position_sent_by07 port p target) (Opened 4 m.drive.place ∷ Done ∷ Done ∷ Done ∷ Status normal ∷ [])
+          (with_drive m (closed (with_target (with_place heard.drive p) target)))
+      unfolding kept_as pick
+      position_run =
+          let first = position_keeps 0 no_parameters 0 (omega arith) position_opens.sound in
+          let second = position_keeps 1 no_parameters p.cylinder (omega arith) first.sound in
+          let third = position_keeps 2 (parameters 0 p.cylinder 0) p.head (omega arith) second.sound in
+          follows position_opens (follows first (follows second (follows third (follows (position_obeys third.sound) nothing_follows))))
 
       -- Position, and then Target, which finds octet 2 cleared
-      placed : Does m (positionSent port p) (quietly m (told (Status normal) (withPlace heard.drive p)))
-      placed = position-does q.real q.sound (record { selected = q.mine; idle = q.idle; quiet = quiet }) p inside
+      placed : Does m (position_sent port p) (quietly m (told (Status normal) (with_place heard.drive p)))
+      placed = position_does q.real q.sound (record { selected = q.mine; idle = q.idle; quiet = quiet }) p inside
 
-      none-pending : pendingOn (withPlace heard.drive p) port ≡ nothingPending
-      unfolding pendingOn
-      none-pending = nothing_left m.drive port quiet
+      none_pending : pending_on (with_place heard.drive p) port ≡ nothing_pending
+      unfolding pending_on
+      none_pending = nothing_left_lem m.drive port quiet
 
-      still-aimed : isTarget heard.drive.setup target ≡ true
-      unfolding octet2Cleared postedOn
-      still-aimed = aimed
+      still_aimed : is_target heard.drive.setup target ≡ true
+      unfolding octet2_cleared posted_on
+      still_aimed = aimed
 
-      aim-told : targeted (withPlace heard.drive p) port target ≡ told (Status normal) (withTarget (withPlace heard.drive p) target)
+      aim_told : targeted (with_place heard.drive p) port target ≡ told (Status normal) (with_target (with_place heard.drive p) target)
       unfolding targeted pick
-      aim-told =
+      aim_told =
           rw (
-            eq-eqb (pendingOn (withPlace heard.drive p) port).octet1 0 (ap (λ (x : Pending). x.octet1) none-pending),
-            nothing-to-clear (withPlace heard.drive p) port (ap (λ (x : Pending). x.octet2) none-pending),
-            still-aimed,
+            eq-eqb (pending_on (with_place heard.drive p) port).octet1 0 (ap (λ (x : Pending). x.octet1) none_pending),
+            nothing_to_clear (with_place heard.drive p) port (ap (λ (x : Pending). x.octet2) none_pending),
+            still_aimed,
           )
 
-      aims : Does (withDrive m (withPlace heard.drive p)) (sent port 8 (target / 256) (target % 256))
-          (quietly m (told (Status normal) (withTarget (withPlace heard.drive p) target)))
-      unfolding kind_of octet2Cleared postedOn pick
-      aims = work-does Target placed.sound q.real refl refl q.mine q.idle (rw (div-add-mod' target 256) (ap (quietly m) aim-told))
+      aims : Does (with_drive m (with_place heard.drive p)) (sent port 8 (target / 256) (target % 256))
+          (quietly m (told (Status normal) (with_target (with_place heard.drive p) target)))
+      unfolding kind_of octet2_cleared posted_on pick
+      aims = work_does Target placed.sound q.real refl refl q.mine q.idle (rw (div-add-mod' target 256) (ap (quietly m) aim_told))
 
-      position-by-07 : PositionBy07 m port p target
-      position-by-07 =
-          record { told = sym position-run.answered; same = rw (← position-run.ended, ← (follows placed (follows aims nothing-follows)).ended) }
+      position_by_07 : PositionBy07 m port p target
+      position_by_07 =
+          record { told = sym position_run.answered; same = rw (← position_run.ended, ← (follows placed (follows aims nothing_follows)).ended) }
 
 pub commands : Commands
 commands =
     record {
-      holds-by-command = holds-by-command;
-      commands-keep-out = commands-keep-out;
-      command-cut-short = command-cut-short;
-      status-by-44 = status-by-44;
-      position-by-07 = λ m port p target q quiet. position-by-07 m port q quiet p target;
+      holds_by_command = holds_by_command;
+      commands_keep_out = commands_keep_out;
+      command_cut_short = command_cut_short;
+      status_by_44 = status_by_44;
+      position_by_07 = λ m port p target q quiet. position_by_07 m port q quiet p target;
     }

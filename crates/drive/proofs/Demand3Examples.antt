@@ -4,17 +4,17 @@ use mathlib.Core.Path.{refl}
 use Rattle.drive.specs.Demand3Examples.{Demand3Examples}
 use Rattle.drive.proofs.Computing.{computing}
 
-pub demand-3-examples : Demand3Examples
+pub demand_3_examples : Demand3Examples
 unfolding computing
-demand-3-examples =
+demand_3_examples =
     record {
       completes = record { journalled = refl; given = refl; held = refl };
-      takenOverHalfWay = record { journalled = refl; given = refl; held = refl };
-      endedAndReset = record { journalled = refl; given = refl; held = refl };
-      writtenTwice = record { journalled = refl; given = refl; held = refl };
-      fieldTwoAlone = record { journalled = refl; given = refl; held = refl };
+      taken_over_half_way = record { journalled = refl; given = refl; held = refl };
+      ended_and_reset = record { journalled = refl; given = refl; held = refl };
+      written_twice = record { journalled = refl; given = refl; held = refl };
+      field_two_alone = record { journalled = refl; given = refl; held = refl };
       elsewhere = record { journalled = refl; given = refl; held = refl };
-      lastSector = record { journalled = refl; given = refl; held = refl };
-      atTarget = record { journalled = refl; given = refl; held = refl };
-      takenOverBetween = record { journalled = refl; given = refl; held = refl };
+      last_sector = record { journalled = refl; given = refl; held = refl };
+      at_target = record { journalled = refl; given = refl; held = refl };
+      taken_over_between = record { journalled = refl; given = refl; held = refl };
     }

@@ -4,6 +4,6 @@ use mathlib.Core.Path.{refl}
 use Rattle.drive.specs.IgnoredCases.{IgnoredCasesHold}
 use Rattle.drive.proofs.Computing.{computing}
 
-pub ignored-cases-hold : IgnoredCasesHold
+pub ignored_cases_hold : IgnoredCasesHold
 unfolding computing
-ignored-cases-hold = record { own-bit-alone = refl; c-clears-nothing = refl; good-ones-clear = refl; status-leaves-it = refl }
+ignored_cases_hold = record { own_bit_alone_lem = refl; c_clears_nothing_lem = refl; good_ones_clear_lem = refl; status_leaves_it_lem = refl }

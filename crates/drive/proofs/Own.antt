@@ -8,17 +8,17 @@ use borrow.Author.Tests.{ne_eqb, leb-false}
 use lib.Dec.{eqb, leb}
 use Rattle.laws.specs.Pick.{pick}
 use Rattle.laws.specs.Rows.{first}
-use Rattle.laws.proofs.Rows.{refused_as, accepted-as}
+use Rattle.laws.proofs.Rows.{refused_as, accepted_as}
 use Rattle.laws.proofs.Tests.{or_r}
 use Rattle.parts.specs.Command.{code_of}
-use Rattle.parts.specs.Control.{controlOf, takesWords, givesWords, wordsToCome}
+use Rattle.parts.specs.Control.{control_of, takes_words, gives_words, words_to_come}
 use Rattle.parts.specs.Holding.{nobody}
 use Rattle.parts.specs.Kind.{Kind}
 use Rattle.drive.specs.State.{told, Result}
-use Rattle.drive.specs.Refusal.{ownRows}
-use Rattle.parts.specs.Tests.{isTaking, isGiving, isOpen, isBrokenTransfer}
-use Rattle.drive.specs.Event.{refusedWith}
-use Rattle.drive.specs.Able.{Passable, Able, unlessOwnRow, unlessOwnRowIn}
+use Rattle.drive.specs.Refusal.{own_rows}
+use Rattle.parts.specs.Tests.{is_taking, is_giving, is_open, is_broken_transfer}
+use Rattle.drive.specs.Event.{refused_with}
+use Rattle.drive.specs.Able.{Passable, Able, unless_own_row, unless_own_row_in}
 use Rattle.parts.specs.declared.setup.Setup.{Setup}
 use Rattle.parts.specs.declared.holding.Holding.{Holding}
 use Rattle.parts.specs.declared.transfer.Transfer.{Transfer}
@@ -28,46 +28,46 @@ use Rattle.drive.specs.declared.answer.Outcome.{Outcome}
 use Rattle.drive.specs.declared.answer.Answer.TheVariants.{Refused}
 use Rattle.drive.proofs.Sound.{sound}
 
-pub own-refused : (k : Kind) (d : Drive) (e : Event) (accepted : Outcome) (n : ℕ) → n ≡ first (ownRows k d e) → (n ≡ 0 → ⊥)
-    → told (Refused n) d ≡ unlessOwnRow k d e accepted
-unfolding unlessOwnRow
-own-refused k d e accepted n p h = refused_as n (first (ownRows k d e)) (λ m. told (Refused m) d) accepted p h
+pub own_refused : (k : Kind) (d : Drive) (e : Event) (accepted : Outcome) (n : ℕ) → n ≡ first (own_rows k d e) → (n ≡ 0 → ⊥)
+    → told (Refused n) d ≡ unless_own_row k d e accepted
+unfolding unless_own_row
+own_refused k d e accepted n p h = refused_as n (first (own_rows k d e)) (λ m. told (Refused m) d) accepted p h
 
-pub own-accepted : (k : Kind) (d : Drive) (e : Event) (accepted x : Outcome) (n : ℕ) → n ≡ first (ownRows k d e) → n ≡ 0 → x ≡ accepted
-    → x ≡ unlessOwnRow k d e accepted
-unfolding unlessOwnRow
-own-accepted k d e accepted x n p z h = accepted-as n (first (ownRows k d e)) _ accepted x p z h
+pub own_accepted : (k : Kind) (d : Drive) (e : Event) (accepted x : Outcome) (n : ℕ) → n ≡ first (own_rows k d e) → n ≡ 0 → x ≡ accepted
+    → x ≡ unless_own_row k d e accepted
+unfolding unless_own_row
+own_accepted k d e accepted x n p z h = accepted_as n (first (own_rows k d e)) _ accepted x p z h
 
-pub own-refused-in : (k : Kind) (d : Drive) (e : Event) (sectors staging : List ℕ) (accepted : Result) (n : ℕ) → n ≡ first (ownRows k d e) → (n ≡ 0 → ⊥)
-    → refusedWith n d sectors staging ≡ unlessOwnRowIn k d e sectors staging accepted
-unfolding unlessOwnRowIn
-own-refused-in k d e sectors staging accepted n p h = refused_as n (first (ownRows k d e)) (λ m. refusedWith m d sectors staging) accepted p h
+pub own_refused_in : (k : Kind) (d : Drive) (e : Event) (sectors staging : List ℕ) (accepted : Result) (n : ℕ) → n ≡ first (own_rows k d e) → (n ≡ 0 → ⊥)
+    → refused_with n d sectors staging ≡ unless_own_row_in k d e sectors staging accepted
+unfolding unless_own_row_in
+own_refused_in k d e sectors staging accepted n p h = refused_as n (first (own_rows k d e)) (λ m. refused_with m d sectors staging) accepted p h
 
-pub own-accepted-in : (k : Kind) (d : Drive) (e : Event) (sectors staging : List ℕ) (accepted x : Result) (n : ℕ) → n ≡ first (ownRows k d e) → n ≡ 0 → x ≡ accepted
-    → x ≡ unlessOwnRowIn k d e sectors staging accepted
-unfolding unlessOwnRowIn
-own-accepted-in k d e sectors staging accepted x n p z h = accepted-as n (first (ownRows k d e)) _ accepted x p z h
+pub own_accepted_in : (k : Kind) (d : Drive) (e : Event) (sectors staging : List ℕ) (accepted x : Result) (n : ℕ) → n ≡ first (own_rows k d e) → n ≡ 0 → x ≡ accepted
+    → x ≡ unless_own_row_in k d e sectors staging accepted
+unfolding unless_own_row_in
+own_accepted_in k d e sectors staging accepted x n p z h = accepted_as n (first (own_rows k d e)) _ accepted x p z h
 
 -- ---- an open transfer of a state that row 11 lets pass has a word to come
 
-opens-none : (takesWords (controlOf 0) || givesWords (controlOf 0)) ≡ false
-unfolding controlOf code_of pick
-opens-none = refl
+opens_none : (takes_words (control_of 0) || gives_words (control_of 0)) ≡ false
+unfolding control_of code_of pick
+opens_none = refl
 
-is_open : (t : Transfer) → (isTaking t || isGiving t) ≡ true → isOpen t ≡ true
-is_open t h = rw (ne_eqb t.control 0 (λ z. true≢false (sym h ∙ rw z opens-none)))
+is_open_lem : (t : Transfer) → (is_taking t || is_giving t) ≡ true → is_open t ≡ true
+is_open_lem t h = rw (ne_eqb t.control 0 (λ z. true≢false (sym h ∙ rw z opens_none)))
 
-pub word-to-come : (s : Setup) (h : Holding) (t : Transfer) → isBrokenTransfer s h t ≡ false → (isTaking t || isGiving t) ≡ true → t.moved < wordsToCome s t.control
-unfolding isBrokenTransfer
-word-to-come s h t b o =
-    let rest : (eqb h.selected nobody || not (isTaking t || isGiving t) || leb (wordsToCome s t.control) t.moved) ≡ false = rw (is_open t o) at b in
-    leb-false (wordsToCome s t.control) t.moved (or_r (eqb h.selected nobody || not (isTaking t || isGiving t)) (leb (wordsToCome s t.control) t.moved) rest)
+pub word_to_come : (s : Setup) (h : Holding) (t : Transfer) → is_broken_transfer s h t ≡ false → (is_taking t || is_giving t) ≡ true → t.moved < words_to_come s t.control
+unfolding is_broken_transfer
+word_to_come s h t b o =
+    let rest : (eqb h.selected nobody || not (is_taking t || is_giving t) || leb (words_to_come s t.control) t.moved) ≡ false = rw (is_open_lem t o) at b in
+    leb-false (words_to_come s t.control) t.moved (or_r (eqb h.selected nobody || not (is_taking t || is_giving t)) (leb (words_to_come s t.control) t.moved) rest)
 
-able : {d : Drive} {sectors staging : List ℕ} → Passable d sectors staging → (isTaking d.transfer || isGiving d.transfer) ≡ true → Able d sectors staging
-able {d} p o = record { sound = p.sound; room = p.room; moved = word-to-come d.setup d.holding d.transfer (sound d p.sound).transfer o }
+able : {d : Drive} {sectors staging : List ℕ} → Passable d sectors staging → (is_taking d.transfer || is_giving d.transfer) ≡ true → Able d sectors staging
+able {d} p o = record { sound = p.sound; room = p.room; moved = word_to_come d.setup d.holding d.transfer (sound d p.sound).transfer o }
 
-pub able-to-write : {d : Drive} {sectors staging : List ℕ} → Passable d sectors staging → isTaking d.transfer ≡ true → Able d sectors staging
-able-to-write p o = able p (rw o)
+pub able_to_write : {d : Drive} {sectors staging : List ℕ} → Passable d sectors staging → is_taking d.transfer ≡ true → Able d sectors staging
+able_to_write p o = able p (rw o)
 
-pub able-to-read : {d : Drive} {sectors staging : List ℕ} → Passable d sectors staging → isGiving d.transfer ≡ true → Able d sectors staging
-able-to-read {d} p o = able p (rw o (or-true (isTaking d.transfer)))
+pub able_to_read : {d : Drive} {sectors staging : List ℕ} → Passable d sectors staging → is_giving d.transfer ≡ true → Able d sectors staging
+able_to_read {d} p o = able p (rw o (or-true (is_taking d.transfer)))

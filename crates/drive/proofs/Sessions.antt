@@ -8,24 +8,24 @@ use lib.Seq.{append_snoc}
 use Rattle.laws.proofs.Pick.{cases}
 use Rattle.parts.specs.Holding.{nobody}
 use Rattle.parts.specs.Kind.{Select, Use, Work}
-use Rattle.drive.specs.Run.{Machine, answerTo, after, answers}
+use Rattle.drive.specs.Run.{Machine, answer_to, after, answers}
 use Rattle.drive.specs.Accepted.{is_refused, accepted}
-use Rattle.drive.specs.Sessions.{Is, Works, none, one, Sessions, nothing, reset, deselected, takenOver, cutByReset, stillOpen}
+use Rattle.drive.specs.Sessions.{Is, Works, none, one, Sessions, nothing, reset, deselected, taken_over, cut_by_reset, still_open}
 use Rattle.parts.specs.declared.event.Event.{Event}
-use Rattle.drive.proofs.Laws.{refused-changes-nothing, Move, selects, deselects, works, resets, selectedOn, move}
+use Rattle.drive.proofs.Laws.{refused_changes_nothing, Move, selects, deselects, works, resets, selected_on, move}
 
 -- events that move the selected port, one after another
 data Moves : ℕ → List Event → Type 0 where
   stop : {selected : ℕ} → Moves selected []
   more : {selected next : ℕ} {e : Event} {later : List Event} → Move selected e next → Moves next later → Moves selected (e ∷ later)
 
-accepted-move : (m : Machine) (events : List Event) → Moves (selectedOn m) (accepted events (answers m events))
+accepted_move : (m : Machine) (events : List Event) → Moves (selected_on m) (accepted events (answers m events))
 unfolding accepted answers
-accepted-move m [] = stop
-accepted-move m (e ∷ events) =
-    let later = accepted-move (after m e) events in
-    cases (Moves (selectedOn m)) (is_refused (answerTo m e))
-    (λ refused. subst (λ selected. Moves selected (accepted events (answers (after m e) events))) (ap selectedOn (refused-changes-nothing m e refused)) later)
+accepted_move m [] = stop
+accepted_move m (e ∷ events) =
+    let later = accepted_move (after m e) events in
+    cases (Moves (selected_on m)) (is_refused (answer_to m e))
+    (λ refused. subst (λ selected. Moves selected (accepted events (answers (after m e) events))) (ap selected_on (refused_changes_nothing m e refused)) later)
     (λ done. more (move m e done) later)
 
 one_more : {port : ℕ} {work : List Event} (e : Event) → Works port work → (w : Work) → Is (Use w) e → e.port ≡ port → Works port (work ++ (e ∷ []))
@@ -38,24 +38,24 @@ record FromHere (selected : ℕ) (events : List Event) : Type 0 where
   inside : (selection : Event) (work : List Event) → Is Select selection → selected ≡ selection.port → Works selection.port work
       → Sessions (selection ∷ work ++ events)
 
-from-here : {selected : ℕ} {events : List Event} → Moves selected events → FromHere selected events
-from-here stop = record { outside = λ z. nothing; inside = λ selection work is at w. rw append-nil (stillOpen is w) }
-from-here (more {e = e} {later = later} (selects is other to) moves) =
-    let session : Sessions (e ∷ later) = (from-here moves).inside e [] is to none in
-    record { outside = λ z. session; inside = λ selection work is' at w. takenOver is' w is (λ same. other (at ∙ sym same)) session }
-from-here (more {e = e} (deselects is own port to) moves) =
-    let later = from-here moves in
+from_here : {selected : ℕ} {events : List Event} → Moves selected events → FromHere selected events
+from_here stop = record { outside = λ z. nothing; inside = λ selection work is at w. rw append-nil (still_open is w) }
+from_here (more {e = e} {later = later} (selects is other to) moves) =
+    let session : Sessions (e ∷ later) = (from_here moves).inside e [] is to none in
+    record { outside = λ z. session; inside = λ selection work is' at w. taken_over is' w is (λ same. other (at ∙ sym same)) session }
+from_here (more {e = e} (deselects is own port to) moves) =
+    let later = from_here moves in
     record { outside = λ z. absurd (omega arith); inside = λ selection work is' at w. deselected e is' w is (sym own ∙ at) (later.outside to) }
-from-here (more {e = e} {later = later} (works v is own port to) moves) =
-    let rest = from-here moves in
+from_here (more {e = e} {later = later} (works v is own port to) moves) =
+    let rest = from_here moves in
     record {
       outside = λ z. absurd (omega arith);
       inside = λ selection work is' at w.
           rw (append_snoc work e later) at (rest.inside selection (work ++ (e ∷ [])) is' (to ∙ at) (one_more e w v is (sym own ∙ at)));
     }
-from-here (more {e = e} {later = later} (resets is to) moves) =
-    let session : Sessions (e ∷ later) = reset is ((from-here moves).outside to) in
-    record { outside = λ z. session; inside = λ selection work is' at w. cutByReset is' w is session }
+from_here (more {e = e} {later = later} (resets is to) moves) =
+    let session : Sessions (e ∷ later) = reset is ((from_here moves).outside to) in
+    record { outside = λ z. session; inside = λ selection work is' at w. cut_by_reset is' w is session }
 
-pub whole-sessions : (m : Machine) (events : List Event) → selectedOn m ≡ nobody → Sessions (accepted events (answers m events))
-whole-sessions m events = (from-here (accepted-move m events)).outside
+pub whole_sessions : (m : Machine) (events : List Event) → selected_on m ≡ nobody → Sessions (accepted events (answers m events))
+whole_sessions m events = (from_here (accepted_move m events)).outside

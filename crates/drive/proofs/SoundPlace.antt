@@ -8,12 +8,12 @@ use borrow.Author.Tests.{eqb-true, ltb-true, lt-ltb, eq-eqb, not-false}
 use lib.Dec.{eqb, ltb}
 use Rattle.laws.proofs.Pick.{either, cases}
 use Rattle.laws.proofs.Tests.{or_l, or_r}
-use Rattle.parts.specs.Setup.{isPlace, isTarget, noTarget, following}
-use Rattle.parts.specs.Pending.{OneBit, bit7, bit6, bit5, bit4, withBit, pendingOf, noticed, faulted, nothingPending}
-use Rattle.drive.specs.State.{at_place, withPlace, withTarget, pendingOn, postedOn}
-use Rattle.drive.specs.Request.{octet2Cleared}
-use Rattle.drive.specs.Drive.{selected, headStepped, atItsTarget}
-use Rattle.parts.specs.Tests.{hasStrayBit}
+use Rattle.parts.specs.Setup.{is_place, is_target, no_target, following}
+use Rattle.parts.specs.Pending.{OneBit, bit7, bit6, bit5, bit4, with_bit, pending_of, noticed, faulted, nothing_pending}
+use Rattle.drive.specs.State.{at_place, with_place, with_target, pending_on, posted_on}
+use Rattle.drive.specs.Request.{octet2_cleared}
+use Rattle.drive.specs.Drive.{selected, head_stepped, at_its_target}
+use Rattle.parts.specs.Tests.{has_stray_bit}
 use Rattle.parts.specs.declared.pending.Pending.{Pending}
 use Rattle.parts.specs.declared.setup.Setup.{Setup}
 use Rattle.parts.specs.declared.setup.Place.{Place}
@@ -23,15 +23,15 @@ use Rattle.drive.proofs.Sound.{Sound}
 
 -- ---- the position and the target
 
-pub following-below : (n count : ℕ) → 1 ≤ count → following n count < count
+pub following_below : (n count : ℕ) → 1 ≤ count → following n count < count
 unfolding following
-following-below n count h = cases (λ k. k < count) (ltb (n + 1) count) (λ z. ltb-true (n + 1) count z) (λ z. h)
+following_below n count h = cases (λ k. k < count) (ltb (n + 1) count) (λ z. ltb-true (n + 1) count z) (λ z. h)
 
-pub is-place : (s : Setup) (p : Place) → Inside s p → isPlace s p ≡ true
-unfolding isPlace
-is-place s p i = rw (lt-ltb p.cylinder s.cylinders i.cylinder, lt-ltb p.head s.heads i.head, lt-ltb p.sector s.sectors i.sector)
+pub is_place_lem : (s : Setup) (p : Place) → Inside s p → is_place s p ≡ true
+unfolding is_place
+is_place_lem s p i = rw (lt-ltb p.cylinder s.cylinders i.cylinder, lt-ltb p.head s.heads i.head, lt-ltb p.sector s.sectors i.sector)
 
-pub place_kept : {d : Drive} {p : Place} → Sound d → isPlace d.setup p ≡ true → Sound (withPlace d p)
+pub place_kept : {d : Drive} {p : Place} → Sound d → is_place d.setup p ≡ true → Sound (with_place d p)
 place_kept s h =
     record {
       limits = s.limits;
@@ -45,28 +45,28 @@ place_kept s h =
       bits1 = s.bits1;
     }
 
-pub head-step-kept : {d : Drive} → Sound d → Sound (headStepped d)
-unfolding headStepped
-head-step-kept {d} s =
+pub head_step_kept : {d : Drive} → Sound d → Sound (head_stepped d)
+unfolding head_stepped
+head_step_kept {d} s =
     let l = limits d.setup s.limits in
     let i = inside d.setup d.place s.place in
-    place_kept s (is-place d.setup _ (record { cylinder = i.cylinder; head = following-below d.place.head d.setup.heads l.some-head; sector = i.sector }))
+    place_kept s (is_place_lem d.setup _ (record { cylinder = i.cylinder; head = following_below d.place.head d.setup.heads l.some_head; sector = i.sector }))
 
 -- "causes the drive to move the heads to cylinder 0"
-pub recalibrated-kept : {d : Drive} → Sound d → Sound (withPlace d (at_place 0 d.place.head d.place.sector))
-recalibrated-kept {d} s =
+pub recalibrated_kept : {d : Drive} → Sound d → Sound (with_place d (at_place 0 d.place.head d.place.sector))
+recalibrated_kept {d} s =
     let i = inside d.setup d.place s.place in
-    place_kept s (is-place d.setup _ (record { cylinder = (limits d.setup s.limits).some-cylinder; head = i.head; sector = i.sector }))
+    place_kept s (is_place_lem d.setup _ (record { cylinder = (limits d.setup s.limits).some_cylinder; head = i.head; sector = i.sector }))
 
-pub at-target-kept : {d : Drive} → Sound d → eqb d.target noTarget ≡ false → Sound (atItsTarget d)
-unfolding atItsTarget isTarget
-at-target-kept {d} s h =
+pub at_target_kept : {d : Drive} → Sound d → eqb d.target no_target ≡ false → Sound (at_its_target d)
+unfolding at_its_target is_target
+at_target_kept {d} s h =
     let i = inside d.setup d.place s.place in
     let t : ltb d.target d.setup.sectors ≡ true = rw h at s.target in
-    place_kept s (is-place d.setup _ (record { cylinder = i.cylinder; head = i.head; sector = ltb-true d.target d.setup.sectors t }))
+    place_kept s (is_place_lem d.setup _ (record { cylinder = i.cylinder; head = i.head; sector = ltb-true d.target d.setup.sectors t }))
 
-pub target-kept : {d : Drive} {target : ℕ} → Sound d → isTarget d.setup target ≡ true → Sound (withTarget d target)
-target-kept s h =
+pub target_kept : {d : Drive} {target : ℕ} → Sound d → is_target d.setup target ≡ true → Sound (with_target d target)
+target_kept s h =
     record {
       limits = s.limits;
       selected = s.selected;
@@ -85,31 +85,31 @@ record OnlyOurs (p : Pending) : Type 0 where
   octet1 : p.octet1 % 64 ≡ 0
   octet2 : p.octet2 % 16 ≡ 0
 
-only-ours : (p : Pending) → hasStrayBit p ≡ false → OnlyOurs p
-unfolding hasStrayBit
-only-ours p h =
+only_ours : (p : Pending) → has_stray_bit p ≡ false → OnlyOurs p
+unfolding has_stray_bit
+only_ours p h =
     record {
       octet1 = eqb-true (p.octet1 % 64) 0 (not-false _ (or_l (not (eqb (p.octet1 % 64) 0)) (not (eqb (p.octet2 % 16) 0)) h));
       octet2 = eqb-true (p.octet2 % 16) 0 (not-false _ (or_r (not (eqb (p.octet1 % 64) 0)) (not (eqb (p.octet2 % 16) 0)) h));
     }
 
-no_stray : (p : Pending) → OnlyOurs p → hasStrayBit p ≡ false
-unfolding hasStrayBit
+no_stray : (p : Pending) → OnlyOurs p → has_stray_bit p ≡ false
+unfolding has_stray_bit
 no_stray p h = rw (eq-eqb (p.octet1 % 64) 0 h.octet1, eq-eqb (p.octet2 % 16) 0 h.octet2)
 
-pub nothing-stray : hasStrayBit nothingPending ≡ false
-nothing-stray = no_stray nothingPending (record { octet1 = refl; octet2 = refl })
+pub nothing_stray : has_stray_bit nothing_pending ≡ false
+nothing_stray = no_stray nothing_pending (record { octet1 = refl; octet2 = refl })
 
 -- a bit that is one of those the base sets
-with-bit : (n octet bit : ℕ) → octet % n ≡ 0 → (octet + bit) % n ≡ 0 → withBit octet bit % n ≡ 0
-unfolding withBit
-with-bit n octet bit h g = either (λ x. x % n ≡ 0) _ h g
+with_bit_lem : (n octet bit : ℕ) → octet % n ≡ 0 → (octet + bit) % n ≡ 0 → with_bit octet bit % n ≡ 0
+unfolding with_bit
+with_bit_lem n octet bit h g = either (λ x. x % n ≡ 0) _ h g
 
-pub notice-stray : (p : Pending) → hasStrayBit p ≡ false → hasStrayBit (noticed p) ≡ false
+pub notice_stray : (p : Pending) → has_stray_bit p ≡ false → has_stray_bit (noticed p) ≡ false
 unfolding noticed
-notice-stray p h =
-    let o = only-ours p h in
-    no_stray _ (record { octet1 = with-bit 64 p.octet1 0x40 o.octet1 (omega arith); octet2 = o.octet2 })
+notice_stray p h =
+    let o = only_ours p h in
+    no_stray _ (record { octet1 = with_bit_lem 64 p.octet1 0x40 o.octet1 (omega arith); octet2 = o.octet2 })
 
 bit_added : {bit : ℕ} (octet : ℕ) → OneBit bit → octet % 16 ≡ 0 → (octet + bit) % 16 ≡ 0
 bit_added octet bit7 h = omega arith
@@ -117,19 +117,19 @@ bit_added octet bit6 h = omega arith
 bit_added octet bit5 h = omega arith
 bit_added octet bit4 h = omega arith
 
-pub fault-stray : (p : Pending) {bit : ℕ} → OneBit bit → hasStrayBit p ≡ false → hasStrayBit (faulted p bit) ≡ false
+pub fault_stray : (p : Pending) {bit : ℕ} → OneBit bit → has_stray_bit p ≡ false → has_stray_bit (faulted p bit) ≡ false
 unfolding faulted
-fault-stray p {bit} b h =
-    let o = only-ours p h in
-    no_stray _ (record { octet1 = o.octet1; octet2 = with-bit 16 p.octet2 bit o.octet2 (bit_added p.octet2 b o.octet2) })
+fault_stray p {bit} b h =
+    let o = only_ours p h in
+    no_stray _ (record { octet1 = o.octet1; octet2 = with_bit_lem 16 p.octet2 bit o.octet2 (bit_added p.octet2 b o.octet2) })
 
-pub pending-stray : {d : Drive} (port : ℕ) → Sound d → hasStrayBit (pendingOn d port) ≡ false
-unfolding pendingOn
-pending-stray port s = either (λ p. hasStrayBit p ≡ false) _ s.bits0 s.bits1
+pub pending_stray : {d : Drive} (port : ℕ) → Sound d → has_stray_bit (pending_on d port) ≡ false
+unfolding pending_on
+pending_stray port s = either (λ p. has_stray_bit p ≡ false) _ s.bits0 s.bits1
 
-pub posted-kept : {d : Drive} (port : ℕ) (p : Pending) → Sound d → hasStrayBit p ≡ false → Sound (postedOn d port p)
-unfolding postedOn
-posted-kept port p s h =
+pub posted_kept : {d : Drive} (port : ℕ) (p : Pending) → Sound d → has_stray_bit p ≡ false → Sound (posted_on d port p)
+unfolding posted_on
+posted_kept port p s h =
     record {
       limits = s.limits;
       selected = s.selected;
@@ -138,15 +138,15 @@ posted-kept port p s h =
       target = s.target;
       owned = s.owned;
       transfer = s.transfer;
-      bits0 = either (λ p. hasStrayBit p ≡ false) _ h s.bits0;
-      bits1 = either (λ p. hasStrayBit p ≡ false) _ s.bits1 h;
+      bits0 = either (λ p. has_stray_bit p ≡ false) _ h s.bits0;
+      bits1 = either (λ p. has_stray_bit p ≡ false) _ s.bits1 h;
     }
 
 -- any of the bits that the base sets in octet 2, or none
-pub octet2-kept : {d : Drive} (port octet2 : ℕ) → Sound d → octet2 % 16 ≡ 0 → Sound (postedOn d port (pendingOf (pendingOn d port).octet1 octet2))
-octet2-kept {d} port octet2 s h =
-    posted-kept port _ s (no_stray _ (record { octet1 = (only-ours (pendingOn d port) (pending-stray port s)).octet1; octet2 = h }))
+pub octet2_kept : {d : Drive} (port octet2 : ℕ) → Sound d → octet2 % 16 ≡ 0 → Sound (posted_on d port (pending_of (pending_on d port).octet1 octet2))
+octet2_kept {d} port octet2 s h =
+    posted_kept port _ s (no_stray _ (record { octet1 = (only_ours (pending_on d port) (pending_stray port s)).octet1; octet2 = h }))
 
-pub cleared-kept : {d : Drive} (port : ℕ) → Sound d → Sound (octet2Cleared d port)
-unfolding octet2Cleared
-cleared-kept port s = octet2-kept port 0 s refl
+pub cleared_kept : {d : Drive} (port : ℕ) → Sound d → Sound (octet2_cleared d port)
+unfolding octet2_cleared
+cleared_kept port s = octet2_kept port 0 s refl

@@ -2,41 +2,41 @@
 -- Assumes nothing.
 use Prim.Native.Nat.{ℕ}
 use mathlib.Core.Path.{refl, ap}
-use Rattle.laws.proofs.Differ.{told-apart}
+use Rattle.laws.proofs.Differ.{told_apart}
 use Rattle.parts.specs.Holding.{paper}
-use Rattle.drive.specs.Power.{refusalIn}
+use Rattle.drive.specs.Power.{refusal_in}
 use Rattle.drive.specs.WrongAnswers.{WrongAnswers}
 use Rattle.drive.specs.declared.drive.Drive.{Drive}
 use Rattle.drive.specs.declared.power.Powered.{Powered}
 use Rattle.drive.specs.declared.power.Powered.TheVariants.{Up, Refused}
 use Rattle.drive.proofs.Computing.{computing}
 
-abbrev sectorOf : Powered → ℕ
-sectorOf (Up d) = d.place.sector
-sectorOf (Refused n) = 0
+abbrev sector_of : Powered → ℕ
+sector_of (Up d) = d.place.sector
+sector_of (Refused n) = 0
 
 -- the hold on paper
-abbrev holdOf : Drive → ℕ
-holdOf d = paper d.holding.hold
+abbrev hold_of : Drive → ℕ
+hold_of d = paper d.holding.hold
 
-pub wrong-answers : WrongAnswers
+pub wrong_answers : WrongAnswers
 unfolding computing
-wrong-answers =
+wrong_answers =
     record {
-      tenBeforeNine = λ h. told-apart 10 9 refl (ap refusalIn h.answer);
-      lastWordLacking = λ h. told-apart 0 10 refl (ap refusalIn h.answer);
-      notAtRest = λ h. told-apart 1 0 refl (ap sectorOf h.answer);
-      takeoverKeepsTheTransfer = λ h. told-apart 2 0 refl (ap (λ (d : Drive). d.transfer.moved) h);
-      takeoverPostsReset = λ h. told-apart 0x80 0x40 refl (ap (λ (d : Drive). d.pending0.octet1) h);
-      takeoverPostsNothing = λ h. told-apart 0 0x40 refl (ap (λ (d : Drive). d.pending0.octet1) h);
-      staysSelected = λ h. told-apart 0 2 refl (ap (λ (d : Drive). d.holding.selected) h);
-      freesTheHeld = λ h. told-apart 2 0 refl (ap (λ (d : Drive). d.holding.owner) h);
-      resetKeepsTheTarget = λ h. told-apart 2 0xFFFF refl (ap (λ (d : Drive). d.target) h);
-      resetPostsNothing = λ h. told-apart 0 0x80 refl (ap (λ (d : Drive). d.pending0.octet1) h);
-      reserveLowers = λ h. told-apart 2 3 refl (ap holdOf h);
-      reserveMakesNone = λ h. told-apart 0 2 refl (ap holdOf h);
-      priorityMakesPlain = λ h. told-apart 2 3 refl (ap holdOf h);
-      priorityDisowns = λ h. told-apart 2 0 refl (ap (λ (d : Drive). d.holding.owner) h);
-      releaseFrees = λ h. told-apart 2 0 refl (ap (λ (d : Drive). d.holding.selected) h);
-      releaseLeavesPlain = λ h. told-apart 2 0 refl (ap holdOf h);
+      ten_before_nine = λ h. told_apart 10 9 refl (ap refusal_in h.answer);
+      last_word_lacking = λ h. told_apart 0 10 refl (ap refusal_in h.answer);
+      not_at_rest = λ h. told_apart 1 0 refl (ap sector_of h.answer);
+      takeover_keeps_the_transfer = λ h. told_apart 2 0 refl (ap (λ (d : Drive). d.transfer.moved) h);
+      takeover_posts_reset = λ h. told_apart 0x80 0x40 refl (ap (λ (d : Drive). d.pending0.octet1) h);
+      takeover_posts_nothing = λ h. told_apart 0 0x40 refl (ap (λ (d : Drive). d.pending0.octet1) h);
+      stays_selected = λ h. told_apart 0 2 refl (ap (λ (d : Drive). d.holding.selected) h);
+      frees_the_held = λ h. told_apart 2 0 refl (ap (λ (d : Drive). d.holding.owner) h);
+      reset_keeps_the_target = λ h. told_apart 2 0xFFFF refl (ap (λ (d : Drive). d.target) h);
+      reset_posts_nothing = λ h. told_apart 0 0x80 refl (ap (λ (d : Drive). d.pending0.octet1) h);
+      reserve_lowers = λ h. told_apart 2 3 refl (ap hold_of h);
+      reserve_makes_none = λ h. told_apart 0 2 refl (ap hold_of h);
+      priority_makes_plain = λ h. told_apart 2 3 refl (ap hold_of h);
+      priority_disowns = λ h. told_apart 2 0 refl (ap (λ (d : Drive). d.holding.owner) h);
+      release_frees = λ h. told_apart 2 0 refl (ap (λ (d : Drive). d.holding.selected) h);
+      release_leaves_plain = λ h. told_apart 2 0 refl (ap hold_of h);
     }

@@ -9,19 +9,19 @@ use Rattle.drive.specs.declared.answer.Answer.TheVariants.{Refused, Done, Status
 abbrev pub normal : ℕ
 normal = 0
 
-abbrev pub headerMiscompare : ℕ
-headerMiscompare = 7
+abbrev pub header_miscompare : ℕ
+header_miscompare = 7
 
-abbrev pub operationException : ℕ
-operationException = 8
+abbrev pub operation_exception : ℕ
+operation_exception = 8
 
-abbrev pub unsolicitedException : ℕ
-unsolicitedException = 0xC
+abbrev pub unsolicited_exception : ℕ
+unsolicited_exception = 0xC
 
 pub record Paper : Type 0 where
   pub refusal : Option ℕ
   pub status : Option ℕ
-  pub wordCount : Option ℕ
+  pub word_count : Option ℕ
   pub place : Option Place
   pub word : Option ℕ
   pub response : Option (List ℕ)
@@ -30,17 +30,17 @@ pub record Paper : Type 0 where
 -- "The answer that opens a transfer tells the number of words to come and the place." "Take answers the next word."
 -- "The response is 8 octets .. All else 0." "Read status answers 0 with the octets".
 unfoldable pub paper : Answer → Paper
-paper (Refused n) = record { refusal = some n; status = none; wordCount = none; place = none; word = none; response = none }
-paper Done = record { refusal = none; status = none; wordCount = none; place = none; word = none; response = none }
-paper (Status s) = record { refusal = none; status = some s; wordCount = none; place = none; word = none; response = none }
-paper (Opened n p) = record { refusal = none; status = none; wordCount = some n; place = some p; word = none; response = none }
-paper (Word w) = record { refusal = none; status = none; wordCount = none; place = none; word = some w; response = none }
-paper (LastWord w) = record { refusal = none; status = some normal; wordCount = none; place = none; word = some w; response = none }
+paper (Refused n) = record { refusal = some n; status = none; word_count = none; place = none; word = none; response = none }
+paper Done = record { refusal = none; status = none; word_count = none; place = none; word = none; response = none }
+paper (Status s) = record { refusal = none; status = some s; word_count = none; place = none; word = none; response = none }
+paper (Opened n p) = record { refusal = none; status = none; word_count = some n; place = some p; word = none; response = none }
+paper (Word w) = record { refusal = none; status = none; word_count = none; place = none; word = some w; response = none }
+paper (LastWord w) = record { refusal = none; status = some normal; word_count = none; place = none; word = some w; response = none }
 paper (Response octet0 octet1 octet2) =
     record {
       refusal = none;
       status = some normal;
-      wordCount = none;
+      word_count = none;
       place = none;
       word = none;
       response = some (octet0 ∷ octet1 ∷ octet2 ∷ 0 ∷ 0 ∷ 0 ∷ 0 ∷ 0 ∷ []);
@@ -50,17 +50,17 @@ paper (Response octet0 octet1 octet2) =
 pub record Says (answer : Answer) (given : Paper) : Type 0 where
   pub refusal : (paper answer).refusal ≡ given.refusal
   pub status : (paper answer).status ≡ given.status
-  pub wordCount : (paper answer).wordCount ≡ given.wordCount
+  pub word_count : (paper answer).word_count ≡ given.word_count
   pub place : (paper answer).place ≡ given.place
   pub word : (paper answer).word ≡ given.word
   pub response : (paper answer).response ≡ given.response
 
 -- The number of a refused answer, 0 for the others.
-abbrev pub refusalIn : Answer → ℕ
-refusalIn (Refused n) = n
-refusalIn Done = 0
-refusalIn (Status s) = 0
-refusalIn (Opened n p) = 0
-refusalIn (Word w) = 0
-refusalIn (LastWord w) = 0
-refusalIn (Response octet0 octet1 octet2) = 0
+abbrev pub refusal_in : Answer → ℕ
+refusal_in (Refused n) = n
+refusal_in Done = 0
+refusal_in (Status s) = 0
+refusal_in (Opened n p) = 0
+refusal_in (Word w) = 0
+refusal_in (LastWord w) = 0
+refusal_in (Response octet0 octet1 octet2) = 0

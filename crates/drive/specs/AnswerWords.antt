@@ -10,23 +10,23 @@ use Rattle.drive.specs.declared.answer.Answer.{Answer}
 use Rattle.drive.specs.declared.answer.Answer.TheVariants.{Refused, Done, Status, Opened, Word, LastWord, Response}
 
 -- Word 0: 0 where there is none.
-abbrev pub refusalWord : Option ℕ → ℕ
-refusalWord none = 0
-refusalWord (some n) = n
+abbrev pub refusal_word : Option ℕ → ℕ
+refusal_word none = 0
+refusal_word (some n) = n
 
 -- Words 1 and 2, and each of 3 to 5: FFFF where there is none.
-abbrev pub orFFFF : Option ℕ → ℕ
-orFFFF none = 0xFFFF
-orFFFF (some n) = n
+abbrev pub or_ffff : Option ℕ → ℕ
+or_ffff none = 0xFFFF
+or_ffff (some n) = n
 
-abbrev pub placeWords : Option Place → List ℕ
-placeWords none = 0xFFFF ∷ 0xFFFF ∷ 0xFFFF ∷ []
-placeWords (some p) = p.cylinder ∷ p.head ∷ p.sector ∷ []
+abbrev pub place_words : Option Place → List ℕ
+place_words none = 0xFFFF ∷ 0xFFFF ∷ 0xFFFF ∷ []
+place_words (some p) = p.cylinder ∷ p.head ∷ p.sector ∷ []
 
 -- Words 6 and 7.
-abbrev pub wordWords : Option ℕ → List ℕ
-wordWords none = 0 ∷ 0 ∷ []
-wordWords (some w) = 1 ∷ w ∷ []
+abbrev pub word_words : Option ℕ → List ℕ
+word_words none = 0 ∷ 0 ∷ []
+word_words (some w) = 1 ∷ w ∷ []
 
 -- Octets two by two, high first.
 abbrev pub pairs : List ℕ → List ℕ
@@ -35,27 +35,27 @@ pairs (high ∷ []) = high * 256 ∷ []
 pairs (high ∷ low ∷ octets) = (high * 256 + low) ∷ pairs octets
 
 -- Words 8 to 12.
-abbrev pub responseWords : Option (List ℕ) → List ℕ
-responseWords none = 0 ∷ 0 ∷ 0 ∷ 0 ∷ 0 ∷ []
-responseWords (some octets) = 1 ∷ pairs octets
+abbrev pub response_words : Option (List ℕ) → List ℕ
+response_words none = 0 ∷ 0 ∷ 0 ∷ 0 ∷ 0 ∷ []
+response_words (some octets) = 1 ∷ pairs octets
 
-abbrev pub paperWords : Paper → List ℕ
-paperWords p =
-    refusalWord p.refusal ∷ orFFFF p.status ∷ orFFFF p.wordCount ∷ placeWords p.place ++ wordWords p.word ++ responseWords p.response
+abbrev pub paper_words : Paper → List ℕ
+paper_words p =
+    refusal_word p.refusal ∷ or_ffff p.status ∷ or_ffff p.word_count ∷ place_words p.place ++ word_words p.word ++ response_words p.response
 
-unfoldable pub answerWords : Answer → List ℕ
-answerWords answer = paperWords (paper answer)
+unfoldable pub answer_words : Answer → List ℕ
+answer_words answer = paper_words (paper answer)
 
 -- The words of answers one after another.
-unfoldable pub wordsOfAnswers : List Answer → List ℕ
-wordsOfAnswers [] = []
-wordsOfAnswers (answer ∷ answers) = answerWords answer ++ wordsOfAnswers answers
+unfoldable pub words_of_answers : List Answer → List ℕ
+words_of_answers [] = []
+words_of_answers (answer ∷ answers) = answer_words answer ++ words_of_answers answers
 
 -- ---- the answer that words tell
 
 -- The words of an accepted event's answer: a response, a word, a status, an opening, or none of them.
-abbrev pub acceptedIn : List ℕ → Answer
-acceptedIn words =
+abbrev pub accepted_in : List ℕ → Answer
+accepted_in words =
     pick (eqb (get_or words 8 0) 1) (Response (get_or words 9 0 / 256) (get_or words 9 0 % 256) (get_or words 10 0 / 256))
     (pick (eqb (get_or words 6 0) 1) (pick (eqb (get_or words 1 0) 0xFFFF) (Word (get_or words 7 0)) (LastWord (get_or words 7 0)))
     (pick (eqb (get_or words 1 0) 0xFFFF)
@@ -64,10 +64,10 @@ acceptedIn words =
 
 -- The answer to one event: by the refusal that its call returned, and else by its words.
 unfoldable pub answer_in : ℕ → List ℕ → Answer
-answer_in zero words = acceptedIn words
+answer_in zero words = accepted_in words
 answer_in (suc n) words = Refused (suc n)
 
 -- The answers to so many events of a run: the refusal is the first of each 13 words.
-unfoldable pub answersIn : ℕ → List ℕ → List Answer
-answersIn zero words = []
-answersIn (suc count) words = answer_in (get_or words 0 0) (take 13 words) ∷ answersIn count (drop 13 words)
+unfoldable pub answers_in : ℕ → List ℕ → List Answer
+answers_in zero words = []
+answers_in (suc count) words = answer_in (get_or words 0 0) (take 13 words) ∷ answers_in count (drop 13 words)

@@ -4,8 +4,8 @@ use Rattle.laws.specs.Rows.{Row, first, ◌when◌}
 use Rattle.parts.specs.declared.event.Event.{Event}
 
 -- "Records of 8 octets: tick (2, high first), port, kind, four argument octets". The tick is not the drive's.
-unfoldable pub eventOf : List ℕ → Event
-eventOf octets =
+unfoldable pub event_of : List ℕ → Event
+event_of octets =
     record {
       port = get_or octets 2 0;
       kind = get_or octets 3 0;
@@ -16,19 +16,19 @@ eventOf octets =
     }
 
 -- The events of so many records, one after another.
-unfoldable pub eventsIn : ℕ → List ℕ → List Event
-eventsIn zero octets = []
-eventsIn (suc count) octets = eventOf octets ∷ eventsIn count (drop 8 octets)
+unfoldable pub events_in : ℕ → List ℕ → List Event
+events_in zero octets = []
+events_in (suc count) octets = event_of octets ∷ events_in count (drop 8 octets)
 
-abbrev pub recordCount : List ℕ → ℕ
-recordCount octets = length octets / 8
+abbrev pub record_count : List ℕ → ℕ
+record_count octets = length octets / 8
 
-abbrev pub eventsOf : List ℕ → List Event
-eventsOf octets = eventsIn (recordCount octets) octets
+abbrev pub events_of : List ℕ → List Event
+events_of octets = events_in (record_count octets) octets
 
 -- The call's own rows: 10 where there is no room for the answers, then 8 where the records are not whole.
-abbrev pub batchRows : List ℕ → List ℕ → List Row
-batchRows records out = 10 when ltb (length out) (13 * recordCount records) ∷ 8 when not (eqb (length records % 8) 0) ∷ []
+abbrev pub batch_rows : List ℕ → List ℕ → List Row
+batch_rows records out = 10 when ltb (length out) (13 * record_count records) ∷ 8 when not (eqb (length records % 8) 0) ∷ []
 
-abbrev pub batchRefusal : List ℕ → List ℕ → ℕ
-batchRefusal records out = first (batchRows records out)
+abbrev pub batch_refusal : List ℕ → List ℕ → ℕ
+batch_refusal records out = first (batch_rows records out)

@@ -1,9 +1,9 @@
 -- Demand 3 of calls of `handle`: power-up, and then calls one after another, each of which keeps its promise.
 use Rattle.std.specs.Prelude.{ℕ, ◌≡◌, true, false, List, [], ◌∷◌, ◌++◌}
-use Rattle.parts.specs.Setup.{withinLimits}
+use Rattle.parts.specs.Setup.{within_limits}
 use Rattle.drive.specs.Refusal.{row10}
 use Rattle.drive.specs.Event.{Handled}
-use Rattle.drive.specs.Power.{atRest, PoweredUp}
+use Rattle.drive.specs.Power.{at_rest, PoweredUp}
 use Rattle.drive.specs.Run.{Machine, machine, answers, final}
 use Rattle.drive.specs.Accepted.{accepted}
 use Rattle.drive.specs.Journal.{journal}
@@ -32,7 +32,7 @@ pub record Demand3OfCalls : Type 0 where
   pub ran : {m : Machine} {events : List Event} {told : List Answer} {end : Machine} → Calls m events told end → Ran m events told end
   -- There are such calls for every list of events, and such a power-up for every set-up within its limits with slices long enough.
   pub run : (m : Machine) (events : List Event) → Calls m events (answers m events) (final m events)
-  pub powered : (s : Setup) (sectors staging : List ℕ) → withinLimits s ≡ true → row10 s sectors staging ≡ false → PoweredUp s sectors staging (Up (atRest s))
+  pub powered : (s : Setup) (sectors staging : List ℕ) → within_limits s ≡ true → row10 s sectors staging ≡ false → PoweredUp s sectors staging (Up (at_rest s))
   -- From a power-up that handed back a drive, they meet the demand.
   pub met : {s : Setup} {sectors staging : List ℕ} {d : Drive} {events : List Event} {told : List Answer} {end : Machine}
       → PoweredUp s sectors staging (Up d) → Calls (machine d sectors staging) events told end → MeetsDemand3 (machine d sectors staging) events told end

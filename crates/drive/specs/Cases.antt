@@ -1,7 +1,7 @@
 -- "Bench cases" P1 to P12, and the case of M-102: one table. Each is a run from power-up; a case that goes on from another has the other's events
 -- before its own.
 use Rattle.std.specs.Prelude.{ℕ, ◌/◌, ◌%◌, ◌≡◌, List, [], ◌∷◌, ◌++◌, replicate}
-use Rattle.drive.specs.Power.{atRest}
+use Rattle.drive.specs.Power.{at_rest}
 use Rattle.drive.specs.State.{at_place}
 use Rattle.drive.specs.Run.{Machine, machine, answers, final}
 use Rattle.parts.specs.declared.setup.Setup.{Setup}
@@ -14,8 +14,8 @@ abbrev pub bench : Setup
 bench = record { cylinders = 2; heads = 2; sectors = 3; header = 1; field1 = 2; field2 = 1; address = 3 }
 
 -- Power-up with these words in the first sector and zeros elsewhere.
-abbrev pub benchWith : List ℕ → Machine
-benchWith sector = machine (atRest bench) (sector ++ replicate 44 0) (replicate 4 0)
+abbrev pub bench_with : List ℕ → Machine
+bench_with sector = machine (at_rest bench) (sector ++ replicate 44 0) (replicate 4 0)
 
 pub record Case : Type 0 where
   pub stored : List ℕ
@@ -26,9 +26,9 @@ pub record Case : Type 0 where
 
 -- The answers are these, the first sector is left with these words, all others are zero, and the position's sector is this.
 pub record Holds (c : Case) : Type 0 where
-  pub answered : answers (benchWith c.stored) c.events ≡ c.answers
-  pub words : (final (benchWith c.stored) c.events).sectors ≡ c.left ++ replicate 44 0
-  pub position : (final (benchWith c.stored) c.events).drive.place.sector ≡ c.sector
+  pub answered : answers (bench_with c.stored) c.events ≡ c.answers
+  pub words : (final (bench_with c.stored) c.events).sectors ≡ c.left ++ replicate 44 0
+  pub position : (final (bench_with c.stored) c.events).drive.place.sector ≡ c.sector
 
 abbrev pub event : ℕ → ℕ → ℕ → ℕ → Event
 event port kind a0 a1 = record { port = port; kind = kind; a0 = a0; a1 = a1; a2 = 0; a3 = 0 }
@@ -61,8 +61,8 @@ abbrev seven : List ℕ
 seven = 7 ∷ 0 ∷ 0 ∷ 0 ∷ []
 
 -- "P1 port 0 selects 30: granted. P2 then port 1 30: 6. P3 then port 1 31: granted, port 0's Take: 2."
-abbrev pub p1-p2-p3 : Case
-p1-p2-p3 =
+abbrev pub p1_p2_p3 : Case
+p1_p2_p3 =
     record {
       stored = zeros;
       events = select 0 0x30 ∷ select 1 0x30 ∷ select 1 0x31 ∷ take 0 ∷ [];
@@ -72,8 +72,8 @@ p1-p2-p3 =
     }
 
 -- "P4 port 0 32, Deselect, port 1 31: 6. P5 then port 1 33: granted. P6 then port 0 33: 6."
-abbrev pub p4-p5-p6 : Case
-p4-p5-p6 =
+abbrev pub p4_p5_p6 : Case
+p4_p5_p6 =
     record {
       stored = zeros;
       events = select 0 0x32 ∷ deselect 0 ∷ select 1 0x31 ∷ select 1 0x33 ∷ select 0 0x33 ∷ [];
@@ -109,8 +109,8 @@ abbrev pub p9 : Case
 p9 =
     record {
       stored = zeros;
-      events = p1-p2-p3.events ++ (deselect 1 ∷ select 0 0x30 ∷ control 0 0xC1 ∷ status 0 ∷ control 0 0xC1 ∷ []);
-      answers = p1-p2-p3.answers ++ (Done ∷ Done ∷ Status 0xC ∷ Response 0x40 0x40 0x00 ∷ Opened 2 (at_place 0 0 0) ∷ []);
+      events = p1_p2_p3.events ++ (deselect 1 ∷ select 0 0x30 ∷ control 0 0xC1 ∷ status 0 ∷ control 0 0xC1 ∷ []);
+      answers = p1_p2_p3.answers ++ (Done ∷ Done ∷ Status 0xC ∷ Response 0x40 0x40 0x00 ∷ Opened 2 (at_place 0 0 0) ∷ []);
       left = zeros;
       sector = 0;
     }
@@ -149,8 +149,8 @@ p12 =
     }
 
 -- M-102: "D0 followed by C4, which ends at once, after which the response is eight zeros."
-abbrev pub d0-then-c4 : Case
-d0-then-c4 =
+abbrev pub d0_then_c4 : Case
+d0_then_c4 =
     record {
       stored = zeros;
       events = select 0 0x30 ∷ control 0 0xD0 ∷ control 0 0xC4 ∷ status 0 ∷ [];
@@ -160,7 +160,7 @@ d0-then-c4 =
     }
 
 abbrev pub cases : List Case
-cases = p1-p2-p3 ∷ p4-p5-p6 ∷ p7 ∷ p8 ∷ p9 ∷ p10 ∷ p11 ∷ p12 ∷ d0-then-c4 ∷ []
+cases = p1_p2_p3 ∷ p4_p5_p6 ∷ p7 ∷ p8 ∷ p9 ∷ p10 ∷ p11 ∷ p12 ∷ d0_then_c4 ∷ []
 
 -- "Cases P1 to P12 are proved together, one table, one statement".
 abbrev pub AllHold : List Case → Type 0

@@ -1,10 +1,10 @@
 -- Runs of the bench drive with their journals, and all its sector words: those that the journal gives and those that the drive holds.
 use Rattle.std.specs.Prelude.{ℕ, ◌*◌, ◌/◌, ◌%◌, ◌≡◌, List, [], ◌∷◌, ◌++◌, get_or, replicate}
-use Rattle.laws.specs.Lists.{tableFrom}
+use Rattle.laws.specs.Lists.{table_from}
 use Rattle.drive.specs.State.{at_place}
-use Rattle.drive.specs.Power.{atRest}
+use Rattle.drive.specs.Power.{at_rest}
 use Rattle.drive.specs.Run.{Machine, machine, answers, final}
-use Rattle.drive.specs.Journal.{Write, journal, lastWrite}
+use Rattle.drive.specs.Journal.{Write, journal, last_write}
 use Rattle.drive.specs.Cases.{bench}
 use Rattle.parts.specs.declared.event.Event.{Event}
 
@@ -15,14 +15,14 @@ pub record Example : Type 0 where
   pub sectors : List ℕ
 
 -- Power-up with these sector words.
-abbrev pub benchHolding : List ℕ → Machine
-benchHolding sectors = machine (atRest bench) sectors (replicate 4 0)
+abbrev pub bench_holding : List ℕ → Machine
+bench_holding sectors = machine (at_rest bench) sectors (replicate 4 0)
 
 -- The journal is this, the last writes give these words at the 48 addresses, and these are the words that the drive holds.
 pub record Shown (x : Example) : Type 0 where
-  pub journalled : journal x.events (answers (benchHolding x.stored) x.events) ≡ x.journal
-  pub given : tableFrom (λ address. lastWrite bench x.journal address (get_or x.stored address 0)) 0 48 ≡ x.sectors
-  pub held : (final (benchHolding x.stored) x.events).sectors ≡ x.sectors
+  pub journalled : journal x.events (answers (bench_holding x.stored) x.events) ≡ x.journal
+  pub given : table_from (λ address. last_write bench x.journal address (get_or x.stored address 0)) 0 48 ≡ x.sectors
+  pub held : (final (bench_holding x.stored) x.events).sectors ≡ x.sectors
 
 -- Port, kind, and the first two argument octets as one number, high first.
 abbrev sent : ℕ → ℕ → ℕ → Event
@@ -40,11 +40,11 @@ abbrev blank : ℕ → List ℕ
 blank count = replicate (4 * count) 0
 
 -- The first sector holds header 7 and field 2 of 5; the others are blank.
-abbrev firstSector : List ℕ
-firstSector = 7 ∷ 0 ∷ 0 ∷ 5 ∷ []
+abbrev first_sector : List ℕ
+first_sector = 7 ∷ 0 ∷ 0 ∷ 5 ∷ []
 
 abbrev stored : List ℕ
-stored = firstSector ++ blank 11
+stored = first_sector ++ blank 11
 
 -- A write completes: the header is verified and not written, field 1 is.
 abbrev pub completes : Example
@@ -57,8 +57,8 @@ completes =
     }
 
 -- Port 1 takes over half way, and port 0's last word is refused: nothing is written.
-abbrev pub takenOverHalfWay : Example
-takenOverHalfWay =
+abbrev pub taken_over_half_way : Example
+taken_over_half_way =
     record {
       stored = stored;
       events = sent 0 1 0x3000 ∷ sent 0 3 0x8500 ∷ sent 0 4 7 ∷ sent 0 4 0xAA ∷ sent 1 1 0x3100 ∷ sent 0 4 0xBB ∷ [];
@@ -67,8 +67,8 @@ takenOverHalfWay =
     }
 
 -- End before the last word, and a reset: nothing is written.
-abbrev pub endedAndReset : Example
-endedAndReset =
+abbrev pub ended_and_reset : Example
+ended_and_reset =
     record {
       stored = stored;
       events = sent 0 1 0x3000 ∷ sent 0 3 0x8500 ∷ sent 0 4 7 ∷ sent 0 6 0 ∷ sent 0 7 0 ∷ sent 0 3 0x8500 ∷ sent 0 4 7 ∷ sent 1 10 0 ∷ [];
@@ -77,8 +77,8 @@ endedAndReset =
     }
 
 -- Two writes to one sector: the first covers it whole, the second field 1; both are journalled, and the last word at an address stands.
-abbrev pub writtenTwice : Example
-writtenTwice =
+abbrev pub written_twice : Example
+written_twice =
     record {
       stored = stored;
       events =
@@ -91,8 +91,8 @@ writtenTwice =
     }
 
 -- Field 2 alone: its word is staged behind the header, and written behind field 1.
-abbrev pub fieldTwoAlone : Example
-fieldTwoAlone =
+abbrev pub field_two_alone : Example
+field_two_alone =
     record {
       stored = stored;
       events = sent 0 1 0x3000 ∷ sent 0 3 0x8600 ∷ sent 0 4 7 ∷ sent 0 4 0xCC ∷ [];
@@ -107,12 +107,12 @@ elsewhere =
       stored = stored;
       events = sent 0 1 0x3000 ∷ positioned 0 1 0 1 ∷ sent 0 3 0x8500 ∷ sent 0 4 0 ∷ sent 0 4 0xAA ∷ sent 0 4 0xBB ∷ [];
       journal = write 0x85 1 0 1 (0 ∷ 0xAA ∷ 0xBB ∷ []) ∷ [];
-      sectors = firstSector ++ blank 6 ++ (0 ∷ 0xAA ∷ 0xBB ∷ 0 ∷ []) ++ blank 4;
+      sectors = first_sector ++ blank 6 ++ (0 ∷ 0xAA ∷ 0xBB ∷ 0 ∷ []) ++ blank 4;
     }
 
 -- A write of the drive's last sector, whose last word is the last of all; the next write goes to sector 0 of the same track.
-abbrev pub lastSector : Example
-lastSector =
+abbrev pub last_sector : Example
+last_sector =
     record {
       stored = stored;
       events =
@@ -120,22 +120,22 @@ lastSector =
           ∷ positioned 0 1 1 2 ∷ sent 0 3 0x8B00 ∷ sent 0 4 8 ∷ sent 0 4 1 ∷ sent 0 4 2 ∷ sent 0 4 3
           ∷ sent 0 3 0x8500 ∷ sent 0 4 0 ∷ sent 0 4 0xAA ∷ sent 0 4 0xBB ∷ [];
       journal = write 0x8B 1 1 2 (8 ∷ 1 ∷ 2 ∷ 3 ∷ []) ∷ write 0x85 1 1 0 (0 ∷ 0xAA ∷ 0xBB ∷ []) ∷ [];
-      sectors = firstSector ++ blank 8 ++ (0 ∷ 0xAA ∷ 0xBB ∷ 0 ∷ []) ++ blank 1 ++ (8 ∷ 1 ∷ 2 ∷ 3 ∷ []);
+      sectors = first_sector ++ blank 8 ++ (0 ∷ 0xAA ∷ 0xBB ∷ 0 ∷ []) ++ blank 1 ++ (8 ∷ 1 ∷ 2 ∷ 3 ∷ []);
     }
 
 -- A write at the target: sector 2 of the position's track 0/1. The place is the one that the opening tells.
-abbrev pub atTarget : Example
-atTarget =
+abbrev pub at_target : Example
+at_target =
     record {
       stored = stored;
       events = sent 0 1 0x3000 ∷ positioned 0 0 1 0 ∷ sent 0 8 2 ∷ sent 0 3 0x8F00 ∷ sent 0 4 8 ∷ sent 0 4 1 ∷ sent 0 4 2 ∷ sent 0 4 3 ∷ [];
       journal = write 0x8F 0 1 2 (8 ∷ 1 ∷ 2 ∷ 3 ∷ []) ∷ [];
-      sectors = firstSector ++ blank 4 ++ (8 ∷ 1 ∷ 2 ∷ 3 ∷ []) ++ blank 6;
+      sectors = first_sector ++ blank 4 ++ (8 ∷ 1 ∷ 2 ∷ 3 ∷ []) ++ blank 6;
     }
 
 -- A takeover between two writes: port 0 writes, deselects and still holds the drive; port 1 needs both bits to take it, and writes elsewhere.
-abbrev pub takenOverBetween : Example
-takenOverBetween =
+abbrev pub taken_over_between : Example
+taken_over_between =
     record {
       stored = stored;
       events =
@@ -148,11 +148,11 @@ takenOverBetween =
 
 pub record Demand3Examples : Type 0 where
   pub completes : Shown completes
-  pub takenOverHalfWay : Shown takenOverHalfWay
-  pub endedAndReset : Shown endedAndReset
-  pub writtenTwice : Shown writtenTwice
-  pub fieldTwoAlone : Shown fieldTwoAlone
+  pub taken_over_half_way : Shown taken_over_half_way
+  pub ended_and_reset : Shown ended_and_reset
+  pub written_twice : Shown written_twice
+  pub field_two_alone : Shown field_two_alone
   pub elsewhere : Shown elsewhere
-  pub lastSector : Shown lastSector
-  pub atTarget : Shown atTarget
-  pub takenOverBetween : Shown takenOverBetween
+  pub last_sector : Shown last_sector
+  pub at_target : Shown at_target
+  pub taken_over_between : Shown taken_over_between

@@ -10,8 +10,8 @@ use Rattle.drive.specs.declared.answer.Answer.{Answer}
 use Rattle.drive.specs.declared.answer.Answer.TheVariants.{Refused, Done, Status, Opened, Word, LastWord, Response}
 
 -- "For kinds 3, 7, 8, in order: any pending bit in response octet 1 gives C ..; then a bad request gives 8 .. Otherwise kinds 7 and 8 give 0".
-abbrev pub requestStatuses : List ℕ
-requestStatuses = 0 ∷ 8 ∷ 0xC ∷ []
+abbrev pub request_statuses : List ℕ
+request_statuses = 0 ∷ 8 ∷ 0xC ∷ []
 
 -- The answers to an accepted event, by its kind.
 pub data Accepted : Kind → Answer → Type 0 where
@@ -21,7 +21,7 @@ pub data Accepted : Kind → Answer → Type 0 where
   reset : Accepted Reset Done
   -- "The answer that opens a transfer tells the number of words to come and the place."
   opened : {words : ℕ} {place : Place} → Accepted (Use DataControl) (Opened words place)
-  controlled : {status : ℕ} → one_of requestStatuses status ≡ true → Accepted (Use DataControl) (Status status)
+  controlled : {status : ℕ} → one_of request_statuses status ≡ true → Accepted (Use DataControl) (Status status)
   -- "a word before the last carr[ies] no status"; the last one 0, and a header that differs 7.
   more : Accepted (Use WordFromHost) Done
   finished : Accepted (Use WordFromHost) (Status 0)
@@ -30,20 +30,20 @@ pub data Accepted : Kind → Answer → Type 0 where
   disobeyed : Accepted (Use WordFromHost) (Status 8)
   -- "Take answers the next word."
   taken : {word : ℕ} → Accepted (Use TakeWord) (Word word)
-  lastTaken : {word : ℕ} → Accepted (Use TakeWord) (LastWord word)
+  last_taken : {word : ℕ} → Accepted (Use TakeWord) (LastWord word)
   -- "a finished transfer, End and Step Head give 0"
   ended : Accepted (Use End) (Status 0)
-  positioned : {status : ℕ} → one_of requestStatuses status ≡ true → Accepted (Use Position) (Status status)
-  targeted : {status : ℕ} → one_of requestStatuses status ≡ true → Accepted (Use Target) (Status status)
+  positioned : {status : ℕ} → one_of request_statuses status ≡ true → Accepted (Use Position) (Status status)
+  targeted : {status : ℕ} → one_of request_statuses status ≡ true → Accepted (Use Target) (Status status)
   -- "Read status answers 0 with the octets".
-  statusRead : {octet0 octet1 octet2 : ℕ} → Accepted (Use ReadStatus) (Response octet0 octet1 octet2)
+  status_read : {octet0 octet1 octet2 : ℕ} → Accepted (Use ReadStatus) (Response octet0 octet1 octet2)
 
 -- The numbers of the table that an event can be refused with.
-abbrev pub refusalNumbers : List ℕ
-refusalNumbers = 1 ∷ 2 ∷ 3 ∷ 4 ∷ 5 ∷ 6 ∷ 7 ∷ 8 ∷ 10 ∷ 11 ∷ []
+abbrev pub refusal_numbers : List ℕ
+refusal_numbers = 1 ∷ 2 ∷ 3 ∷ 4 ∷ 5 ∷ 6 ∷ 7 ∷ 8 ∷ 10 ∷ 11 ∷ []
 
 pub data Listed (k : Kind) : Answer → Type 0 where
-  refused : {n : ℕ} → one_of refusalNumbers n ≡ true → Listed k (Refused n)
+  refused : {n : ℕ} → one_of refusal_numbers n ≡ true → Listed k (Refused n)
   accepted : {answer : Answer} → Accepted k answer → Listed k answer
 
 pub record EveryAnswer : Type 0 where

@@ -1,12 +1,12 @@
 -- Worked cases of M-102, line by line: runs of the bench drive from power-up, with all words zero. The request's own case stands in `Cases`.
 use Rattle.std.specs.Prelude.{ℕ, ◌≡◌, List, [], ◌∷◌, map, replicate}
-use Rattle.parts.specs.Pending.{pendingOf, nothingPending}
+use Rattle.parts.specs.Pending.{pending_of, nothing_pending}
 use Rattle.parts.specs.declared.event.Event.{Event}
 use Rattle.parts.specs.declared.pending.Pending.{Pending}
 use Rattle.drive.specs.State.{at_place}
-use Rattle.drive.specs.Run.{Machine, answerTo, after}
-use Rattle.drive.specs.Cases.{benchWith, event, select, deselect, control, take, status, end}
-use Rattle.drive.specs.NeverDead.{positionSent}
+use Rattle.drive.specs.Run.{Machine, answer_to, after}
+use Rattle.drive.specs.Cases.{bench_with, event, select, deselect, control, take, status, end}
+use Rattle.drive.specs.NeverDead.{position_sent}
 use Rattle.drive.specs.declared.answer.Answer.{Answer}
 use Rattle.drive.specs.declared.answer.Answer.TheVariants.{Done, Status, Opened, Word, Response}
 
@@ -23,27 +23,27 @@ line event answer octets0 octets1 = record { event = event; answer = answer; oct
 -- What the drive answers and leaves pending, event by event.
 abbrev pub ran : Machine → List Event → List Line
 ran m [] = []
-ran m (e ∷ events) = line e (answerTo m e) (after m e).drive.pending0 (after m e).drive.pending1 ∷ ran (after m e) events
+ran m (e ∷ events) = line e (answer_to m e) (after m e).drive.pending0 (after m e).drive.pending1 ∷ ran (after m e) events
 
 abbrev pub AsWritten : List Line → Type 0
-AsWritten lines = ran (benchWith (replicate 4 0)) (map (λ (l : Line). l.event) lines) ≡ lines
+AsWritten lines = ran (bench_with (replicate 4 0)) (map (λ (l : Line). l.event) lines) ≡ lines
 
 abbrev none : Pending
-none = nothingPending
+none = nothing_pending
 
 -- A bit of octet 2, and nothing in octet 1.
 abbrev fault : ℕ → Pending
-fault bit = pendingOf 0x00 bit
+fault bit = pending_of 0x00 bit
 
 abbrev position : ℕ → ℕ → ℕ → ℕ → Event
-position port cylinder head sector = positionSent port (at_place cylinder head sector)
+position port cylinder head sector = position_sent port (at_place cylinder head sector)
 
 abbrev target : ℕ → ℕ → Event
 target port sector = event port 8 0 sector
 
 -- A second bad request leaves its own bit alone.
-abbrev pub ownBitAlone : List Line
-ownBitAlone =
+abbrev pub own_bit_alone : List Line
+own_bit_alone =
     line (select 0 0x30) Done none none
     ∷ line (control 0 0xD0) (Status 8) (fault 0x80) none
     ∷ line (position 0 2 0 0) (Status 8) (fault 0x40) none
@@ -52,21 +52,21 @@ ownBitAlone =
     ∷ []
 
 -- C clears nothing.
-abbrev pub cClearsNothing : List Line
-cClearsNothing =
+abbrev pub c_clears_nothing : List Line
+c_clears_nothing =
     line (select 0 0x30) Done none none
     ∷ line (control 0 0xD0) (Status 8) (fault 0x80) none
-    ∷ line (select 1 0x31) Done (pendingOf 0x40 0x80) none
-    ∷ line (deselect 1) Done (pendingOf 0x40 0x80) none
-    ∷ line (select 0 0x30) Done (pendingOf 0x40 0x80) none
-    ∷ line (control 0 0xC1) (Status 0xC) (pendingOf 0x40 0x80) none
-    ∷ line (position 0 0 0 0) (Status 0xC) (pendingOf 0x40 0x80) none
+    ∷ line (select 1 0x31) Done (pending_of 0x40 0x80) none
+    ∷ line (deselect 1) Done (pending_of 0x40 0x80) none
+    ∷ line (select 0 0x30) Done (pending_of 0x40 0x80) none
+    ∷ line (control 0 0xC1) (Status 0xC) (pending_of 0x40 0x80) none
+    ∷ line (position 0 0 0 0) (Status 0xC) (pending_of 0x40 0x80) none
     ∷ line (status 0) (Response 0x60 0x40 0x80) none none
     ∷ []
 
 -- Step Head, Target and Position that are good clear too; the other port's octet 2 stays.
-abbrev pub goodOnesClear : List Line
-goodOnesClear =
+abbrev pub good_ones_clear : List Line
+good_ones_clear =
     line (select 1 0x30) Done none none
     ∷ line (control 1 0xD0) (Status 8) none (fault 0x80)
     ∷ line (deselect 1) Done none (fault 0x80)
@@ -80,8 +80,8 @@ goodOnesClear =
     ∷ []
 
 -- The code that reads status does not clear at its opening; one cut short leaves the bit to the next request.
-abbrev pub statusLeavesIt : List Line
-statusLeavesIt =
+abbrev pub status_leaves_it : List Line
+status_leaves_it =
     line (select 0 0x30) Done none none
     ∷ line (control 0 0xD0) (Status 8) (fault 0x80) none
     ∷ line (control 0 0x44) (Opened 4 (at_place 0 0 0)) (fault 0x80) none
@@ -92,7 +92,7 @@ statusLeavesIt =
     ∷ []
 
 pub record IgnoredCasesHold : Type 0 where
-  pub own-bit-alone : AsWritten ownBitAlone
-  pub c-clears-nothing : AsWritten cClearsNothing
-  pub good-ones-clear : AsWritten goodOnesClear
-  pub status-leaves-it : AsWritten statusLeavesIt
+  pub own_bit_alone_lem : AsWritten own_bit_alone
+  pub c_clears_nothing_lem : AsWritten c_clears_nothing
+  pub good_ones_clear_lem : AsWritten good_ones_clear
+  pub status_leaves_it_lem : AsWritten status_leaves_it

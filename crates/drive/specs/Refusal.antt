@@ -1,10 +1,10 @@
 -- "Events and refusals": the rows by their numbers, and the order in which they are tested.
 use Rattle.std.specs.Prelude.{ℕ, Bool, not, ◌||◌, List, [], ◌∷◌, ltb, eqb, length}
 use Rattle.laws.specs.Rows.{Row, first, ◌when◌}
-use Rattle.parts.specs.Tests.{isTaking, isGiving, isOutsideLimits, isDisowned, isBrokenTransfer, hasStrayBit, isMisaddressed, changesMode}
-use Rattle.parts.specs.Setup.{sectorWords, allWords, isPlace, isTarget}
-use Rattle.parts.specs.Holding.{isBusy}
-use Rattle.parts.specs.Kind.{Kind, Select, Deselect, Use, Reset, Unknown, Work, DataControl, WordFromHost, TakeWord, End, Position, Target, ReadStatus, usesOnlyItsOwn}
+use Rattle.parts.specs.Tests.{is_taking, is_giving, is_outside_limits, is_disowned, is_broken_transfer, has_stray_bit, is_misaddressed, changes_mode}
+use Rattle.parts.specs.Setup.{sector_words, all_words, is_place, is_target}
+use Rattle.parts.specs.Holding.{is_busy}
+use Rattle.parts.specs.Kind.{Kind, Select, Deselect, Use, Reset, Unknown, Work, DataControl, WordFromHost, TakeWord, End, Position, Target, ReadStatus, uses_only_its_own}
 use Rattle.parts.specs.declared.setup.Setup.{Setup}
 use Rattle.drive.specs.declared.drive.Drive.{Drive}
 use Rattle.parts.specs.declared.event.Event.{Event}
@@ -16,17 +16,17 @@ use Rattle.parts.specs.declared.event.Event.{Event}
 -- its words moved or more; a pending bit the base never sets"
 unfoldable pub row11 : Drive → Bool
 row11 d =
-    isOutsideLimits d.setup d.holding
-    || not (isPlace d.setup d.place)
-    || not (isTarget d.setup d.target)
-    || isDisowned d.holding d.transfer
-    || isBrokenTransfer d.setup d.holding d.transfer
-    || hasStrayBit d.pending0
-    || hasStrayBit d.pending1
+    is_outside_limits d.setup d.holding
+    || not (is_place d.setup d.place)
+    || not (is_target d.setup d.target)
+    || is_disowned d.holding d.transfer
+    || is_broken_transfer d.setup d.holding d.transfer
+    || has_stray_bit d.pending0
+    || has_stray_bit d.pending1
 
 -- "The sector slice must hold every sector; staging must hold one sector."
 unfoldable pub row10 : Setup → List ℕ → List ℕ → Bool
-row10 s sectors staging = ltb (length sectors) (allWords s) || ltb (length staging) (sectorWords s)
+row10 s sectors staging = ltb (length sectors) (all_words s) || ltb (length staging) (sector_words s)
 
 -- "port is neither 0 nor 1"
 abbrev pub row1 : Event → Bool
@@ -34,7 +34,7 @@ row1 e = ltb 1 e.port
 
 -- "event: kind not 1 to 10 or an unused argument octet not zero"
 abbrev pub row8 : Kind → Event → Bool
-row8 k e = not (usesOnlyItsOwn k e)
+row8 k e = not (uses_only_its_own k e)
 
 -- "Select, port already selected"
 abbrev pub row3 : Drive → Event → Bool
@@ -42,15 +42,15 @@ row3 d e = eqb d.holding.selected e.port
 
 -- "Select, octet bit 7 set or address (bits 6 to 4) not ours"
 abbrev pub row4 : Drive → Event → Bool
-row4 d e = isMisaddressed e.a0 d.setup.address
+row4 d e = is_misaddressed e.a0 d.setup.address
 
 -- "Select, bit 3 or 2 set (IPI-2 modes can't change)"
 abbrev pub row5 : Event → Bool
-row5 e = changesMode e.a0
+row5 e = changes_mode e.a0
 
 -- "Select, drive busy by the rule below"
 abbrev pub row6 : Drive → Event → Bool
-row6 d e = isBusy d.holding e.port e.a0
+row6 d e = is_busy d.holding e.port e.a0
 
 -- "kinds 2 to 9, port not selected"
 abbrev pub row2 : Drive → Event → Bool
@@ -58,34 +58,34 @@ row2 d e = not (eqb d.holding.selected e.port)
 
 -- "kind 4 with no write open; 5 with no read open; 6 with neither; 2, 3, 7, 8 or 9 with one open". Commands and responses are "read by 7 and 11 as a
 -- write's and a read's words".
-abbrev pub isOneOpen : Drive → Bool
-isOneOpen d = isTaking d.transfer || isGiving d.transfer
+abbrev pub is_one_open : Drive → Bool
+is_one_open d = is_taking d.transfer || is_giving d.transfer
 
 abbrev pub row7 : Work → Drive → Bool
-row7 WordFromHost d = not (isTaking d.transfer)
-row7 TakeWord d = not (isGiving d.transfer)
-row7 End d = not (isOneOpen d)
-row7 DataControl d = isOneOpen d
-row7 Position d = isOneOpen d
-row7 Target d = isOneOpen d
-row7 ReadStatus d = isOneOpen d
+row7 WordFromHost d = not (is_taking d.transfer)
+row7 TakeWord d = not (is_giving d.transfer)
+row7 End d = not (is_one_open d)
+row7 DataControl d = is_one_open d
+row7 Position d = is_one_open d
+row7 Target d = is_one_open d
+row7 ReadStatus d = is_one_open d
 
 -- ---- the order
 
 -- "then Select 3, 4, 5, 6; others 2, then 7. Reset is never refused after 8."
 abbrev pub rows_of : Kind → Drive → Event → List Row
 rows_of Select d e = 3 when row3 d e ∷ 4 when row4 d e ∷ 5 when row5 e ∷ 6 when row6 d e ∷ []
-rows_of Deselect d e = 2 when row2 d e ∷ 7 when isOneOpen d ∷ []
+rows_of Deselect d e = 2 when row2 d e ∷ 7 when is_one_open d ∷ []
 rows_of (Use work) d e = 2 when row2 d e ∷ 7 when row7 work d ∷ []
 rows_of Reset d e = []
 rows_of Unknown d e = []
 
 -- "Events test 11, 10, 1, 8; then" those of the kind.
-abbrev pub ownRows : Kind → Drive → Event → List Row
-ownRows k d e = 8 when row8 k e ∷ rows_of k d e
+abbrev pub own_rows : Kind → Drive → Event → List Row
+own_rows k d e = 8 when row8 k e ∷ rows_of k d e
 
 abbrev pub rows : Kind → Drive → Event → List ℕ → List ℕ → List Row
-rows k d e sectors staging = 11 when row11 d ∷ 10 when row10 d.setup sectors staging ∷ 1 when row1 e ∷ ownRows k d e
+rows k d e sectors staging = 11 when row11 d ∷ 10 when row10 d.setup sectors staging ∷ 1 when row1 e ∷ own_rows k d e
 
-unfoldable pub refusalOf : Kind → Drive → Event → List ℕ → List ℕ → ℕ
-refusalOf k d e sectors staging = first (rows k d e sectors staging)
+unfoldable pub refusal_of : Kind → Drive → Event → List ℕ → List ℕ → ℕ
+refusal_of k d e sectors staging = first (rows k d e sectors staging)

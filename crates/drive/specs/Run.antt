@@ -13,8 +13,8 @@ pub record Machine : Type 0 where
 abbrev pub machine : Drive → List ℕ → List ℕ → Machine
 machine d sectors staging = record { drive = d; sectors = sectors; staging = staging }
 
-unfoldable pub answerTo : Machine → Event → Answer
-answerTo m e = (handled m.drive e m.sectors m.staging).outcome.answer
+unfoldable pub answer_to : Machine → Event → Answer
+answer_to m e = (handled m.drive e m.sectors m.staging).outcome.answer
 
 unfoldable pub after : Machine → Event → Machine
 after m e =
@@ -23,7 +23,7 @@ after m e =
 
 unfoldable pub answers : Machine → List Event → List Answer
 answers m [] = []
-answers m (e ∷ es) = answerTo m e ∷ answers (after m e) es
+answers m (e ∷ es) = answer_to m e ∷ answers (after m e) es
 
 unfoldable pub final : Machine → List Event → Machine
 final m [] = m

@@ -21,10 +21,10 @@ pub data Sessions : List Event → Type 0 where
   deselected : {selection : Event} {work : List Event} (deselection : Event) {later : List Event} → Is Select selection → Works selection.port work
       → Is Deselect deselection → deselection.port ≡ selection.port → Sessions later → Sessions (selection ∷ work ++ deselection ∷ later)
   -- "a takeover": the other port's granted selection, which begins a session
-  takenOver : {selection : Event} {work : List Event} {takeover : Event} {later : List Event} → Is Select selection → Works selection.port work
+  taken_over : {selection : Event} {work : List Event} {takeover : Event} {later : List Event} → Is Select selection → Works selection.port work
       → Is Select takeover → (takeover.port ≡ selection.port → ⊥) → Sessions (takeover ∷ later) → Sessions (selection ∷ work ++ takeover ∷ later)
   -- "or a reset"
-  cutByReset : {selection : Event} {work : List Event} {cut : Event} {later : List Event} → Is Select selection → Works selection.port work
+  cut_by_reset : {selection : Event} {work : List Event} {cut : Event} {later : List Event} → Is Select selection → Works selection.port work
       → Is Reset cut → Sessions (cut ∷ later) → Sessions (selection ∷ work ++ cut ∷ later)
   -- "the last perhaps still open"
-  stillOpen : {selection : Event} {work : List Event} → Is Select selection → Works selection.port work → Sessions (selection ∷ work)
+  still_open : {selection : Event} {work : List Event} → Is Select selection → Works selection.port work → Sessions (selection ∷ work)

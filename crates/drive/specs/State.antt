@@ -12,8 +12,8 @@ use Rattle.drive.specs.declared.answer.Outcome.{Outcome}
 abbrev pub at_place : ℕ → ℕ → ℕ → Place
 at_place cylinder head sector = record { cylinder = cylinder; head = head; sector = sector }
 
-abbrev pub withHolding : Drive → Holding → Drive
-withHolding d h =
+abbrev pub with_holding : Drive → Holding → Drive
+with_holding d h =
     record {
       setup = d.setup;
       holding = h;
@@ -24,8 +24,8 @@ withHolding d h =
       pending1 = d.pending1;
     }
 
-abbrev pub withPlace : Drive → Place → Drive
-withPlace d p =
+abbrev pub with_place : Drive → Place → Drive
+with_place d p =
     record {
       setup = d.setup;
       holding = d.holding;
@@ -36,8 +36,8 @@ withPlace d p =
       pending1 = d.pending1;
     }
 
-abbrev pub withTarget : Drive → ℕ → Drive
-withTarget d target =
+abbrev pub with_target : Drive → ℕ → Drive
+with_target d target =
     record {
       setup = d.setup;
       holding = d.holding;
@@ -48,8 +48,8 @@ withTarget d target =
       pending1 = d.pending1;
     }
 
-abbrev pub withTransfer : Drive → Transfer → Drive
-withTransfer d t =
+abbrev pub with_transfer : Drive → Transfer → Drive
+with_transfer d t =
     record {
       setup = d.setup;
       holding = d.holding;
@@ -60,8 +60,8 @@ withTransfer d t =
       pending1 = d.pending1;
     }
 
-abbrev pub withPending : Drive → Pending → Pending → Drive
-withPending d p q =
+abbrev pub with_pending : Drive → Pending → Pending → Drive
+with_pending d p q =
     record {
       setup = d.setup;
       holding = d.holding;
@@ -73,11 +73,11 @@ withPending d p q =
     }
 
 -- What is pending on a port, and the drive with that replaced.
-unfoldable pub pendingOn : Drive → ℕ → Pending
-pendingOn d port = pick (eqb port 0) d.pending0 d.pending1
+unfoldable pub pending_on : Drive → ℕ → Pending
+pending_on d port = pick (eqb port 0) d.pending0 d.pending1
 
-unfoldable pub postedOn : Drive → ℕ → Pending → Drive
-postedOn d port p = withPending d (pick (eqb port 0) p d.pending0) (pick (eqb port 0) d.pending1 p)
+unfoldable pub posted_on : Drive → ℕ → Pending → Drive
+posted_on d port p = with_pending d (pick (eqb port 0) p d.pending0) (pick (eqb port 0) d.pending1 p)
 
 abbrev pub told : Answer → Drive → Outcome
 told answer drive = record { answer = answer; drive = drive }

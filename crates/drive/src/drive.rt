@@ -1,9 +1,9 @@
 // The drive's state, by value, and what changes it: selection, deselection, reset and holds by command hand the new state back.
 ghost use Rattle.std.specs.Prelude.{◌≡◌};
 ghost use Rattle.laws.specs.Pick.{pick};
-ghost use Rattle.parts.specs.Holding.{atLeastPlain, withHold};
-ghost use Rattle.drive.specs.State.{withHolding, postedOn};
-ghost use Rattle.drive.specs.Drive.{ownerNoticed, selected, deselected, afterReset, reserved, priorityReserved, unreserved};
+ghost use Rattle.parts.specs.Holding.{at_least_plain, with_hold};
+ghost use Rattle.drive.specs.State.{with_holding, posted_on};
+ghost use Rattle.drive.specs.Drive.{owner_noticed, selected, deselected, after_reset, reserved, priority_reserved, unreserved};
 
 use parts::{Hold, Holding, Pending, Place, Setup, Transfer};
 
@@ -20,7 +20,7 @@ pub struct Drive {
 
 impl Drive {
     fn posted_on(self, port: u16, pending: Pending) -> Drive
-        ensures { result ≡ postedOn self port pending }
+        ensures { result ≡ posted_on self port pending }
     {
         let p0 = self.pending0;
         let p1 = self.pending1;
@@ -55,7 +55,7 @@ impl Drive {
     }
 
     pub fn reset(self) -> Drive
-        ensures { result ≡ afterReset self }
+        ensures { result ≡ after_reset self }
     {
         let s = self.setup;
         Drive {
@@ -89,7 +89,7 @@ impl Drive {
     }
 
     pub fn priority_reserve(self) -> Drive
-        ensures { result ≡ priorityReserved self }
+        ensures { result ≡ priority_reserved self }
     {
         self.with_hold(Hold::Strong)
     }
@@ -101,7 +101,7 @@ impl Drive {
     }
 
     fn with_hold(self, hold: Hold) -> Drive
-        ensures { result ≡ withHolding self (withHold self.holding hold) }
+        ensures { result ≡ with_holding self (with_hold self.holding hold) }
     {
         let h = self.holding;
         let held = Holding {
@@ -116,7 +116,7 @@ impl Drive {
 
     // A takeover is told to the port that loses the drive.
     fn owner_noticed(self, port: u16) -> Drive
-        ensures { result ≡ ownerNoticed self port }
+        ensures { result ≡ owner_noticed self port }
     {
         let h = self.holding;
         let owner = h.owner;
@@ -131,7 +131,7 @@ impl Drive {
 }
 
 fn at_least_plain(hold: Hold) -> Hold
-    ensures { result ≡ atLeastPlain hold }
+    ensures { result ≡ at_least_plain hold }
 {
     match hold {
         Hold::None => Hold::Plain,

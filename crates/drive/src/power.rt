@@ -1,6 +1,6 @@
 // Power-up: the limits, then the slices.
 ghost use Rattle.std.specs.Prelude.{◌≡◌};
-ghost use Rattle.drive.specs.Power.{setupOf, atRest, PoweredUp};
+ghost use Rattle.drive.specs.Power.{setup_of, at_rest, PoweredUp};
 
 use crate::drive::Drive;
 use parts::{Pending, Place, Setup};
@@ -23,7 +23,7 @@ pub fn power_up(
     sector_words: &[u16],
     staging_words: &[u16],
 ) -> Powered
-    ensures { PoweredUp (setupOf cylinders heads sectors header field1 field2 address) sector_words.now staging_words.now result }
+    ensures { PoweredUp (setup_of cylinders heads sectors header field1 field2 address) sector_words.now staging_words.now result }
 {
     let setup = Setup {
         cylinders,
@@ -44,7 +44,7 @@ pub fn power_up(
 }
 
 fn at_rest(setup: Setup) -> Drive
-    ensures { result ≡ atRest setup }
+    ensures { result ≡ at_rest setup }
 {
     Drive {
         setup,

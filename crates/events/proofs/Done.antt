@@ -7,14 +7,14 @@ use Rattle.parts.specs.Holding.{nobody}
 use Rattle.parts.specs.Kind.{Kind}
 use Rattle.parts.specs.declared.event.Event.{Event}
 use Rattle.drive.specs.State.{Result, result, told}
-use Rattle.drive.specs.Refusal.{ownRows}
-use Rattle.drive.specs.Able.{unlessOwnRow, unlessOwnRowIn}
+use Rattle.drive.specs.Refusal.{own_rows}
+use Rattle.drive.specs.Able.{unless_own_row, unless_own_row_in}
 use Rattle.drive.specs.declared.answer.Outcome.{Outcome}
 use Rattle.drive.specs.declared.answer.Answer.{Answer}
 use Rattle.drive.specs.declared.answer.Answer.TheVariants.{Refused}
-use Rattle.drive.proofs.Own.{own-refused, own-accepted, own-refused-in, own-accepted-in}
+use Rattle.drive.proofs.Own.{own_refused, own_accepted, own_refused_in, own_accepted_in}
 use Rattle.drive.proofs.Sound.{sound}
-use Rattle.events.specs.State.{holdIsKnown, selectedIn, driveIn, moved_to}
+use Rattle.events.specs.State.{hold_is_known, selected_in, drive_in, moved_to}
 use Rattle.events.specs.Fit.{Fit, Fits, Did, DidIn}
 use Rattle.events.proofs.Changes.{kept}
 
@@ -22,27 +22,27 @@ pub fit : {state sectors staging : List ℕ} → Fits state sectors staging → 
 fit f = record { long = f.long; sound = f.passable.sound }
 
 -- the hold of a state that row 11 lets pass is one of the three
-pub known : {state : List ℕ} → Fit state → holdIsKnown state ≡ true
-unfolding driveIn selectedIn pick
-known {state} f = by-test (holdIsKnown state) refl (sound (driveIn state) f.sound).selected
+pub known : {state : List ℕ} → Fit state → hold_is_known state ≡ true
+unfolding drive_in selected_in pick
+known {state} f = by_test (hold_is_known state) refl (sound (drive_in state) f.sound).selected
   where
-    by-test : (test : Bool) → holdIsKnown state ≡ test → ltb nobody (driveIn state).holding.selected ≡ false → holdIsKnown state ≡ true
-    by-test true e h = e
-    by-test false e h = absurd (true≢false (rw e at h))
+    by_test : (test : Bool) → hold_is_known state ≡ test → ltb nobody (drive_in state).holding.selected ≡ false → hold_is_known state ≡ true
+    by_test true e h = e
+    by_test false e h = absurd (true≢false (rw e at h))
 
-pub stays : {state : List ℕ} → Fit state → state ≡ moved_to state (driveIn state)
+pub stays : {state : List ℕ} → Fit state → state ≡ moved_to state (drive_in state)
 stays {state} f = sym (kept state f.long (known f))
 
-pub did_nothing : {state : List ℕ} (answer : Answer) → Fit state → Did state (told answer (driveIn state)) answer state
+pub did_nothing : {state : List ℕ} (answer : Answer) → Fit state → Did state (told answer (drive_in state)) answer state
 did_nothing answer f = record { answer = refl; state = stays f }
 
 -- the outcome is another one that equals it
-pub did-as : {state state' : List ℕ} {r : Answer} (o x : Outcome) → o ≡ x → Did state o r state' → Did state x r state'
-did-as {state} o x e d = record { answer = d.answer ∙ ap (λ (y : Outcome). y.answer) e; state = d.state ∙ ap (λ (y : Outcome). moved_to state y.drive) e }
+pub did_as : {state state' : List ℕ} {r : Answer} (o x : Outcome) → o ≡ x → Did state o r state' → Did state x r state'
+did_as {state} o x e d = record { answer = d.answer ∙ ap (λ (y : Outcome). y.answer) e; state = d.state ∙ ap (λ (y : Outcome). moved_to state y.drive) e }
 
-pub did-as-in : {state state' sectors' staging' : List ℕ} {r : Answer} (o x : Result) → o ≡ x → DidIn state o r state' sectors' staging'
+pub did_as_in : {state state' sectors' staging' : List ℕ} {r : Answer} (o x : Result) → o ≡ x → DidIn state o r state' sectors' staging'
     → DidIn state x r state' sectors' staging'
-did-as-in {state} o x e d =
+did_as_in {state} o x e d =
     record {
       answer = d.answer ∙ ap (λ (y : Result). y.outcome.answer) e;
       state = d.state ∙ ap (λ (y : Result). moved_to state y.outcome.drive) e;
@@ -51,37 +51,37 @@ did-as-in {state} o x e d =
     }
 
 -- a kind that leaves the lent words
-pub did-in : {state state' : List ℕ} {r : Answer} {o : Outcome} (sectors staging : List ℕ) → Did state o r state'
+pub did_in : {state state' : List ℕ} {r : Answer} {o : Outcome} (sectors staging : List ℕ) → Did state o r state'
     → DidIn state (result o sectors staging) r state' sectors staging
-did-in sectors staging d = record { answer = d.answer; state = d.state; sectors = refl; staging = refl }
+did_in sectors staging d = record { answer = d.answer; state = d.state; sectors = refl; staging = refl }
 
-pub did-refused : (k : Kind) (state : List ℕ) (e : Event) (accepted : Outcome) (n : ℕ) → Fit state → n ≡ first (ownRows k (driveIn state) e) → (n ≡ 0 → ⊥)
-    → Did state (unlessOwnRow k (driveIn state) e accepted) (Refused n) state
-did-refused k state e accepted n f p h = did-as _ _ (own-refused k (driveIn state) e accepted n p h) (did_nothing (Refused n) f)
+pub did_refused : (k : Kind) (state : List ℕ) (e : Event) (accepted : Outcome) (n : ℕ) → Fit state → n ≡ first (own_rows k (drive_in state) e) → (n ≡ 0 → ⊥)
+    → Did state (unless_own_row k (drive_in state) e accepted) (Refused n) state
+did_refused k state e accepted n f p h = did_as _ _ (own_refused k (drive_in state) e accepted n p h) (did_nothing (Refused n) f)
 
-pub did-accepted : (k : Kind) (state : List ℕ) (e : Event) (accepted : Outcome) (n : ℕ) {r : Answer} {state' : List ℕ}
-    → n ≡ first (ownRows k (driveIn state) e) → n ≡ 0 → Did state accepted r state' → Did state (unlessOwnRow k (driveIn state) e accepted) r state'
-did-accepted k state e accepted n p z d = did-as _ _ (own-accepted k (driveIn state) e accepted accepted n p z refl) d
+pub did_accepted : (k : Kind) (state : List ℕ) (e : Event) (accepted : Outcome) (n : ℕ) {r : Answer} {state' : List ℕ}
+    → n ≡ first (own_rows k (drive_in state) e) → n ≡ 0 → Did state accepted r state' → Did state (unless_own_row k (drive_in state) e accepted) r state'
+did_accepted k state e accepted n p z d = did_as _ _ (own_accepted k (drive_in state) e accepted accepted n p z refl) d
 
-pub did-refused-in : (k : Kind) (state : List ℕ) (e : Event) (sectors staging : List ℕ) (accepted : Result) (n : ℕ) → Fit state
-    → n ≡ first (ownRows k (driveIn state) e) → (n ≡ 0 → ⊥)
-    → DidIn state (unlessOwnRowIn k (driveIn state) e sectors staging accepted) (Refused n) state sectors staging
-did-refused-in k state e sectors staging accepted n f p h =
-    did-as-in _ _ (own-refused-in k (driveIn state) e sectors staging accepted n p h) (did-in sectors staging (did_nothing (Refused n) f))
+pub did_refused_in : (k : Kind) (state : List ℕ) (e : Event) (sectors staging : List ℕ) (accepted : Result) (n : ℕ) → Fit state
+    → n ≡ first (own_rows k (drive_in state) e) → (n ≡ 0 → ⊥)
+    → DidIn state (unless_own_row_in k (drive_in state) e sectors staging accepted) (Refused n) state sectors staging
+did_refused_in k state e sectors staging accepted n f p h =
+    did_as_in _ _ (own_refused_in k (drive_in state) e sectors staging accepted n p h) (did_in sectors staging (did_nothing (Refused n) f))
 
-pub did-accepted-in : (k : Kind) (state : List ℕ) (e : Event) (sectors staging : List ℕ) (accepted : Result) (n : ℕ) {r : Answer} {state' sectors' staging' : List ℕ}
-    → n ≡ first (ownRows k (driveIn state) e) → n ≡ 0 → DidIn state accepted r state' sectors' staging'
-    → DidIn state (unlessOwnRowIn k (driveIn state) e sectors staging accepted) r state' sectors' staging'
-did-accepted-in k state e sectors staging accepted n p z d =
-    did-as-in _ _ (own-accepted-in k (driveIn state) e sectors staging accepted accepted n p z refl) d
+pub did_accepted_in : (k : Kind) (state : List ℕ) (e : Event) (sectors staging : List ℕ) (accepted : Result) (n : ℕ) {r : Answer} {state' sectors' staging' : List ℕ}
+    → n ≡ first (own_rows k (drive_in state) e) → n ≡ 0 → DidIn state accepted r state' sectors' staging'
+    → DidIn state (unless_own_row_in k (drive_in state) e sectors staging accepted) r state' sectors' staging'
+did_accepted_in k state e sectors staging accepted n p z d =
+    did_as_in _ _ (own_accepted_in k (drive_in state) e sectors staging accepted accepted n p z refl) d
 
 -- by a test that a callee answered
-pub did-first : (test r : Bool) (a b : Outcome) {answer : Answer} {state state' : List ℕ} → r ≡ test → r ≡ true → Did state a answer state'
+pub did_first : (test r : Bool) (a b : Outcome) {answer : Answer} {state state' : List ℕ} → r ≡ test → r ≡ true → Did state a answer state'
     → Did state (pick test a b) answer state'
 unfolding pick
-did-first test r a b e t d = rw (sym e ∙ t) d
+did_first test r a b e t d = rw (sym e ∙ t) d
 
-pub did-second : (test r : Bool) (a b : Outcome) {answer : Answer} {state state' : List ℕ} → r ≡ test → r ≡ false → Did state b answer state'
+pub did_second : (test r : Bool) (a b : Outcome) {answer : Answer} {state state' : List ℕ} → r ≡ test → r ≡ false → Did state b answer state'
     → Did state (pick test a b) answer state'
 unfolding pick
-did-second test r a b e t d = rw (sym e ∙ t) d
+did_second test r a b e t d = rw (sym e ∙ t) d

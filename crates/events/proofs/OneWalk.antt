@@ -5,8 +5,8 @@ use borrow.Author.Tests.{eqb-false}
 use lib.Seq.{take-length}
 use Rattle.laws.specs.Lists.{same_list}
 use Rattle.laws.specs.Pick.{pick}
-use Rattle.laws.proofs.Differ.{told-apart}
-use Rattle.laws.proofs.Tests.{same-equation}
+use Rattle.laws.proofs.Differ.{told_apart}
+use Rattle.laws.proofs.Tests.{same_equation}
 use Rattle.events.specs.Words.{alike, StopsAt, OneWalk}
 
 -- of two runs that begin with the same word one more is alike, of two that do not none is
@@ -18,9 +18,9 @@ pub none_alike : (x y : ℕ) (xs ys : List ℕ) → eqb x y ≡ false → alike 
 unfolding alike pick
 none_alike x y xs ys e = rw e
 
-pub at-the-end : (ys : List ℕ) → alike [] ys ≡ 0
+pub at_the_end : (ys : List ℕ) → alike [] ys ≡ 0
 unfolding alike
-at-the-end ys = refl
+at_the_end ys = refl
 
 -- ---- where it stops
 
@@ -28,59 +28,59 @@ at-the-end ys = refl
 one_on : (x y : ℕ) (xs ys : List ℕ) (n : ℕ) → x ≡ y → StopsAt xs ys n → StopsAt (x ∷ xs) (y ∷ ys) (suc n)
 one_on x y xs ys n e d = record { within = omega (arith, d.within); before = ap₂ ◌∷◌ e d.before; there = λ h. d.there (omega arith) }
 
-one-back : (x y : ℕ) (xs ys : List ℕ) (n : ℕ) → StopsAt (x ∷ xs) (y ∷ ys) (suc n) → StopsAt xs ys n
-one-back x y xs ys n d = record { within = omega (arith, d.within); before = ap (drop 1) d.before; there = λ h. d.there (omega arith) }
+one_back : (x y : ℕ) (xs ys : List ℕ) (n : ℕ) → StopsAt (x ∷ xs) (y ∷ ys) (suc n) → StopsAt xs ys n
+one_back x y xs ys n d = record { within = omega (arith, d.within); before = ap (drop 1) d.before; there = λ h. d.there (omega arith) }
 
-stops-there : (xs ys : List ℕ) → length xs ≡ length ys → StopsAt xs ys (alike xs ys)
-stops-there [] [] e = rw (at-the-end []) (record { within = omega arith; before = refl; there = λ h. absurd (omega arith) })
-stops-there [] (y ∷ ys) e = absurd (omega arith)
-stops-there (x ∷ xs) [] e = absurd (omega arith)
-stops-there (x ∷ xs) (y ∷ ys) e = by_word (eqb x y) refl (stops-there xs ys (omega arith))
+stops_there : (xs ys : List ℕ) → length xs ≡ length ys → StopsAt xs ys (alike xs ys)
+stops_there [] [] e = rw (at_the_end []) (record { within = omega arith; before = refl; there = λ h. absurd (omega arith) })
+stops_there [] (y ∷ ys) e = absurd (omega arith)
+stops_there (x ∷ xs) [] e = absurd (omega arith)
+stops_there (x ∷ xs) (y ∷ ys) e = by_word (eqb x y) refl (stops_there xs ys (omega arith))
   where
     by_word : (same : Bool) → eqb x y ≡ same → StopsAt xs ys (alike xs ys) → StopsAt (x ∷ xs) (y ∷ ys) (alike (x ∷ xs) (y ∷ ys))
     by_word true p rest = rw (one_more x y xs ys p) (one_on x y xs ys (alike xs ys) (eqb-true x y p) rest)
     by_word false p rest = rw (none_alike x y xs ys p) (record { within = omega arith; before = refl; there = λ h. eqb-false x y p })
 
-nowhere-else : (xs ys : List ℕ) → length xs ≡ length ys → (n : ℕ) → StopsAt xs ys n → n ≡ alike xs ys
-nowhere-else [] [] e n d = omega (arith, d.within, at-the-end [])
-nowhere-else [] (y ∷ ys) e n d = absurd (omega arith)
-nowhere-else (x ∷ xs) [] e n d = absurd (omega arith)
-nowhere-else (x ∷ xs) (y ∷ ys) e zero d = sym (none_alike x y xs ys (ne_eqb x y (d.there (omega arith))))
-nowhere-else (x ∷ xs) (y ∷ ys) e (suc n) d =
+nowhere_else : (xs ys : List ℕ) → length xs ≡ length ys → (n : ℕ) → StopsAt xs ys n → n ≡ alike xs ys
+nowhere_else [] [] e n d = omega (arith, d.within, at_the_end [])
+nowhere_else [] (y ∷ ys) e n d = absurd (omega arith)
+nowhere_else (x ∷ xs) [] e n d = absurd (omega arith)
+nowhere_else (x ∷ xs) (y ∷ ys) e zero d = sym (none_alike x y xs ys (ne_eqb x y (d.there (omega arith))))
+nowhere_else (x ∷ xs) (y ∷ ys) e (suc n) d =
     let first = ap (λ (list : List ℕ). get_or list 0 0) d.before in
-    ap suc (nowhere-else xs ys (omega arith) n (one-back x y xs ys n d)) ∙ sym (one_more x y xs ys (eq-eqb x y first))
+    ap suc (nowhere_else xs ys (omega arith) n (one_back x y xs ys n d)) ∙ sym (one_more x y xs ys (eq-eqb x y first))
 
 -- ---- the same words
 
-all-of-them : (xs : List ℕ) → alike xs xs ≡ length xs
-all-of-them [] = at-the-end []
-all-of-them (x ∷ xs) = one_more x x xs xs (eq-eqb x x refl) ∙ ap suc (all-of-them xs)
+all_of_them : (xs : List ℕ) → alike xs xs ≡ length xs
+all_of_them [] = at_the_end []
+all_of_them (x ∷ xs) = one_more x x xs xs (eq-eqb x x refl) ∙ ap suc (all_of_them xs)
 
-same-words : (xs ys : List ℕ) → length xs ≡ length ys → alike xs ys ≡ length xs → xs ≡ ys
-same-words xs ys e h =
-    sym (take-length xs) ∙ ap (λ (n : ℕ). take n xs) (sym h) ∙ (stops-there xs ys e).before ∙ ap (λ (n : ℕ). take n ys) (h ∙ e) ∙ take-length ys
+same_words_lem : (xs ys : List ℕ) → length xs ≡ length ys → alike xs ys ≡ length xs → xs ≡ ys
+same_words_lem xs ys e h =
+    sym (take-length xs) ∙ ap (λ (n : ℕ). take n xs) (sym h) ∙ (stops_there xs ys e).before ∙ ap (λ (n : ℕ). take n ys) (h ∙ e) ∙ take-length ys
 
-word-for-word : (xs ys : List ℕ) → length xs ≡ length ys → same_list xs ys ≡ eqb (alike xs ys) (length xs)
-word-for-word [] [] e = sym (eq-eqb (alike [] []) 0 (at-the-end []))
-word-for-word [] (y ∷ ys) e = absurd (omega arith)
-word-for-word (x ∷ xs) [] e = absurd (omega arith)
-word-for-word (x ∷ xs) (y ∷ ys) e = by_word (eqb x y) refl (word-for-word xs ys (omega arith))
+word_for_word : (xs ys : List ℕ) → length xs ≡ length ys → same_list xs ys ≡ eqb (alike xs ys) (length xs)
+word_for_word [] [] e = sym (eq-eqb (alike [] []) 0 (at_the_end []))
+word_for_word [] (y ∷ ys) e = absurd (omega arith)
+word_for_word (x ∷ xs) [] e = absurd (omega arith)
+word_for_word (x ∷ xs) (y ∷ ys) e = by_word (eqb x y) refl (word_for_word xs ys (omega arith))
   where
     by_word : (same : Bool) → eqb x y ≡ same → same_list xs ys ≡ eqb (alike xs ys) (length xs)
         → (same && same_list xs ys) ≡ eqb (alike (x ∷ xs) (y ∷ ys)) (length (x ∷ xs))
     by_word true p rest =
         rest
-        ∙ same-equation (alike xs ys) (length xs) (suc (alike xs ys)) (suc (length xs)) (ap suc) (λ q. omega arith)
+        ∙ same_equation (alike xs ys) (length xs) (suc (alike xs ys)) (suc (length xs)) (ap suc) (λ q. omega arith)
         ∙ ap (λ (n : ℕ). eqb n (length (x ∷ xs))) (sym (one_more x y xs ys p))
     by_word false p rest = rw (none_alike x y xs ys p) (sym (ne_eqb 0 (length (x ∷ xs)) (λ q. omega arith)))
 
-pub one-walk : OneWalk
+pub one_walk : OneWalk
 unfolding alike pick
-one-walk =
+one_walk =
     record {
-      stops = λ xs ys e n. (nowhere-else xs ys e n, λ q. subst (StopsAt xs ys) (sym q) (stops-there xs ys e));
-      same = λ xs ys e. (λ q. subst (λ (zs : List ℕ). alike xs zs ≡ length xs) q (all-of-them xs), same-words xs ys e);
-      tested = word-for-word;
-      wentOn = told-apart 2 1 refl;
-      sawNone = told-apart 3 1 refl;
+      stops = λ xs ys e n. (nowhere_else xs ys e n, λ q. subst (StopsAt xs ys) (sym q) (stops_there xs ys e));
+      same = λ xs ys e. (λ q. subst (λ (zs : List ℕ). alike xs zs ≡ length xs) q (all_of_them xs), same_words_lem xs ys e);
+      tested = word_for_word;
+      went_on = told_apart 2 1 refl;
+      saw_none = told_apart 3 1 refl;
     }

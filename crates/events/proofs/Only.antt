@@ -1,7 +1,7 @@
 -- No second answer: two outcomes that satisfy what a call promises are equal, the number and every lent word.
 -- Assumes nothing.
 use Rattle.std.proofs.Common.{◌≡◌, ℕ, List}
-use Rattle.laws.proofs.Only.{answer-only}
+use Rattle.laws.proofs.Only.{answer_only}
 use Rattle.parts.specs.declared.setup.Setup.{Setup}
 use Rattle.parts.specs.declared.event.Event.{Event}
 use Rattle.events.specs.Power.{PoweredUpOnWords}
@@ -10,45 +10,45 @@ use Rattle.events.specs.Run.{RunOnWords}
 use Rattle.events.specs.Part.{PartOnWords}
 use Rattle.events.specs.declared.part.Part.{Part}
 
-pub power-up-words-only : {s : Setup} {sectors staging state : List ℕ} {r r' : ℕ} {state' state'' : List ℕ} → PoweredUpOnWords s sectors staging state r state'
+pub power_up_words_only : {s : Setup} {sectors staging state : List ℕ} {r r' : ℕ} {state' state'' : List ℕ} → PoweredUpOnWords s sectors staging state r state'
     → PoweredUpOnWords s sectors staging state r' state'' → (r ≡ r') × (state' ≡ state'')
-power-up-words-only h k = (answer-only h.answer k.answer, answer-only h.state k.state)
+power_up_words_only h k = (answer_only h.answer k.answer, answer_only h.state k.state)
 
-pub answer-event-only : {state : List ℕ} {e : Event} {sectors staging answer : List ℕ} {r r' : ℕ} {state' sectors' staging' answer' state'' sectors'' staging'' answer'' : List ℕ}
+pub answer_event_only : {state : List ℕ} {e : Event} {sectors staging answer : List ℕ} {r r' : ℕ} {state' sectors' staging' answer' state'' sectors'' staging'' answer'' : List ℕ}
     → EventOnWords state e sectors staging answer r state' sectors' staging' answer' → EventOnWords state e sectors staging answer r' state'' sectors'' staging'' answer''
     → (r ≡ r') × (state' ≡ state'') × (sectors' ≡ sectors'') × (staging' ≡ staging'') × (answer' ≡ answer'')
-answer-event-only h k =
-    let e = answer-only h.refusal k.refusal in (
+answer_event_only h k =
+    let e = answer_only h.refusal k.refusal in (
       e,
-      answer-only (rw e at h.state) k.state,
-      answer-only (rw e at h.sectors) k.sectors,
-      answer-only (rw e at h.staging) k.staging,
-      answer-only (rw e at h.answer) k.answer,
+      answer_only (rw e at h.state) k.state,
+      answer_only (rw e at h.sectors) k.sectors,
+      answer_only (rw e at h.staging) k.staging,
+      answer_only (rw e at h.answer) k.answer,
     )
 
-pub run-records-only : {state records sectors staging out : List ℕ} {r r' : ℕ} {state' sectors' staging' out' state'' sectors'' staging'' out'' : List ℕ}
+pub run_records_only : {state records sectors staging out : List ℕ} {r r' : ℕ} {state' sectors' staging' out' state'' sectors'' staging'' out'' : List ℕ}
     → RunOnWords state records sectors staging out r state' sectors' staging' out' → RunOnWords state records sectors staging out r' state'' sectors'' staging'' out''
     → (r ≡ r') × (state' ≡ state'') × (sectors' ≡ sectors'') × (staging' ≡ staging'') × (out' ≡ out'')
-run-records-only h k =
-    let e = answer-only h.refusal k.refusal in (
+run_records_only h k =
+    let e = answer_only h.refusal k.refusal in (
       e,
-      answer-only (rw e at h.state) k.state,
-      answer-only (rw e at h.sectors) k.sectors,
-      answer-only (rw e at h.staging) k.staging,
-      answer-only (rw e at h.out) k.out,
+      answer_only (rw e at h.state) k.state,
+      answer_only (rw e at h.sectors) k.sectors,
+      answer_only (rw e at h.staging) k.staging,
+      answer_only (rw e at h.out) k.out,
     )
 
-pub part-only : {state records : List ℕ} {from limit : ℕ} {sectors staging answers gaps : List ℕ} {r r' : Part}
+pub part_only : {state records : List ℕ} {from limit : ℕ} {sectors staging answers gaps : List ℕ} {r r' : Part}
     {state' sectors' staging' answers' gaps' state'' sectors'' staging'' answers'' gaps'' : List ℕ}
     → PartOnWords state records from limit sectors staging answers gaps r state' sectors' staging' answers' gaps'
     → PartOnWords state records from limit sectors staging answers gaps r' state'' sectors'' staging'' answers'' gaps''
     → (r ≡ r') × (state' ≡ state'') × (sectors' ≡ sectors'') × (staging' ≡ staging'') × (answers' ≡ answers'') × (gaps' ≡ gaps'')
-part-only h k =
-    let e = answer-only h.answer k.answer in (
+part_only h k =
+    let e = answer_only h.answer k.answer in (
       e,
-      answer-only (rw e at h.state) k.state,
-      answer-only (rw e at h.sectors) k.sectors,
-      answer-only (rw e at h.staging) k.staging,
-      answer-only (rw e at h.answers) k.answers,
-      answer-only (rw e at h.gaps) k.gaps,
+      answer_only (rw e at h.state) k.state,
+      answer_only (rw e at h.sectors) k.sectors,
+      answer_only (rw e at h.staging) k.staging,
+      answer_only (rw e at h.answers) k.answers,
+      answer_only (rw e at h.gaps) k.gaps,
     )

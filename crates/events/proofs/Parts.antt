@@ -3,132 +3,132 @@
 use Rattle.std.proofs.Common.{◌≡◌, ℕ, zero, suc, ◌+◌, ◌-◌, ◌*◌, ◌/◌, ◌%◌, ◌^◌, ◌<◌, ◌≤◌, min, Bool, true, false, not, ◌||◌, eqb, ltb, List, length, get_or, take, drop, set, sym, refl, ap, ◌∙◌, zero-add, arith, ltb-false, eq-eqb, ne_eqb}
 use native.Mathlib.Nat.{min-le_right}
 use lib.Seq.{paste, paste-zero, paste-suc, take-length}
-use Rattle.laws.specs.Lists.{writtenOver, tableFrom}
-use Rattle.laws.proofs.Lists.{table-from, length-table, take-table, drop-table}
+use Rattle.laws.specs.Lists.{written_over, table_from}
+use Rattle.laws.proofs.Lists.{table_from_lem, length_table, take_table, drop_table}
 use Rattle.laws.specs.Pick.{pick}
-use Rattle.laws.proofs.Runs.{run-read}
-use Rattle.laws.proofs.Tests.{or_l, or_r, same_test}
-use Rattle.drive.specs.Batch.{eventsIn, recordCount}
-use Rattle.drive.proofs.Turns.{event-count, events-taken, events-dropped}
-use Rattle.events.specs.Event.{machineIn}
-use Rattle.events.specs.Part.{part, part_of, tickAt, gap, gapAt, gapsOf, partRefusal, PartOnWords}
+use Rattle.laws.proofs.Runs.{run_read}
+use Rattle.laws.proofs.Tests.{or_l, or_r, same_test_lem}
+use Rattle.drive.specs.Batch.{events_in, record_count}
+use Rattle.drive.proofs.Turns.{event_count, events_taken, events_dropped}
+use Rattle.events.specs.Event.{machine_in}
+use Rattle.events.specs.Part.{part, part_of, tick_at, gap, gap_at, gaps_of, part_refusal, PartOnWords}
 use Rattle.events.specs.Turn.{Worked}
 use Rattle.events.specs.declared.part.Part.TheVariants.{Ran, Refused}
-use Rattle.events.proofs.Batches.{worked-none}
+use Rattle.events.proofs.Batches.{worked_none}
 
 -- ---- how many there are
 
-pub part-events : (records : List ℕ) (from limit : ℕ) → part_of records from limit ≡ eventsIn (min limit (recordCount records - from)) (drop (8 * from) records)
-part-events records from limit =
-    ap (take limit) (events-dropped (recordCount records) records from) ∙ events-taken (recordCount records - from) (drop (8 * from) records) limit
+pub part_events : (records : List ℕ) (from limit : ℕ) → part_of records from limit ≡ events_in (min limit (record_count records - from)) (drop (8 * from) records)
+part_events records from limit =
+    ap (take limit) (events_dropped (record_count records) records from) ∙ events_taken (record_count records - from) (drop (8 * from) records) limit
 
-pub part_count : (records : List ℕ) (from limit : ℕ) → length (part_of records from limit) ≡ min limit (recordCount records - from)
-part_count records from limit = ap length (part-events records from limit) ∙ event-count (min limit (recordCount records - from)) (drop (8 * from) records)
+pub part_count : (records : List ℕ) (from limit : ℕ) → length (part_of records from limit) ≡ min limit (record_count records - from)
+part_count records from limit = ap length (part_events records from limit) ∙ event_count (min limit (record_count records - from)) (drop (8 * from) records)
 
-pub part-gaps : (records : List ℕ) (from limit : ℕ) → part from limit (gapsOf records) ≡ tableFrom (gapAt records) from (min limit (recordCount records - from))
-part-gaps records from limit =
-    ap (take limit) (drop-table (gapAt records) 0 (recordCount records) from ∙ ap (λ (n : ℕ). tableFrom (gapAt records) n (recordCount records - from)) (zero-add from))
-    ∙ take-table (gapAt records) from (recordCount records - from) limit
+pub part_gaps : (records : List ℕ) (from limit : ℕ) → part from limit (gaps_of records) ≡ table_from (gap_at records) from (min limit (record_count records - from))
+part_gaps records from limit =
+    ap (take limit) (drop_table (gap_at records) 0 (record_count records) from ∙ ap (λ (n : ℕ). table_from (gap_at records) n (record_count records - from)) (zero-add from))
+    ∙ take_table (gap_at records) from (record_count records - from) limit
 
 -- ---- the gaps
 
-pub tick-read : (records : List ℕ) (i : ℕ) → 8 * i + 8 ≤ length records → tickAt records i ≡ get_or records (8 * i) 0 * 256 + get_or records (8 * i + 1) 0
-unfolding tickAt
-tick-read records i h =
+pub tick_read : (records : List ℕ) (i : ℕ) → 8 * i + 8 ≤ length records → tick_at records i ≡ get_or records (8 * i) 0 * 256 + get_or records (8 * i + 1) 0
+unfolding tick_at
+tick_read records i h =
     let next : suc (8 * i) ≡ 8 * i + 1 = omega arith in
-    rw (run-read records (8 * i) 2 (omega arith), next) (omega arith)
+    rw (run_read records (8 * i) 2 (omega arith), next) (omega arith)
 
 -- the middle of a pair of octets written twice
-pub changed-over : (high low : ℕ) → high < 2 ^ 8 → low < 2 ^ 8 → ((low * 256 + high) * 65536 + (low * 256 + high)) / 256 % 65536 ≡ high * 256 + low
-changed-over high low h k =
-    let by-256 : ((low * 256 + high) * 65536 + (low * 256 + high)) / 256 ≡ low * 65536 + (high * 256 + low) = omega arith in
-    rw by-256 (omega arith)
+pub changed_over : (high low : ℕ) → high < 2 ^ 8 → low < 2 ^ 8 → ((low * 256 + high) * 65536 + (low * 256 + high)) / 256 % 65536 ≡ high * 256 + low
+changed_over high low h k =
+    let by_256 : ((low * 256 + high) * 65536 + (low * 256 + high)) / 256 ≡ low * 65536 + (high * 256 + low) = omega arith in
+    rw by_256 (omega arith)
 
 -- the difference that goes round
-pub gone-round : (earlier later r : ℕ) → earlier < 65536 → r < 65536 → (r + earlier) % 2 ^ 16 ≡ later → r ≡ gap earlier later
+pub gone_round_lem : (earlier later r : ℕ) → earlier < 65536 → r < 65536 → (r + earlier) % 2 ^ 16 ≡ later → r ≡ gap earlier later
 unfolding gap
-gone-round earlier later r h k e = omega (arith, sym e)
+gone_round_lem earlier later r h k e = omega (arith, sym e)
 
 -- the first record's own tick leaves a gap of 0
-gap-before : (records : List ℕ) (i : ℕ) → tickAt records (i - 1) < 65536 → gapAt records i ≡ gap (tickAt records (i - 1)) (tickAt records i)
-unfolding gapAt gap
-gap-before records zero h = omega arith
-gap-before records (suc i) h = let e : suc i - 1 ≡ i = omega arith in rw e
+gap_before : (records : List ℕ) (i : ℕ) → tick_at records (i - 1) < 65536 → gap_at records i ≡ gap (tick_at records (i - 1)) (tick_at records i)
+unfolding gap_at gap
+gap_before records zero h = omega arith
+gap_before records (suc i) h = let e : suc i - 1 ≡ i = omega arith in rw e
 
 -- so many of the gaps are told, and the tick before the next is known
 pub record Gapping (records gaps₀ gaps : List ℕ) (from count earlier i : ℕ) : Type 0 where
   pub within : i ≤ count
   pub room : length gaps ≡ length gaps₀
-  pub before : earlier ≡ tickAt records (from + i - 1)
+  pub before : earlier ≡ tick_at records (from + i - 1)
   pub small : earlier < 65536
-  pub told : gaps ≡ paste gaps₀ 0 (tableFrom (gapAt records) from count) i
+  pub told : gaps ≡ paste gaps₀ 0 (table_from (gap_at records) from count) i
 
-pub gapping-next : {records gaps₀ gaps : List ℕ} {from count earlier i : ℕ} (later r : ℕ) → i < count → count ≤ length gaps₀ → r < 65536
-    → later ≡ tickAt records (from + i) → (r + earlier) % 2 ^ 16 ≡ later → Gapping records gaps₀ gaps from count earlier i
-    → set gaps i r ≡ paste gaps₀ 0 (tableFrom (gapAt records) from count) (i + 1)
-gapping-next {records} {gaps₀} {gaps} {from} {count} {earlier} {i} later r h room fits e d g =
-    let table = tableFrom (gapAt records) from count in
+pub gapping_next : {records gaps₀ gaps : List ℕ} {from count earlier i : ℕ} (later r : ℕ) → i < count → count ≤ length gaps₀ → r < 65536
+    → later ≡ tick_at records (from + i) → (r + earlier) % 2 ^ 16 ≡ later → Gapping records gaps₀ gaps from count earlier i
+    → set gaps i r ≡ paste gaps₀ 0 (table_from (gap_at records) from count) (i + 1)
+gapping_next {records} {gaps₀} {gaps} {from} {count} {earlier} {i} later r h room fits e d g =
+    let table = table_from (gap_at records) from count in
     let next : i + 1 ≡ suc i = omega arith in
     let value : r ≡ get_or table i 0 =
-    gone-round earlier later r g.small fits d ∙ ap (gap earlier) e ∙ ap (λ (t : ℕ). gap t (tickAt records (from + i))) g.before
-    ∙ sym (gap-before records (from + i) (rw g.before at g.small)) ∙ sym (table-from (gapAt records) from count i h) in
-    let put = paste-suc gaps₀ 0 table i 0 (omega arith) (rw (length-table (gapAt records) from count) h) in
+    gone_round_lem earlier later r g.small fits d ∙ ap (gap earlier) e ∙ ap (λ (t : ℕ). gap t (tick_at records (from + i))) g.before
+    ∙ sym (gap_before records (from + i) (rw g.before at g.small)) ∙ sym (table_from_lem (gap_at records) from count i h) in
+    let put = paste-suc gaps₀ 0 table i 0 (omega arith) (rw (length_table (gap_at records) from count) h) in
     rw (next, value, g.told) (ap (λ (k : ℕ). set (paste gaps₀ 0 table i) k (get_or table i 0)) (sym (zero-add i)) ∙ put)
 
-pub gapping-start : (records gaps : List ℕ) (from count earlier : ℕ) → earlier ≡ tickAt records (from - 1) → earlier < 65536
+pub gapping_start : (records gaps : List ℕ) (from count earlier : ℕ) → earlier ≡ tick_at records (from - 1) → earlier < 65536
     → Gapping records gaps gaps from count earlier 0
-gapping-start records gaps from count earlier e h =
+gapping_start records gaps from count earlier e h =
     let first : from + 0 - 1 ≡ from - 1 = omega arith in
-    record { within = omega arith; room = refl; before = e ∙ ap (tickAt records) (sym first); small = h; told = paste-zero gaps 0 (tableFrom (gapAt records) from count) }
+    record { within = omega arith; room = refl; before = e ∙ ap (tick_at records) (sym first); small = h; told = paste-zero gaps 0 (table_from (gap_at records) from count) }
 
 -- all are told
-pub gapping-ended : {records gaps₀ gaps : List ℕ} {from count earlier i : ℕ} → count ≤ i → Gapping records gaps₀ gaps from count earlier i
-    → gaps ≡ writtenOver gaps₀ (tableFrom (gapAt records) from count)
-gapping-ended {records} {gaps₀} {gaps} {from} {count} {earlier} {i} h g =
-    let table = tableFrom (gapAt records) from count in
-    let size = length-table (gapAt records) from count in
+pub gapping_ended : {records gaps₀ gaps : List ℕ} {from count earlier i : ℕ} → count ≤ i → Gapping records gaps₀ gaps from count earlier i
+    → gaps ≡ written_over gaps₀ (table_from (gap_at records) from count)
+gapping_ended {records} {gaps₀} {gaps} {from} {count} {earlier} {i} h g =
+    let table = table_from (gap_at records) from count in
+    let size = length_table (gap_at records) from count in
     let all : i ≡ length table = rw size (omega (arith, g.within)) in
     g.told ∙ rw (all, zero-add (length table), take-length table)
 
 -- ---- from what a batch did to the promise of `replay_part`
 
 -- the tests for 10 as the code makes them
-abbrev pub isShort : List ℕ → List ℕ → List ℕ → ℕ → Bool
-isShort state answers gaps count = (ltb (length state) 21 || ltb (length answers / 13) count) || ltb (length gaps) count
+abbrev pub is_short : List ℕ → List ℕ → List ℕ → ℕ → Bool
+is_short state answers gaps count = (ltb (length state) 21 || ltb (length answers / 13) count) || ltb (length gaps) count
 
-rows-joined : (a b c : Bool) (rest : ℕ) → pick a 10 (pick b 10 (pick c 10 rest)) ≡ pick ((a || b) || c) 10 rest
+rows_joined : (a b c : Bool) (rest : ℕ) → pick a 10 (pick b 10 (pick c 10 rest)) ≡ pick ((a || b) || c) 10 rest
 unfolding pick
-rows-joined true b c rest = refl
-rows-joined false true c rest = refl
-rows-joined false false c rest = refl
+rows_joined true b c rest = refl
+rows_joined false true c rest = refl
+rows_joined false false c rest = refl
 
-part-refusal : (state records : List ℕ) (from limit : ℕ) (answers gaps : List ℕ) {count : ℕ} → count ≡ min limit (recordCount records - from)
-    → partRefusal state records from limit answers gaps ≡ pick (isShort state answers gaps count) 10 (pick (not (eqb (length records % 8) 0)) 8 0)
-part-refusal state records from limit answers gaps {count} e =
+part_refusal_lem : (state records : List ℕ) (from limit : ℕ) (answers gaps : List ℕ) {count : ℕ} → count ≡ min limit (record_count records - from)
+    → part_refusal state records from limit answers gaps ≡ pick (is_short state answers gaps count) 10 (pick (not (eqb (length records % 8) 0)) 8 0)
+part_refusal_lem state records from limit answers gaps {count} e =
     let n = length (part_of records from limit) in
     let same : n ≡ count = part_count records from limit ∙ sym e in
     let room : ltb (length answers) (13 * count) ≡ ltb (length answers / 13) count =
-    same_test (length answers) (13 * count) (length answers / 13) count (λ h. omega arith) (λ h. omega arith) in
-    rw (same, room) (rows-joined (ltb (length state) 21) (ltb (length answers / 13) count) (ltb (length gaps) count) _)
+    same_test_lem (length answers) (13 * count) (length answers / 13) count (λ h. omega arith) (λ h. omega arith) in
+    rw (same, room) (rows_joined (ltb (length state) 21) (ltb (length answers / 13) count) (ltb (length gaps) count) _)
 
 -- refused, and nothing changed
-part-refused : (state records : List ℕ) (from limit : ℕ) (sectors staging answers gaps : List ℕ) (n : ℕ) → partRefusal state records from limit answers gaps ≡ suc n
+part_refused : (state records : List ℕ) (from limit : ℕ) (sectors staging answers gaps : List ℕ) (n : ℕ) → part_refusal state records from limit answers gaps ≡ suc n
     → PartOnWords state records from limit sectors staging answers gaps (Refused (suc n)) state sectors staging answers gaps
-part-refused state records from limit sectors staging answers gaps n e =
-    record { answer = rw e; on-paper = rw e; state = refl; sectors = refl; staging = refl; answers = refl; gaps = refl }
+part_refused state records from limit sectors staging answers gaps n e =
+    record { answer = rw e; on_paper = rw e; state = refl; sectors = refl; staging = refl; answers = refl; gaps = refl }
 
-pub part-short : (state records : List ℕ) (from limit : ℕ) (sectors staging answers gaps : List ℕ) {count : ℕ} → count ≡ min limit (recordCount records - from)
-    → isShort state answers gaps count ≡ true → PartOnWords state records from limit sectors staging answers gaps (Refused 10) state sectors staging answers gaps
+pub part_short : (state records : List ℕ) (from limit : ℕ) (sectors staging answers gaps : List ℕ) {count : ℕ} → count ≡ min limit (record_count records - from)
+    → is_short state answers gaps count ≡ true → PartOnWords state records from limit sectors staging answers gaps (Refused 10) state sectors staging answers gaps
 unfolding pick
-part-short state records from limit sectors staging answers gaps e h =
-    part-refused state records from limit sectors staging answers gaps 9 (part-refusal state records from limit answers gaps e ∙ rw h)
+part_short state records from limit sectors staging answers gaps e h =
+    part_refused state records from limit sectors staging answers gaps 9 (part_refusal_lem state records from limit answers gaps e ∙ rw h)
 
-pub part-not-whole : (state records : List ℕ) (from limit : ℕ) (sectors staging answers gaps : List ℕ) {count : ℕ} → count ≡ min limit (recordCount records - from)
-    → isShort state answers gaps count ≡ false → (length records % 8 ≡ 0 → ⊥)
+pub part_not_whole : (state records : List ℕ) (from limit : ℕ) (sectors staging answers gaps : List ℕ) {count : ℕ} → count ≡ min limit (record_count records - from)
+    → is_short state answers gaps count ≡ false → (length records % 8 ≡ 0 → ⊥)
     → PartOnWords state records from limit sectors staging answers gaps (Refused 8) state sectors staging answers gaps
 unfolding pick
-part-not-whole state records from limit sectors staging answers gaps e h n =
-    part-refused state records from limit sectors staging answers gaps 7 (part-refusal state records from limit answers gaps e ∙ rw (h, ne_eqb (length records % 8) 0 n))
+part_not_whole state records from limit sectors staging answers gaps e h n =
+    part_refused state records from limit sectors staging answers gaps 7 (part_refusal_lem state records from limit answers gaps e ∙ rw (h, ne_eqb (length records % 8) 0 n))
 
 -- room for what will be run
 pub record Roomy (state records : List ℕ) (from : ℕ) (answers gaps : List ℕ) (count : ℕ) : Type 0 where
@@ -137,44 +137,44 @@ pub record Roomy (state records : List ℕ) (from : ℕ) (answers gaps : List �
   pub gapped : count ≤ length gaps
   pub whole : (count ≡ 0 → ⊥) → 8 * (from + count) ≤ length records
 
-pub part_room : (state records : List ℕ) (from limit : ℕ) (answers gaps : List ℕ) {count : ℕ} → count ≡ min limit (recordCount records - from)
-    → isShort state answers gaps count ≡ false → Roomy state records from answers gaps count
+pub part_room : (state records : List ℕ) (from limit : ℕ) (answers gaps : List ℕ) {count : ℕ} → count ≡ min limit (record_count records - from)
+    → is_short state answers gaps count ≡ false → Roomy state records from answers gaps count
 part_room state records from limit answers gaps {count} e h =
     let a = ltb (length state) 21 in
     let b = ltb (length answers / 13) count in
     let c = ltb (length gaps) count in
     let long = ltb-false (length state) 21 (or_l a b (or_l (a || b) c h)) in
     let told = ltb-false (length answers / 13) count (or_r a b (or_l (a || b) c h)) in
-    let few : count ≤ recordCount records - from = rw e (min-le_right limit (recordCount records - from)) in
+    let few : count ≤ record_count records - from = rw e (min-le_right limit (record_count records - from)) in
     record { long = long; told = omega (arith, told); gapped = ltb-false (length gaps) count (or_r (a || b) c h); whole = λ some. omega (arith, few, some) }
 
-pub part-worked : {state records : List ℕ} {from limit : ℕ} {sectors staging answers gaps : List ℕ} {count r : ℕ} {state' sectors' staging' answers' gaps' : List ℕ}
-    → count ≡ min limit (recordCount records - from) → isShort state answers gaps count ≡ false → length records % 8 ≡ 0
+pub part_worked : {state records : List ℕ} {from limit : ℕ} {sectors staging answers gaps : List ℕ} {count r : ℕ} {state' sectors' staging' answers' gaps' : List ℕ}
+    → count ≡ min limit (record_count records - from) → is_short state answers gaps count ≡ false → length records % 8 ≡ 0
     → Worked true count (drop (8 * from) records) state sectors staging answers r state' sectors' staging' answers'
-    → gaps' ≡ writtenOver gaps (tableFrom (gapAt records) from count)
+    → gaps' ≡ written_over gaps (table_from (gap_at records) from count)
     → PartOnWords state records from limit sectors staging answers gaps (Ran count) state' sectors' staging' answers' gaps'
 unfolding pick
-part-worked {state} {records} {from} {limit} {sectors} {staging} {answers} {gaps} {count} e h n w told =
-    let m = machineIn state sectors staging in
-    let none : partRefusal state records from limit answers gaps ≡ 0 = part-refusal state records from limit answers gaps e ∙ rw (h, eq-eqb (length records % 8) 0 n) in
-    let events : eventsIn count (drop (8 * from) records) ≡ part_of records from limit = rw e (sym (part-events records from limit)) in
+part_worked {state} {records} {from} {limit} {sectors} {staging} {answers} {gaps} {count} e h n w told =
+    let m = machine_in state sectors staging in
+    let none : part_refusal state records from limit answers gaps ≡ 0 = part_refusal_lem state records from limit answers gaps e ∙ rw (h, eq-eqb (length records % 8) 0 n) in
+    let events : events_in count (drop (8 * from) records) ≡ part_of records from limit = rw e (sym (part_events records from limit)) in
     let size : count ≡ length (part_of records from limit) = e ∙ sym (part_count records from limit) in
     let z = w.number in
     record {
       answer = rw (none, ← size);
-      on-paper = rw (none, ← size);
+      on_paper = rw (none, ← size);
       state = rw (← events) w.state;
       sectors = rw (← events) w.sectors;
       staging = rw (← events) w.staging;
       answers = rw (← events) (rw z at w.out);
-      gaps = rw (part-gaps records from limit, ← e) told;
+      gaps = rw (part_gaps records from limit, ← e) told;
     }
 
 -- no event at all
-pub part_none : (state records : List ℕ) (from limit : ℕ) (sectors staging answers gaps : List ℕ) {count : ℕ} → count ≡ min limit (recordCount records - from)
-    → isShort state answers gaps count ≡ false → length records % 8 ≡ 0 → count ≡ 0
+pub part_none : (state records : List ℕ) (from limit : ℕ) (sectors staging answers gaps : List ℕ) {count : ℕ} → count ≡ min limit (record_count records - from)
+    → is_short state answers gaps count ≡ false → length records % 8 ≡ 0 → count ≡ 0
     → PartOnWords state records from limit sectors staging answers gaps (Ran 0) state sectors staging answers gaps
 part_none state records from limit sectors staging answers gaps {count} e h n z =
     let long = (part_room state records from limit answers gaps e h).long in
-    let told : gaps ≡ writtenOver gaps (tableFrom (gapAt records) from count) = rw z in
-    rw z at (part-worked e h n (worked-none count (drop (8 * from) records) state sectors staging answers long z) told)
+    let told : gaps ≡ written_over gaps (table_from (gap_at records) from count) = rw z in
+    rw z at (part_worked e h n (worked_none count (drop (8 * from) records) state sectors staging answers long z) told)

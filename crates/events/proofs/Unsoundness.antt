@@ -5,21 +5,21 @@ use mathlib.Core.Bool.{and-false, or-true, or-false, or_assoc}
 use borrow.Author.Tests.{eqb-false}
 use Rattle.laws.specs.Pick.{pick}
 use Rattle.laws.proofs.Tests.{and_l}
-use Rattle.parts.specs.Command.{code_of, parameterWords}
-use Rattle.parts.specs.Control.{controlOf, isWrite, isRead, takesWords, givesWords, isData, dataWords, wordsToCome}
-use Rattle.parts.proofs.ByBits.{writes-take, reads-give, write-is-data, read-is-data, codes-open}
-use Rattle.parts.proofs.Bounds.{data-words, code-words}
+use Rattle.parts.specs.Command.{code_of, parameter_words}
+use Rattle.parts.specs.Control.{control_of, is_write, is_read, takes_words, gives_words, is_data, data_words, words_to_come}
+use Rattle.parts.proofs.ByBits.{writes_take, reads_give, write_is_data, read_is_data, codes_open}
+use Rattle.parts.proofs.Bounds.{data_words_lem, code_words}
 use Rattle.parts.specs.Holding.{nobody, holds, held}
-use Rattle.parts.specs.Setup.{withinLimits, isPlace, isTarget}
-use Rattle.parts.specs.Tests.{transferringWith, isOpen, isOutsideLimits, isDisowned, isBrokenTransfer, hasStrayBit}
+use Rattle.parts.specs.Setup.{within_limits, is_place, is_target}
+use Rattle.parts.specs.Tests.{transferring_with, is_open, is_outside_limits, is_disowned, is_broken_transfer, has_stray_bit}
 use Rattle.parts.specs.declared.setup.Setup.{Setup}
 use Rattle.parts.specs.declared.holding.Hold.TheVariants.{None, Plain, Strong}
 use Rattle.parts.specs.declared.holding.Holding.{Holding}
 use Rattle.parts.specs.declared.transfer.Parameters.{Parameters}
 use Rattle.parts.specs.declared.transfer.Transfer.{Transfer}
 use Rattle.drive.specs.Refusal.{row11}
-use Rattle.events.specs.State.{holdOf, pendingIn, selectedIn, driveIn}
-use Rattle.events.specs.Unsound.{isMisopened, isMisheld, hasStray}
+use Rattle.events.specs.State.{hold_of, pending_in, selected_in, drive_in}
+use Rattle.events.specs.Unsound.{is_misopened, is_misheld, has_stray}
 
 -- ---- the transfer
 
@@ -33,86 +33,86 @@ opening false still opens full true h = sym (or-true (not opens || full))
 opening false still opens full false h = sym (or-false (not opens || full))
 
 -- control 0 opens nothing
-none-opens : (control : ℕ) → eqb control 0 ≡ true → (takesWords (controlOf control) || givesWords (controlOf control)) ≡ false
-unfolding controlOf code_of pick
-none-opens control e = rw (eqb-true control 0 e)
+none_opens : (control : ℕ) → eqb control 0 ≡ true → (takes_words (control_of control) || gives_words (control_of control)) ≡ false
+unfolding control_of code_of pick
+none_opens control e = rw (eqb-true control 0 e)
 
 -- a broken transfer is opened amiss, or open with nobody selected
-broken-by : (s : Setup) (h : Holding) (control moved : ℕ) (p : Parameters)
-    → isBrokenTransfer s h (transferringWith control moved p)
-    ≡ (isMisopened s control moved || isOpen (transferringWith control moved p) && eqb h.selected nobody)
-unfolding isBrokenTransfer isMisopened
-broken-by s h control moved p =
-    opening (eqb control 0) (eqb moved 0) (takesWords (controlOf control) || givesWords (controlOf control)) (leb (wordsToCome s control) moved) (eqb h.selected nobody) (none-opens control)
+broken_by : (s : Setup) (h : Holding) (control moved : ℕ) (p : Parameters)
+    → is_broken_transfer s h (transferring_with control moved p)
+    ≡ (is_misopened s control moved || is_open (transferring_with control moved p) && eqb h.selected nobody)
+unfolding is_broken_transfer is_misopened
+broken_by s h control moved p =
+    opening (eqb control 0) (eqb moved 0) (takes_words (control_of control) || gives_words (control_of control)) (leb (words_to_come s control) moved) (eqb h.selected nobody) (none_opens control)
 
 -- what is amiss of a control that is not 0: of a data transfer, of a code below 80
-abbrev pub controlAmiss : Setup → ℕ → ℕ → Bool
-controlAmiss s control moved = not (takesWords (controlOf control) || givesWords (controlOf control)) || leb (wordsToCome s control) moved
+abbrev pub control_amiss : Setup → ℕ → ℕ → Bool
+control_amiss s control moved = not (takes_words (control_of control) || gives_words (control_of control)) || leb (words_to_come s control) moved
 
-pub write-amiss : (s : Setup) (c moved : ℕ) → isWrite (controlOf c) ≡ true → controlAmiss s c moved ≡ leb (dataWords s c) moved
-write-amiss s c moved w = rw (and_l (takesWords (controlOf c)) (isData c) (sym (writes-take c) ∙ w), data-words s c (write-is-data c w))
+pub write_amiss : (s : Setup) (c moved : ℕ) → is_write (control_of c) ≡ true → control_amiss s c moved ≡ leb (data_words s c) moved
+write_amiss s c moved w = rw (and_l (takes_words (control_of c)) (is_data c) (sym (writes_take c) ∙ w), data_words_lem s c (write_is_data c w))
 
-pub read-amiss : (s : Setup) (c moved : ℕ) → isRead (controlOf c) ≡ true → controlAmiss s c moved ≡ leb (dataWords s c) moved
-read-amiss s c moved r =
-    rw (and_l (givesWords (controlOf c)) (isData c) (sym (reads-give c) ∙ r), or-true (takesWords (controlOf c)), data-words s c (read-is-data c r))
+pub read_amiss : (s : Setup) (c moved : ℕ) → is_read (control_of c) ≡ true → control_amiss s c moved ≡ leb (data_words s c) moved
+read_amiss s c moved r =
+    rw (and_l (gives_words (control_of c)) (is_data c) (sym (reads_give c) ∙ r), or-true (takes_words (control_of c)), data_words_lem s c (read_is_data c r))
 
-not-both : (a b : Bool) → b ≡ true → (a && b) ≡ false → a ≡ false
-not-both false b h e = refl
-not-both true b h e = absurd (true≢false (sym h ∙ e))
+not_both : (a b : Bool) → b ≡ true → (a && b) ≡ false → a ≡ false
+not_both false b h e = refl
+not_both true b h e = absurd (true≢false (sym h ∙ e))
 
-pub data-amiss : (s : Setup) (c moved : ℕ) → isData c ≡ true → isWrite (controlOf c) ≡ false → isRead (controlOf c) ≡ false → controlAmiss s c moved ≡ true
-data-amiss s c moved high w r =
-    rw (not-both (takesWords (controlOf c)) (isData c) high (sym (writes-take c) ∙ w), not-both (givesWords (controlOf c)) (isData c) high (sym (reads-give c) ∙ r))
+pub data_amiss : (s : Setup) (c moved : ℕ) → is_data c ≡ true → is_write (control_of c) ≡ false → is_read (control_of c) ≡ false → control_amiss s c moved ≡ true
+data_amiss s c moved high w r =
+    rw (not_both (takes_words (control_of c)) (is_data c) high (sym (writes_take c) ∙ w), not_both (gives_words (control_of c)) (is_data c) high (sym (reads_give c) ∙ r))
 
-pub code-amiss : (s : Setup) (c moved : ℕ) → isData c ≡ false → controlAmiss s c moved ≡ leb (parameterWords c) moved
-code-amiss s c moved low = rw (codes-open c low, code-words s c low) (by-words (eqb (parameterWords c) 0) refl)
+pub code_amiss : (s : Setup) (c moved : ℕ) → is_data c ≡ false → control_amiss s c moved ≡ leb (parameter_words c) moved
+code_amiss s c moved low = rw (codes_open c low, code_words s c low) (by_words (eqb (parameter_words c) 0) refl)
   where
-    by-words : (none : Bool) → eqb (parameterWords c) 0 ≡ none → (not (not none) || leb (parameterWords c) moved) ≡ leb (parameterWords c) moved
-    by-words true e = sym (le-leb (parameterWords c) moved (omega (arith, eqb-true (parameterWords c) 0 e)))
-    by-words false e = refl
+    by_words : (none : Bool) → eqb (parameter_words c) 0 ≡ none → (not (not none) || leb (parameter_words c) moved) ≡ leb (parameter_words c) moved
+    by_words true e = sym (le-leb (parameter_words c) moved (omega (arith, eqb-true (parameter_words c) 0 e)))
+    by_words false e = refl
 
 -- with no control, words moved are amiss
-open-tests : (none still rest : Bool) → pick none (not still) rest ≡ false → not (none && still) ≡ not none
+open_tests : (none still rest : Bool) → pick none (not still) rest ≡ false → not (none && still) ≡ not none
 unfolding pick
-open-tests true true rest e = refl
-open-tests true false rest e = absurd (true≢false e)
-open-tests false still rest e = refl
+open_tests true true rest e = refl
+open_tests true false rest e = absurd (true≢false e)
+open_tests false still rest e = refl
 
 -- one that is not opened amiss is open where there is a control
-open_by : (s : Setup) (control moved : ℕ) (p : Parameters) → isMisopened s control moved ≡ false → isOpen (transferringWith control moved p) ≡ not (eqb control 0)
-unfolding isMisopened
-open_by s control moved p e = open-tests (eqb control 0) (eqb moved 0) _ e
+open_by : (s : Setup) (control moved : ℕ) (p : Parameters) → is_misopened s control moved ≡ false → is_open (transferring_with control moved p) ≡ not (eqb control 0)
+unfolding is_misopened
+open_by s control moved p e = open_tests (eqb control 0) (eqb moved 0) _ e
 
 -- ---- who holds the drive
 
 -- the tests of who holds the drive: nobody is no port beyond the last, and a selected port that is the owner is as good as the owner
-held-tests : (over-s over-o alone own free none busy : Bool) → (alone ≡ true → over-s ≡ false)
+held_tests : (over-s over-o alone own free none busy : Bool) → (alone ≡ true → over-s ≡ false)
     → (alone ≡ false → own ≡ true → over-o ≡ false → (over-s ≡ false) × (free ≡ false))
     → (over-s || over-o || (not alone && not own || (not none || busy) && free || not free && alone && not (not none)) || busy && alone)
     ≡ (over-o || pick alone (pick free (not none) none || busy) (not own))
 unfolding pick
-held-tests over-s true alone own free none busy h k = rw (or-true over-s)
-held-tests over-s false true own true true true h k = rw (h refl)
-held-tests over-s false true own true true false h k = rw (h refl)
-held-tests over-s false true own true false busy h k = rw (h refl)
-held-tests over-s false true own false true true h k = rw (h refl)
-held-tests over-s false true own false true false h k = rw (h refl)
-held-tests over-s false true own false false true h k = rw (h refl)
-held-tests over-s false true own false false false h k = rw (h refl)
-held-tests over-s false false true free none busy h k = rw ((k refl refl refl).0, (k refl refl refl).1, and-false (not none || busy), and-false busy)
-held-tests over-s false false false free none busy h k = rw (or-true (over-s || false))
+held_tests over-s true alone own free none busy h k = rw (or-true over-s)
+held_tests over-s false true own true true true h k = rw (h refl)
+held_tests over-s false true own true true false h k = rw (h refl)
+held_tests over-s false true own true false busy h k = rw (h refl)
+held_tests over-s false true own false true true h k = rw (h refl)
+held_tests over-s false true own false true false h k = rw (h refl)
+held_tests over-s false true own false false true h k = rw (h refl)
+held_tests over-s false true own false false false h k = rw (h refl)
+held_tests over-s false false true free none busy h k = rw ((k refl refl refl).0, (k refl refl refl).1, and-false (not none || busy), and-false busy)
+held_tests over-s false false false free none busy h k = rw (or-true (over-s || false))
 
 -- only the first of the three is no hold
-holds-tests : (none plain : Bool) → holds (pick none None (pick plain Plain Strong)) ≡ not none
+holds_tests : (none plain : Bool) → holds (pick none None (pick plain Plain Strong)) ≡ not none
 unfolding pick
-holds-tests true plain = refl
-holds-tests false true = refl
-holds-tests false false = refl
+holds_tests true plain = refl
+holds_tests false true = refl
+holds_tests false false = refl
 
 -- any word but 0 is a hold
-holds_by : (hold : ℕ) → holds (holdOf hold) ≡ not (eqb hold 0)
-unfolding holdOf
-holds_by hold = holds-tests (eqb hold 0) (eqb hold 1)
+holds_by : (hold : ℕ) → holds (hold_of hold) ≡ not (eqb hold 0)
+unfolding hold_of
+holds_by hold = holds_tests (eqb hold 0) (eqb hold 1)
 
 -- a selected port that is the owner is a port where the owner is one or nobody, and so somebody owns the drive
 inside : (selected owner : ℕ) → eqb selected nobody ≡ false → eqb selected owner ≡ true → ltb nobody owner ≡ false
@@ -122,13 +122,13 @@ inside selected owner a o l =
     (le-ltb nobody selected (omega (arith, same, ltb-false nobody owner l)), ne_eqb owner nobody (λ e. eqb-false selected nobody a (same ∙ e)))
 
 -- a holding is outside its limits, disowned or without a port for its transfer just where the words are held amiss
-held_by : (known : Bool) (selected owner hold control : ℕ) (t : Transfer) → ltb hold 3 ≡ known → isOpen t ≡ not (eqb control 0)
-    → (ltb nobody (pick known selected 3) || ltb nobody owner || isDisowned (held (pick known selected 3) owner (holdOf hold)) t || isOpen t && eqb (pick known selected 3) nobody)
-    ≡ isMisheld selected owner hold control
-unfolding isDisowned isMisheld pick
+held_by : (known : Bool) (selected owner hold control : ℕ) (t : Transfer) → ltb hold 3 ≡ known → is_open t ≡ not (eqb control 0)
+    → (ltb nobody (pick known selected 3) || ltb nobody owner || is_disowned (held (pick known selected 3) owner (hold_of hold)) t || is_open t && eqb (pick known selected 3) nobody)
+    ≡ is_misheld selected owner hold control
+unfolding is_disowned is_misheld pick
 held_by true selected owner hold control t e o =
     rw (le-ltb 2 hold (omega (arith, ltb-true hold 3 e)), holds_by hold, ← o)
-    (held-tests (ltb nobody selected) (ltb nobody owner) (eqb selected nobody) (eqb selected owner) (eqb owner nobody) (eqb hold 0) (isOpen t)
+    (held_tests (ltb nobody selected) (ltb nobody owner) (eqb selected nobody) (eqb selected owner) (eqb owner nobody) (eqb hold 0) (is_open t)
     (λ a. le-ltb nobody selected (omega (arith, eqb-true selected nobody a))) (inside selected owner))
 held_by false selected owner hold control t e o = rw (lt-ltb 2 hold (omega (arith, ltb-false hold 3 e)))
 
@@ -150,39 +150,39 @@ regroup false over-s over-o false false disowned broken stray0 stray1 false alon
     rw (b, ← (h refl)) (simp (or-false, or_assoc))
 
 -- the octets of a pending word have the stray bits of the word
-stray-by : (word : ℕ) → hasStrayBit (pendingIn word) ≡ hasStray word
-unfolding hasStrayBit pendingIn hasStray
-stray-by word = let low : word % 256 % 16 ≡ word % 16 = omega arith in rw low
+stray_by : (word : ℕ) → has_stray_bit (pending_in word) ≡ has_stray word
+unfolding has_stray_bit pending_in has_stray
+stray_by word = let low : word % 256 % 16 ≡ word % 16 = omega arith in rw low
 
 -- the tests of the code after that of the limits
 abbrev pub misopened : Setup → List ℕ → Bool
-misopened s state = isMisopened s (get_or state 14 0) (get_or state 15 0)
+misopened s state = is_misopened s (get_or state 14 0) (get_or state 15 0)
 
 abbrev pub misheld : List ℕ → Bool
-misheld state = isMisheld (get_or state 7 0) (get_or state 8 0) (get_or state 9 0) (get_or state 14 0)
+misheld state = is_misheld (get_or state 7 0) (get_or state 8 0) (get_or state 9 0) (get_or state 14 0)
 
 abbrev pub strays : List ℕ → Bool
-strays state = hasStray (get_or state 16 0) || hasStray (get_or state 17 0)
+strays state = has_stray (get_or state 16 0) || has_stray (get_or state 17 0)
 
 abbrev pub misplaced : Setup → List ℕ → Bool
-misplaced s state = not (isPlace s (driveIn state).place) || not (isTarget s (get_or state 13 0))
+misplaced s state = not (is_place s (drive_in state).place) || not (is_target s (get_or state 13 0))
 
 -- row 11 is the tests of the code, one after another
-pub unsound-words : (state : List ℕ)
-    → row11 (driveIn state)
-    ≡ (not (withinLimits (driveIn state).setup) || misopened (driveIn state).setup state || misheld state || strays state || misplaced (driveIn state).setup state)
-unfolding row11 isOutsideLimits driveIn selectedIn
-unsound-words state =
-    let d = driveIn state in
+pub unsound_words : (state : List ℕ)
+    → row11 (drive_in state)
+    ≡ (not (within_limits (drive_in state).setup) || misopened (drive_in state).setup state || misheld state || strays state || misplaced (drive_in state).setup state)
+unfolding row11 is_outside_limits drive_in selected_in
+unsound_words state =
+    let d = drive_in state in
     let control = get_or state 14 0 in
     let moved = get_or state 15 0 in
-    rw (← (stray-by (get_or state 16 0)), ← (stray-by (get_or state 17 0)))
-    (regroup (not (withinLimits d.setup)) (ltb nobody d.holding.selected) (ltb nobody d.holding.owner) (not (isPlace d.setup d.place))
-    (not (isTarget d.setup d.target)) (isDisowned d.holding d.transfer) _ (hasStrayBit d.pending0) (hasStrayBit d.pending1) _ _ _
-    (broken-by d.setup d.holding control moved d.transfer.parameters)
+    rw (← (stray_by (get_or state 16 0)), ← (stray_by (get_or state 17 0)))
+    (regroup (not (within_limits d.setup)) (ltb nobody d.holding.selected) (ltb nobody d.holding.owner) (not (is_place d.setup d.place))
+    (not (is_target d.setup d.target)) (is_disowned d.holding d.transfer) _ (has_stray_bit d.pending0) (has_stray_bit d.pending1) _ _ _
+    (broken_by d.setup d.holding control moved d.transfer.parameters)
     (λ e. held_by (ltb (get_or state 9 0) 3) (get_or state 7 0) (get_or state 8 0) (get_or state 9 0) control d.transfer refl (open_by d.setup control moved d.transfer.parameters e)))
 
 -- and with the set-up that a callee told, but where the code reads its words
-pub unsound-with : (s : Setup) (state : List ℕ) → s ≡ (driveIn state).setup
-    → row11 (driveIn state) ≡ (not (withinLimits s) || misopened (driveIn state).setup state || misheld state || strays state || misplaced s state)
-unsound-with s state e = rw e (unsound-words state)
+pub unsound_with : (s : Setup) (state : List ℕ) → s ≡ (drive_in state).setup
+    → row11 (drive_in state) ≡ (not (within_limits s) || misopened (drive_in state).setup state || misheld state || strays state || misplaced s state)
+unsound_with s state e = rw e (unsound_words state)

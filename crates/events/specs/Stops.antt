@@ -1,13 +1,13 @@
 -- M-103's sentences on a replay that stops on request, said of every outcome that the promise of `replay_part` allows.
 use Rattle.std.specs.Prelude.{◌≡◌, ℕ, ◌+◌, ◌-◌, ◌*◌, ◌%◌, ◌<◌, ◌≤◌, min, List, ◌++◌, length, take, drop}
-use Rattle.laws.specs.Lists.{writtenOver}
+use Rattle.laws.specs.Lists.{written_over}
 use Rattle.laws.specs.Octets.{AllOctets}
 use Rattle.drive.specs.Run.{answers}
-use Rattle.drive.specs.AnswerWords.{wordsOfAnswers}
-use Rattle.drive.specs.Batch.{eventsOf, recordCount}
-use Rattle.events.specs.Event.{machineIn}
+use Rattle.drive.specs.AnswerWords.{words_of_answers}
+use Rattle.drive.specs.Batch.{events_of, record_count}
+use Rattle.events.specs.Event.{machine_in}
 use Rattle.events.specs.Run.{RunOnWords}
-use Rattle.events.specs.Part.{part_of, tickAt, gap, gapsOf, PartOnWords}
+use Rattle.events.specs.Part.{part_of, tick_at, gap, gaps_of, PartOnWords}
 use Rattle.events.specs.declared.part.Part.{Part}
 use Rattle.events.specs.declared.part.Part.TheVariants.{Ran}
 
@@ -33,12 +33,12 @@ pub record SameDrive (v w : Lending) : Type 0 where
 -- "that number equals the count of records consumed by the definition, refused events counted too"
 pub record Counts (w : Lending) (records : List ℕ) (from limit n : ℕ) : Type 0 where
   pub consumed : n ≡ length (part_of records from limit)
-  pub answered : n ≡ length (answers (machineIn w.state w.sectors w.staging) (part_of records from limit))
-  pub least : n ≡ min limit (recordCount records - from)
+  pub answered : n ≡ length (answers (machine_in w.state w.sectors w.staging) (part_of records from limit))
+  pub least : n ≡ min limit (record_count records - from)
   -- "at most a given number of events"
   pub within : n ≤ limit
   -- What is left begins at `from` plus what was run.
-  pub rest : drop from (eventsOf records) ≡ part_of records from limit ++ drop (from + n) (eventsOf records)
+  pub rest : drop from (events_of records) ≡ part_of records from limit ++ drop (from + n) (events_of records)
 
 -- "Continuing from where it stopped gives the same answers and drive as one uncut replay", and the same gaps. The words that were told stand in front.
 pub record Joined (n₁ : ℕ) (w₁ : Lending) (n₂ : ℕ) (w₂ : Lending) (n : ℕ) (w : Lending) : Type 0 where
@@ -55,21 +55,21 @@ pub record Difference (earlier later n : ℕ) : Type 0 where
   pub below : n < 65536
 
 pub record StopsOnRequest : Type 0 where
-  pub part-counts : {w w' : Lending} {records : List ℕ} {from limit n : ℕ} → PartCall w records from limit (Ran n) w' → Counts w records from limit n
+  pub part_counts : {w w' : Lending} {records : List ℕ} {from limit n : ℕ} → PartCall w records from limit (Ran n) w' → Counts w records from limit n
   pub parts_join : {u u' v v' w w' : Lending} {records : List ℕ} {from a b n₁ n₂ n : ℕ}
       → PartCall u records from a (Ran n₁) u'
       → SameDrive v u' → PartCall v records (from + n₁) b (Ran n₂) v'
       → SameDrive w u → PartCall w records from (a + b) (Ran n) w'
       → Joined n₁ u' n₂ v' n w'
   -- A replay of all the records is the run of them.
-  pub whole_part : {w w' : Lending} {records : List ℕ} {limit n : ℕ} → PartCall w records 0 limit (Ran n) w' → recordCount records ≤ limit
+  pub whole_part : {w w' : Lending} {records : List ℕ} {limit n : ℕ} → PartCall w records 0 limit (Ran n) w' → record_count records ≤ limit
       → RunOnWords w.state records w.sectors w.staging w.answers 0 w'.state w'.sectors w'.staging w'.answers
-      × (w'.answers ≡ writtenOver w.answers (wordsOfAnswers (answers (machineIn w.state w.sectors w.staging) (eventsOf records))))
-      × (w'.gaps ≡ writtenOver w.gaps (gapsOf records))
+      × (w'.answers ≡ written_over w.answers (words_of_answers (answers (machine_in w.state w.sectors w.staging) (events_of records))))
+      × (w'.gaps ≡ written_over w.gaps (gaps_of records))
   -- "A limit of 0 runs nothing."
-  pub nothing-of-0 : {w w' : Lending} {records : List ℕ} {from n : ℕ} → PartCall w records from 0 (Ran n) w' → (n ≡ 0) × (w' ≡ w)
+  pub nothing_of_0 : {w w' : Lending} {records : List ℕ} {from n : ℕ} → PartCall w records from 0 (Ran n) w' → (n ≡ 0) × (w' ≡ w)
   -- "ticks are 16 bits"
-  pub ticks-fit : (records : List ℕ) → AllOctets records → (i : ℕ) → tickAt records i < 65536
+  pub ticks_fit : (records : List ℕ) → AllOctets records → (i : ℕ) → tick_at records i < 65536
   -- "the gap is the later tick less the earlier one, going round", and no other number is.
-  pub gap-is-the-difference : (earlier later : ℕ) → earlier < 65536 → later < 65536 → Difference earlier later (gap earlier later)
-  pub no-other-difference : (earlier later n : ℕ) → earlier < 65536 → Difference earlier later n → n ≡ gap earlier later
+  pub gap_is_the_difference : (earlier later : ℕ) → earlier < 65536 → later < 65536 → Difference earlier later (gap earlier later)
+  pub no_other_difference : (earlier later n : ℕ) → earlier < 65536 → Difference earlier later n → n ≡ gap earlier later

@@ -23,6 +23,6 @@ pub record OneWalk : Type 0 where
   -- and so says the test that goes word for word.
   pub tested : (xs ys : List ℕ) → length xs ≡ length ys → same_list xs ys ≡ (alike xs ys == length xs)
   -- Of runs that differ in words 1 and 2 it is not 2, the later difference, though that too would say that they differ,
-  pub wentOn : 2 ≡ alike (5 ∷ 6 ∷ 7 ∷ []) (5 ∷ 8 ∷ 9 ∷ []) → ⊥
+  pub went_on : 2 ≡ alike (5 ∷ 6 ∷ 7 ∷ []) (5 ∷ 8 ∷ 9 ∷ []) → ⊥
   -- and not 3, their length.
-  pub sawNone : 3 ≡ alike (5 ∷ 6 ∷ 7 ∷ []) (5 ∷ 8 ∷ 9 ∷ []) → ⊥
+  pub saw_none : 3 ≡ alike (5 ∷ 6 ∷ 7 ∷ []) (5 ∷ 8 ∷ 9 ∷ []) → ⊥

@@ -1,22 +1,22 @@
 -- Wrong answers of the public calls: what a careless programmer would get, and no promise allows.
 use Rattle.std.specs.Prelude.{ℕ, ◌*◌, List, [], ◌∷◌, ◌++◌, take, drop, replicate, slice_set}
-use Rattle.laws.specs.Octets.{octetsOf}
-use Rattle.parts.specs.Pending.{alternatePortPrioritySelect, pendingOf, nothingPending}
+use Rattle.laws.specs.Octets.{octets_of}
+use Rattle.parts.specs.Pending.{alternate_port_priority_select, pending_of, nothing_pending}
 use Rattle.parts.specs.Tests.{transferring}
 use Rattle.parts.specs.declared.setup.Setup.{Setup}
 use Rattle.parts.specs.declared.event.Event.{Event}
 use Rattle.parts.specs.declared.holding.Hold.TheVariants.{None, Strong}
-use Rattle.drive.specs.State.{at_place, withPlace, withTarget, withTransfer, withPending, told}
-use Rattle.drive.specs.Power.{atRest, setupOf}
+use Rattle.drive.specs.State.{at_place, with_place, with_target, with_transfer, with_pending, told}
+use Rattle.drive.specs.Power.{at_rest, setup_of}
 use Rattle.drive.specs.Event.{Handled}
-use Rattle.drive.specs.AnswerWords.{answerWords}
+use Rattle.drive.specs.AnswerWords.{answer_words}
 use Rattle.drive.specs.Cases.{bench}
-use Rattle.drive.specs.NeverDead.{sent, wordSent}
-use Rattle.drive.specs.WrongAnswers.{selectedBy}
+use Rattle.drive.specs.NeverDead.{sent, word_sent}
+use Rattle.drive.specs.WrongAnswers.{selected_by}
 use Rattle.drive.specs.declared.drive.Drive.{Drive}
 use Rattle.drive.specs.declared.answer.Answer.{Answer}
 use Rattle.drive.specs.declared.answer.Answer.TheVariants.{Refused, Done, Status, Opened, Word}
-use Rattle.events.specs.State.{stateWords}
+use Rattle.events.specs.State.{state_words}
 use Rattle.events.specs.Power.{PoweredUpOnWords}
 use Rattle.events.specs.Event.{EventOnWords}
 use Rattle.events.specs.Run.{RunOnWords}
@@ -40,19 +40,19 @@ selection port = 0 ∷ 0 ∷ port ∷ 1 ∷ 0x30 ∷ 0 ∷ 0 ∷ 0 ∷ []
 
 -- Port 0 is selected, and so many words of a transfer have passed.
 abbrev moving : ℕ → ℕ → Drive
-moving control moved = withTransfer (selectedBy 0 None) (transferring control moved)
+moving control moved = with_transfer (selected_by 0 None) (transferring control moved)
 
 -- Port 0 is selected, and this stands in octet 2 of port 0 and of port 1.
 abbrev faulty : ℕ → ℕ → Drive
-faulty first second = withPending (selectedBy 0 None) (pendingOf 0 first) (pendingOf 0 second)
+faulty first second = with_pending (selected_by 0 None) (pending_of 0 first) (pending_of 0 second)
 
 -- A takeover was noticed on port 0, which is selected again, and this stands in its octet 2.
 abbrev warned : ℕ → Drive
-warned octet2 = withPending (selectedBy 0 None) (pendingOf alternatePortPrioritySelect octet2) nothingPending
+warned octet2 = with_pending (selected_by 0 None) (pending_of alternate_port_priority_select octet2) nothing_pending
 
 -- A transfer is over, at the next sector.
 abbrev over : Drive
-over = withPlace (selectedBy 0 None) (at_place 0 0 1)
+over = with_place (selected_by 0 None) (at_place 0 0 1)
 
 -- The drive, the event, the first sector and the staging; the answer, and what is left of them.
 abbrev Handles : Drive → Event → List ℕ → List ℕ → Answer → Drive → List ℕ → List ℕ → Type 0
@@ -60,7 +60,7 @@ Handles d e first staging answer d' first' staging' = Handled d e (disk first) s
 
 -- A drive with no heads: power-up refuses it with 9.
 abbrev headless : Setup
-headless = setupOf 2 0 3 1 2 1 3
+headless = setup_of 2 0 3 1 2 1 3
 
 -- The set-up and the state's words; the number, and the state's words after it.
 abbrev PowersUp : Setup → List ℕ → ℕ → List ℕ → Type 0
@@ -76,103 +76,103 @@ Unanswered state e r = EventOnWords state e (disk zeros) zeros [] r state (disk 
 
 -- The records, and room for so many answers; the number, and the state's and the answers' words after a run from rest.
 abbrev Runs : List ℕ → ℕ → ℕ → List ℕ → List ℕ → Type 0
-Runs records count r state out = RunOnWords (stateWords (atRest bench)) records (disk zeros) zeros (replicate (13 * count) 0) r state (disk zeros) zeros out
+Runs records count r state out = RunOnWords (state_words (at_rest bench)) records (disk zeros) zeros (replicate (13 * count) 0) r state (disk zeros) zeros out
 
 -- A selection at a tick.
-abbrev selectionAt : ℕ → ℕ → List ℕ
-selectionAt tick port = octetsOf 2 tick ++ drop 2 (selection port)
+abbrev selection_at : ℕ → ℕ → List ℕ
+selection_at tick port = octets_of 2 tick ++ drop 2 (selection port)
 
 -- Both ports select at these ticks: port 1 is refused.
-abbrev bothSelect : ℕ → ℕ → List ℕ
-bothSelect first second = selectionAt first 0 ++ selectionAt second 1
+abbrev both_select : ℕ → ℕ → List ℕ
+both_select first second = selection_at first 0 ++ selection_at second 1
 
 -- What a part is lent: the words of a drive, and room for two answers and their gaps, with these words in it.
-abbrev lentWith : List ℕ → List ℕ → List ℕ → Lending
-lentWith state answers gaps = record { state = state; sectors = disk zeros; staging = zeros; answers = answers; gaps = gaps }
+abbrev lent_with : List ℕ → List ℕ → List ℕ → Lending
+lent_with state answers gaps = record { state = state; sectors = disk zeros; staging = zeros; answers = answers; gaps = gaps }
 
 -- With a drive at rest, and zeros.
-abbrev lentAtRest : Lending
-lentAtRest = lentWith (stateWords (atRest bench)) (replicate 26 0) (replicate 2 0)
+abbrev lent_at_rest : Lending
+lent_at_rest = lent_with (state_words (at_rest bench)) (replicate 26 0) (replicate 2 0)
 
 pub record WrongAnswers : Type 0 where
   -- ---- `handle`
   -- A drive that refuses all: here the selection of a free one.
-  pub refusesAll : Handles (atRest bench) (sent 0 1 0x30 0) zeros zeros (Refused 6) (atRest bench) zeros zeros → ⊥
+  pub refuses_all : Handles (at_rest bench) (sent 0 1 0x30 0) zeros zeros (Refused 6) (at_rest bench) zeros zeros → ⊥
   -- A drive that does nothing: it grants the selection, and nobody is selected.
-  pub doesNothing : Handles (atRest bench) (sent 0 1 0x30 0) zeros zeros Done (atRest bench) zeros zeros → ⊥
+  pub does_nothing : Handles (at_rest bench) (sent 0 1 0x30 0) zeros zeros Done (at_rest bench) zeros zeros → ⊥
   -- 0 for the reserved control D0.
-  pub zeroForABadRequest : Handles (selectedBy 0 None) (sent 0 3 0xD0 0) zeros zeros (Status 0) (selectedBy 0 None) zeros zeros → ⊥
+  pub zero_for_abad_request : Handles (selected_by 0 None) (sent 0 3 0xD0 0) zeros zeros (Status 0) (selected_by 0 None) zeros zeros → ⊥
   -- A header that differs goes through.
-  pub headerNotCompared : Handles (moving 0x85 0) (wordSent 0 8) (sector 7 0 0 0) zeros Done (moving 0x85 1) (sector 7 0 0 0) (sector 8 0 0 0) → ⊥
+  pub header_not_compared : Handles (moving 0x85 0) (word_sent 0 8) (sector 7 0 0 0) zeros Done (moving 0x85 1) (sector 7 0 0 0) (sector 8 0 0 0) → ⊥
   -- A word is written as it arrives.
-  pub writtenAsItArrives : Handles (moving 0x85 1) (wordSent 0 0xAA) (sector 7 0 0 0) (sector 7 0 0 0)
+  pub written_as_it_arrives : Handles (moving 0x85 1) (word_sent 0 0xAA) (sector 7 0 0 0) (sector 7 0 0 0)
       Done (moving 0x85 2) (sector 7 0xAA 0 0) (sector 7 0xAA 0 0) → ⊥
   -- Field 1 is put where the sector begins.
-  pub fieldOverTheHeader : Handles (moving 0x85 2) (wordSent 0 0xBB) (sector 7 0 0 0) (sector 7 0xAA 0 0)
+  pub field_over_the_header : Handles (moving 0x85 2) (word_sent 0 0xBB) (sector 7 0 0 0) (sector 7 0xAA 0 0)
       (Status 0) over (sector 0xAA 0xBB 0 0) (sector 7 0xAA 0xBB 0) → ⊥
   -- Field 2 is put where field 1 stands.
-  pub fieldTwoOverFieldOne : Handles (moving 0x86 1) (wordSent 0 0xCC) (sector 7 0 0 0) (sector 7 0 0 0)
+  pub field_two_over_field_one : Handles (moving 0x86 1) (word_sent 0 0xCC) (sector 7 0 0 0) (sector 7 0 0 0)
       (Status 0) over (sector 7 0xCC 0 0) (sector 7 0xCC 0 0) → ⊥
   -- A read of field 1 begins with the header's word.
-  pub readAFieldTooEarly : Handles (moving 0xC1 0) (sent 0 5 0 0) (sector 7 1 2 3) zeros (Word 7) (moving 0xC1 1) (sector 7 1 2 3) zeros → ⊥
+  pub read_afield_too_early : Handles (moving 0xC1 0) (sent 0 5 0 0) (sector 7 1 2 3) zeros (Word 7) (moving 0xC1 1) (sector 7 1 2 3) zeros → ⊥
   -- A good request leaves the bit of the one before.
-  pub oldBitLeft : Handles (faulty 0x80 0) (sent 0 8 0 1) zeros zeros (Status 0) (withTarget (faulty 0x80 0) 1) zeros zeros → ⊥
+  pub old_bit_left : Handles (faulty 0x80 0) (sent 0 8 0 1) zeros zeros (Status 0) (with_target (faulty 0x80 0) 1) zeros zeros → ⊥
   -- A request clears the other port's octet 2 as well.
-  pub otherPortCleared : Handles (faulty 0x80 0x80) (sent 0 8 0 1) zeros zeros (Status 0) (withTarget (faulty 0 0) 1) zeros zeros → ⊥
+  pub other_port_cleared : Handles (faulty 0x80 0x80) (sent 0 8 0 1) zeros zeros (Status 0) (with_target (faulty 0 0) 1) zeros zeros → ⊥
   -- A request that is answered C clears octet 2.
-  pub clearsWithC : Handles (warned 0x80) (sent 0 8 0 1) zeros zeros (Status 0xC) (warned 0) zeros zeros → ⊥
+  pub clears_with_c : Handles (warned 0x80) (sent 0 8 0 1) zeros zeros (Status 0xC) (warned 0) zeros zeros → ⊥
   -- A request that is refused clears octet 2: a write is open.
-  pub refusedYetClears : Handles (withTransfer (faulty 0x80 0) (transferring 0x85 2)) (sent 0 8 0 1) zeros zeros
-      (Refused 7) (withTransfer (faulty 0 0) (transferring 0x85 2)) zeros zeros → ⊥
+  pub refused_yet_clears : Handles (with_transfer (faulty 0x80 0) (transferring 0x85 2)) (sent 0 8 0 1) zeros zeros
+      (Refused 7) (with_transfer (faulty 0 0) (transferring 0x85 2)) zeros zeros → ⊥
   -- A bad request adds its bit to the one that was ignored.
-  pub bitsAddUp : Handles (faulty 0x80 0) (sent 0 8 0 3) zeros zeros (Status 8) (faulty 0xC0 0) zeros zeros → ⊥
+  pub bits_add_up : Handles (faulty 0x80 0) (sent 0 8 0 3) zeros zeros (Status 8) (faulty 0xC0 0) zeros zeros → ⊥
   -- The code that reads status clears at its opening.
-  pub clearedUnread : Handles (faulty 0x80 0) (sent 0 3 0x44 0) zeros zeros
-      (Opened 4 (at_place 0 0 0)) (withTransfer (faulty 0 0) (transferring 0x44 0)) zeros zeros → ⊥
+  pub cleared_unread : Handles (faulty 0x80 0) (sent 0 3 0x44 0) zeros zeros
+      (Opened 4 (at_place 0 0 0)) (with_transfer (faulty 0 0) (transferring 0x44 0)) zeros zeros → ⊥
   -- A command's bad last word clears the bit that stands: it only sets its own.
-  pub lastWordClears : Handles (withTransfer (faulty 0x80 0) (transferring 0x05 0)) (wordSent 0 2) zeros zeros (Status 8) (faulty 0x40 0) zeros zeros → ⊥
+  pub last_word_clears : Handles (with_transfer (faulty 0x80 0) (transferring 0x05 0)) (word_sent 0 2) zeros zeros (Status 8) (faulty 0x40 0) zeros zeros → ⊥
   -- ---- `power_up_words`
   -- Address and field 2 changed over.
-  pub addressForFieldTwo : PowersUp bench (replicate 21 0) 0 (stateWords (atRest (setupOf 2 2 3 1 2 3 1))) → ⊥
+  pub address_for_field_two : PowersUp bench (replicate 21 0) 0 (state_words (at_rest (setup_of 2 2 3 1 2 3 1))) → ⊥
   -- A state of 20 words is taken.
-  pub stateOf20Taken : PowersUp bench (replicate 20 0) 0 (take 20 (stateWords (atRest bench))) → ⊥
+  pub state_of20_taken : PowersUp bench (replicate 20 0) 0 (take 20 (state_words (at_rest bench))) → ⊥
   -- 9, and the state is written all the same.
-  pub refusedYetWritten : PowersUp headless (replicate 21 0) 9 (stateWords (atRest headless)) → ⊥
+  pub refused_yet_written : PowersUp headless (replicate 21 0) 9 (state_words (at_rest headless)) → ⊥
   -- ---- `answer_event`
   -- A takeover's notice is written as that of the port that took over.
-  pub noticeToTheWinner : Answers (stateWords (selectedBy 0 None)) (sent 1 1 0x31 0)
-      0 (stateWords (withPending (selectedBy 1 None) nothingPending (pendingOf alternatePortPrioritySelect 0))) (answerWords Done) → ⊥
+  pub notice_to_the_winner : Answers (state_words (selected_by 0 None)) (sent 1 1 0x31 0)
+      0 (state_words (with_pending (selected_by 1 None) nothing_pending (pending_of alternate_port_priority_select 0))) (answer_words Done) → ⊥
   -- A state of 13 words is taken.
-  pub stateOf13Taken : Answers (take 13 (stateWords (atRest bench))) (sent 0 1 0x30 0) 0 (take 13 (stateWords (selectedBy 0 None))) (answerWords Done) → ⊥
+  pub state_of13_taken : Answers (take 13 (state_words (at_rest bench))) (sent 0 1 0x30 0) 0 (take 13 (state_words (selected_by 0 None))) (answer_words Done) → ⊥
   -- Answer words are written for a refused event.
-  pub refusalAnswered : Answers (stateWords (atRest bench)) (sent 0 1 0x40 0) 4 (stateWords (atRest bench)) (answerWords (Refused 4)) → ⊥
+  pub refusal_answered : Answers (state_words (at_rest bench)) (sent 0 1 0x40 0) 4 (state_words (at_rest bench)) (answer_words (Refused 4)) → ⊥
   -- A hold of 3 is taken for a strong one: the other port is told 6.
-  pub holdOf3Taken : Answers (slice_set (stateWords (selectedBy 0 Strong)) 9 3) (sent 1 1 0x33 0) 6 (slice_set (stateWords (selectedBy 0 Strong)) 9 3) (replicate 13 0) → ⊥
+  pub hold_of3_taken : Answers (slice_set (state_words (selected_by 0 Strong)) 9 3) (sent 1 1 0x33 0) 6 (slice_set (state_words (selected_by 0 Strong)) 9 3) (replicate 13 0) → ⊥
   -- 10 for a state that is not sound, since the answer's slice is too short: 11 is tested first.
-  pub tenBeforeEleven : Unanswered (slice_set (stateWords (atRest bench)) 9 3) (sent 0 1 0x30 0) 10 → ⊥
+  pub ten_before_eleven : Unanswered (slice_set (state_words (at_rest bench)) 9 3) (sent 0 1 0x30 0) 10 → ⊥
   -- 1 for port 2, where there is no room for the answer: 10 is tested first.
-  pub oneBeforeTen : Unanswered (stateWords (atRest bench)) (sent 2 1 0x30 0) 1 → ⊥
+  pub one_before_ten : Unanswered (state_words (at_rest bench)) (sent 2 1 0x30 0) 1 → ⊥
   -- ---- `run_records`
   -- 10 for records that are not whole.
-  pub tenForTornRecords : Runs (replicate 7 0) 0 10 (stateWords (atRest bench)) [] → ⊥
+  pub ten_for_torn_records : Runs (replicate 7 0) 0 10 (state_words (at_rest bench)) [] → ⊥
   -- 8 for no record at all.
-  pub eightForNoRecord : Runs [] 0 8 (stateWords (atRest bench)) [] → ⊥
+  pub eight_for_no_record : Runs [] 0 8 (state_words (at_rest bench)) [] → ⊥
   -- A record is left out.
-  pub recordLeftOut : Runs (selection 0) 1 0 (stateWords (atRest bench)) (answerWords Done) → ⊥
+  pub record_left_out : Runs (selection 0) 1 0 (state_words (at_rest bench)) (answer_words Done) → ⊥
   -- Answers twelve words apart.
-  pub answersTwelveApart : Runs (selection 0 ++ selection 1) 2
-      0 (stateWords (selectedBy 0 None)) (take 12 (answerWords Done) ++ answerWords (Refused 6) ++ (0 ∷ [])) → ⊥
+  pub answers_twelve_apart : Runs (selection 0 ++ selection 1) 2
+      0 (state_words (selected_by 0 None)) (take 12 (answer_words Done) ++ answer_words (Refused 6) ++ (0 ∷ [])) → ⊥
   -- ---- `replay_part`
   -- A count that leaves refused events out, whatever is told of them.
-  pub refusedNotCounted : (left : Lending) → PartCall lentAtRest (bothSelect 0 0) 0 2 (Ran 1) left → ⊥
+  pub refused_not_counted : (left : Lending) → PartCall lent_at_rest (both_select 0 0) 0 2 (Ran 1) left → ⊥
   -- A limit taken as one more.
-  pub oneMoreThanTheLimit : (left : Lending) → PartCall lentAtRest (bothSelect 0 0) 0 1 (Ran 2) left → ⊥
+  pub one_more_than_the_limit : (left : Lending) → PartCall lent_at_rest (both_select 0 0) 0 1 (Ran 2) left → ⊥
   -- A part that begins one record late: port 1 is granted the drive.
-  pub oneRecordLate : PartCall lentAtRest (bothSelect 0 0) 0 1 (Ran 1) (lentWith (stateWords (selectedBy 1 None)) (answerWords Done ++ replicate 13 0) (0 ∷ 0 ∷ [])) → ⊥
+  pub one_record_late : PartCall lent_at_rest (both_select 0 0) 0 1 (Ran 1) (lent_with (state_words (selected_by 1 None)) (answer_words Done ++ replicate 13 0) (0 ∷ 0 ∷ [])) → ⊥
   -- A gap of the wrong neighbour: each record has the gap to the one behind it.
-  pub gapToTheNext : PartCall lentAtRest (bothSelect 5 9) 0 2 (Ran 2) (lentWith (stateWords (selectedBy 0 None)) (answerWords Done ++ answerWords (Refused 6)) (4 ∷ 0 ∷ [])) → ⊥
+  pub gap_to_the_next : PartCall lent_at_rest (both_select 5 9) 0 2 (Ran 2) (lent_with (state_words (selected_by 0 None)) (answer_words Done ++ answer_words (Refused 6)) (4 ∷ 0 ∷ [])) → ⊥
   -- The first gap of a part is 0, though the record before it was run by an earlier call.
-  pub gapForgotten : PartCall (lentWith (stateWords (selectedBy 0 None)) (replicate 26 0) (replicate 2 0)) (bothSelect 5 9) 1 1
-      (Ran 1) (lentWith (stateWords (selectedBy 0 None)) (answerWords (Refused 6) ++ replicate 13 0) (0 ∷ 0 ∷ [])) → ⊥
+  pub gap_forgotten : PartCall (lent_with (state_words (selected_by 0 None)) (replicate 26 0) (replicate 2 0)) (both_select 5 9) 1 1
+      (Ran 1) (lent_with (state_words (selected_by 0 None)) (answer_words (Refused 6) ++ replicate 13 0) (0 ∷ 0 ∷ [])) → ⊥
   -- A gap that stops at zero where the ticks went round: from FFFF to 1 it is 2.
-  pub gapNotRound : PartCall lentAtRest (bothSelect 0xFFFF 1) 0 2 (Ran 2) (lentWith (stateWords (selectedBy 0 None)) (answerWords Done ++ answerWords (Refused 6)) (0 ∷ 0 ∷ [])) → ⊥
+  pub gap_not_round : PartCall lent_at_rest (both_select 0xFFFF 1) 0 2 (Ran 2) (lent_with (state_words (selected_by 0 None)) (answer_words Done ++ answer_words (Refused 6)) (0 ∷ 0 ∷ [])) → ⊥

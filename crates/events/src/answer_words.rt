@@ -1,7 +1,7 @@
 // The answer as 13 words, at the front of a lent slice.
 ghost use Rattle.std.specs.Prelude.{◌≡◌, ◌/◌, ◌%◌, ◌≤◌, length};
-ghost use Rattle.laws.specs.Lists.{writtenOver};
-ghost use Rattle.drive.specs.AnswerWords.{answerWords, acceptedIn, answer_in};
+ghost use Rattle.laws.specs.Lists.{written_over};
+ghost use Rattle.drive.specs.AnswerWords.{answer_words, accepted_in, answer_in};
 ghost use Rattle.drive.specs.declared.answer.Answer.TheVariants as answer;
 ghost use Rattle.events.specs.Turn.{Telling, Told};
 
@@ -55,7 +55,7 @@ pub(crate) fn tell(answer: Answer, telling: bool, out: &mut [u16]) -> u8
 
 pub(crate) fn put_refused(n: u8, out: &mut [u16])
     requires { 13 ≤ length out.old }
-    ensures { out.new ≡ writtenOver out.old (answerWords (answer.Refused n)) }
+    ensures { out.new ≡ written_over out.old (answer_words (answer.Refused n)) }
 {
     put_done(out);
     out[0] = n as u16;
@@ -63,7 +63,7 @@ pub(crate) fn put_refused(n: u8, out: &mut [u16])
 
 fn put_status(status: u8, out: &mut [u16])
     requires { 13 ≤ length out.old }
-    ensures { out.new ≡ writtenOver out.old (answerWords (answer.Status status)) }
+    ensures { out.new ≡ written_over out.old (answer_words (answer.Status status)) }
 {
     put_done(out);
     out[1] = status as u16;
@@ -71,7 +71,7 @@ fn put_status(status: u8, out: &mut [u16])
 
 fn put_opened(words: u16, place: Place, out: &mut [u16])
     requires { 13 ≤ length out.old }
-    ensures { out.new ≡ writtenOver out.old (answerWords (answer.Opened words place)) }
+    ensures { out.new ≡ written_over out.old (answer_words (answer.Opened words place)) }
 {
     put_done(out);
     out[2] = words;
@@ -82,7 +82,7 @@ fn put_opened(words: u16, place: Place, out: &mut [u16])
 
 fn put_word(word: u16, out: &mut [u16])
     requires { 13 ≤ length out.old }
-    ensures { out.new ≡ writtenOver out.old (answerWords (answer.Word word)) }
+    ensures { out.new ≡ written_over out.old (answer_words (answer.Word word)) }
 {
     put_done(out);
     out[6] = 1;
@@ -91,7 +91,7 @@ fn put_word(word: u16, out: &mut [u16])
 
 fn put_last_word(word: u16, out: &mut [u16])
     requires { 13 ≤ length out.old }
-    ensures { out.new ≡ writtenOver out.old (answerWords (answer.LastWord word)) }
+    ensures { out.new ≡ written_over out.old (answer_words (answer.LastWord word)) }
 {
     put_done(out);
     out[1] = answer::NORMAL as u16;
@@ -101,7 +101,7 @@ fn put_last_word(word: u16, out: &mut [u16])
 
 fn put_response(octet0: u8, octet1: u8, octet2: u8, out: &mut [u16])
     requires { 13 ≤ length out.old }
-    ensures { out.new ≡ writtenOver out.old (answerWords (answer.Response octet0 octet1 octet2)) }
+    ensures { out.new ≡ written_over out.old (answer_words (answer.Response octet0 octet1 octet2)) }
 {
     put_done(out);
     out[1] = answer::NORMAL as u16;
@@ -112,7 +112,7 @@ fn put_response(octet0: u8, octet1: u8, octet2: u8, out: &mut [u16])
 
 fn put_done(out: &mut [u16])
     requires { 13 ≤ length out.old }
-    ensures { out.new ≡ writtenOver out.old (answerWords answer.Done) }
+    ensures { out.new ≡ written_over out.old (answer_words answer.Done) }
 {
     out[0] = 0;
     out[1] = ABSENT;
@@ -142,7 +142,7 @@ pub(crate) fn answer_in(refusal: u8, words: &[u16]) -> Answer
 
 fn accepted_in(words: &[u16]) -> Answer
     requires { Told words.now }
-    ensures { result ≡ acceptedIn words.now }
+    ensures { result ≡ accepted_in words.now }
 {
     let status = words[1];
     if words[8] == 1 {

@@ -1,10 +1,10 @@
 // Events of a capture's records one after another on the words of a state. Rows 11 and 10 are tested once: no event leads a sound drive out of
 // them. A single event is a batch of one that keeps quiet of its refusal, so that the step is compiled in one place.
 ghost use Rattle.std.specs.Prelude.{◌≡◌, ◌*◌, ◌≤◌, length};
-ghost use Rattle.laws.specs.Lists.{writtenOver};
-ghost use Rattle.drive.specs.Batch.{eventOf};
+ghost use Rattle.laws.specs.Lists.{written_over};
+ghost use Rattle.drive.specs.Batch.{event_of};
 ghost use Rattle.drive.specs.Able.{judgement};
-ghost use Rattle.events.specs.State.{driveIn};
+ghost use Rattle.events.specs.State.{drive_in};
 ghost use Rattle.events.specs.Turn.{refusals, Lent, Worked};
 
 use crate::{answer_words, judge, step};
@@ -37,7 +37,7 @@ pub(crate) fn work(
 // No event leads a state that rows 11 and 10 refuse out of them.
 fn refuse_all(judged: u8, count: usize, out: &mut [u16])
     requires { 13 * count ≤ length out.old }
-    ensures { out.new ≡ writtenOver out.old (refusals judged count) }
+    ensures { out.new ≡ written_over out.old (refusals judged count) }
 {
     let mut i = 0;
     while i < count {
@@ -57,7 +57,7 @@ fn each(
     staging: &mut [u16],
     out: &mut [u16],
 ) -> u8
-    requires { Lent telling count state.old records.now out.old × (0 ≡ judgement (driveIn state.old) sectors.old staging.old) }
+    requires { Lent telling count state.old records.now out.old × (0 ≡ judgement (drive_in state.old) sectors.old staging.old) }
     ensures { Worked telling count records.now state.old sectors.old staging.old out.old result state.new sectors.new staging.new out.new }
 {
     let mut left = count;
@@ -81,7 +81,7 @@ fn each(
 // The event of the record at the front of the octets.
 fn event_at(octets: &[u8]) -> Event
     requires { 8 ≤ length octets.now }
-    ensures { result ≡ eventOf octets.now }
+    ensures { result ≡ event_of octets.now }
 {
     Event {
         port: octets[2],

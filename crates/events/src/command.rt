@@ -1,12 +1,12 @@
 // Commands and responses, below 80: the words of a command, what it does at its last one, and the words of a response.
 ghost use Rattle.std.specs.Prelude.{◌≡◌, ◌+◌, ◌*◌, ◌<◌, ◌≤◌, true, false, slice_index};
-ghost use Rattle.parts.specs.Command.{functionIn, parameterWords};
-ghost use Rattle.parts.specs.Control.{isData};
-ghost use Rattle.parts.specs.Tests.{isTaking, isGiving, transferring};
-ghost use Rattle.drive.specs.State.{at_place, withPlace, withTarget, pendingOn};
+ghost use Rattle.parts.specs.Command.{function_in, parameter_words};
+ghost use Rattle.parts.specs.Control.{is_data};
+ghost use Rattle.parts.specs.Tests.{is_taking, is_giving, transferring};
+ghost use Rattle.drive.specs.State.{at_place, with_place, with_target, pending_on};
 ghost use Rattle.drive.specs.Drive.{closed};
-ghost use Rattle.drive.specs.Command.{cylinderOf, seeking, functioned, obeyed, parameterSent, statusTold, positionTold, wordsTold, statusCleared, responseTaken};
-ghost use Rattle.events.specs.State.{driveIn, moved_to};
+ghost use Rattle.drive.specs.Command.{cylinder_of, seeking, functioned, obeyed, parameter_sent, status_told, position_told, words_told, status_cleared, response_taken};
+ghost use Rattle.events.specs.State.{drive_in, moved_to};
 ghost use Rattle.events.specs.Fit.{Fit, Did};
 
 use crate::{answer, layout, pending, place, state};
@@ -20,8 +20,8 @@ pub(crate) const READ_STATUS: u16 = 0x44;
 // A word of the open command: it is kept, or it is the last. `obey` is called in two functions: from one alone the compiler puts it into the batch, and
 // every word of a data transfer pays for it.
 pub(crate) fn send(state: &mut [u16], port: u8, word: u16) -> Answer
-    requires { Fit state.old × (port ≤ 1) × (isData (driveIn state.old).transfer.control ≡ false) × (isTaking (driveIn state.old).transfer ≡ true) }
-    ensures { Did state.old (parameterSent (driveIn state.old) port word) result state.new }
+    requires { Fit state.old × (port ≤ 1) × (is_data (drive_in state.old).transfer.control ≡ false) × (is_taking (drive_in state.old).transfer ≡ true) }
+    ensures { Did state.old (parameter_sent (drive_in state.old) port word) result state.new }
 {
     let t = state::transfer_in(&state[..]);
     let moved = t.moved;
@@ -42,7 +42,7 @@ pub(crate) fn send(state: &mut [u16], port: u8, word: u16) -> Answer
 // The one word of a command that has one.
 fn send_only(state: &mut [u16], port: u8, control: u16, word: u16) -> Answer
     requires { Fit state.old × (port ≤ 1) }
-    ensures { Did state.old (obeyed (transferring control 0) (closed (driveIn state.old)) port word) result state.new }
+    ensures { Did state.old (obeyed (transferring control 0) (closed (drive_in state.old)) port word) result state.new }
 {
     place::close(state);
     Answer::Status(obey(state, port, without_parameters(control), word))
@@ -65,7 +65,7 @@ fn without_parameters(control: u16) -> Transfer
 // The command is closed; this is its last word. The status.
 fn obey(state: &mut [u16], port: u8, t: Transfer, word: u16) -> u8
     requires { Fit state.old × (port ≤ 1) }
-    ensures { Did state.old (obeyed t (driveIn state.old) port word) (Answer.Status result) state.new }
+    ensures { Did state.old (obeyed t (drive_in state.old) port word) (Answer.Status result) state.new }
 {
     let control = t.control;
     let p = t.parameters;
@@ -83,7 +83,7 @@ fn obey(state: &mut [u16], port: u8, t: Transfer, word: u16) -> u8
 // To a cylinder, a head and a target; the sector stays.
 fn seek(state: &mut [u16], port: u8, high: u16, low: u16, head: u16, target: u16) -> u8
     requires { Fit state.old × (port ≤ 1) }
-    ensures { Did state.old (seeking (driveIn state.old) port (at_place (cylinderOf high low) head (driveIn state.old).place.sector) target) (Answer.Status result) state.new }
+    ensures { Did state.old (seeking (drive_in state.old) port (at_place (cylinder_of high low) head (drive_in state.old).place.sector) target) (Answer.Status result) state.new }
 {
     let setup = state::setup_in(&state[..]);
     let place = Place {
@@ -101,7 +101,7 @@ fn seek(state: &mut [u16], port: u8, high: u16, low: u16, head: u16, target: u16
 
 fn put_aim(state: &mut [u16], place: Place, target: u16)
     requires { Fit state.old }
-    ensures { state.new ≡ moved_to state.old (withTarget (withPlace (driveIn state.old) place) target) }
+    ensures { state.new ≡ moved_to state.old (with_target (with_place (drive_in state.old) place) target) }
 {
     state[layout::CYLINDER] = place.cylinder;
     state[layout::HEAD] = place.head;
@@ -112,7 +112,7 @@ fn put_aim(state: &mut [u16], place: Place, target: u16)
 // Load Drive Function.
 fn perform(state: &mut [u16], port: u8, word: u16) -> u8
     requires { Fit state.old × (port ≤ 1) }
-    ensures { Did state.old (functioned (functionIn word) (driveIn state.old) port) (Answer.Status result) state.new }
+    ensures { Did state.old (functioned (function_in word) (drive_in state.old) port) (Answer.Status result) state.new }
 {
     let function = parts::function_of(word);
     match function {
@@ -150,8 +150,8 @@ fn perform(state: &mut [u16], port: u8, word: u16) -> u8
 // ---- responses
 
 pub(crate) fn respond(state: &mut [u16], port: u8) -> Answer
-    requires { Fit state.old × (port ≤ 1) × (isData (driveIn state.old).transfer.control ≡ false) × (isGiving (driveIn state.old).transfer ≡ true) }
-    ensures { Did state.old (responseTaken (driveIn state.old) port) result state.new }
+    requires { Fit state.old × (port ≤ 1) × (is_data (drive_in state.old).transfer.control ≡ false) × (is_giving (drive_in state.old).transfer ≡ true) }
+    ensures { Did state.old (response_taken (drive_in state.old) port) result state.new }
 {
     let control = state[layout::CONTROL];
     let moved = state[layout::MOVED];
@@ -167,7 +167,7 @@ pub(crate) fn respond(state: &mut [u16], port: u8) -> Answer
 // The status that was told in full is cleared.
 fn end_response(state: &mut [u16], port: u8, control: u16)
     requires { Fit state.old × (port ≤ 1) }
-    ensures { state.new ≡ moved_to state.old (statusCleared control (closed (driveIn state.old)) port) }
+    ensures { state.new ≡ moved_to state.old (status_cleared control (closed (drive_in state.old)) port) }
 {
     if control == READ_STATUS {
         let at = layout::PENDING_0 + port as usize;
@@ -179,8 +179,8 @@ fn end_response(state: &mut [u16], port: u8, control: u16)
 }
 
 fn word_told(state: &[u16], port: u8, control: u16, moved: u16) -> u16
-    requires { Fit state.now × (port ≤ 1) × (moved < parameterWords control) }
-    ensures { result ≡ slice_index (wordsTold control (pendingOn (driveIn state.now) port) (driveIn state.now).place (driveIn state.now).target) moved }
+    requires { Fit state.now × (port ≤ 1) × (moved < parameter_words control) }
+    ensures { result ≡ slice_index (words_told control (pending_on (drive_in state.now) port) (drive_in state.now).place (drive_in state.now).target) moved }
 {
     match control {
         0x44 => status_word(state, port, moved),
@@ -191,7 +191,7 @@ fn word_told(state: &[u16], port: u8, control: u16, moved: u16) -> u16
 
 fn status_word(state: &[u16], port: u8, moved: u16) -> u16
     requires { Fit state.now × (port ≤ 1) × (moved < 4) }
-    ensures { result ≡ slice_index (statusTold (pendingOn (driveIn state.now) port)) moved }
+    ensures { result ≡ slice_index (status_told (pending_on (drive_in state.now) port)) moved }
 {
     let at = layout::PENDING_0 + port as usize;
     let pending = state::pending_in(state[at]);
@@ -204,7 +204,7 @@ fn status_word(state: &[u16], port: u8, moved: u16) -> u16
 
 fn position_word(state: &[u16], moved: u16) -> u16
     requires { Fit state.now × (moved < 5) }
-    ensures { result ≡ slice_index (positionTold (driveIn state.now).place (driveIn state.now).target) moved }
+    ensures { result ≡ slice_index (position_told (drive_in state.now).place (drive_in state.now).target) moved }
 {
     match moved {
         0 => 0,

@@ -3,8 +3,8 @@
 ghost use Rattle.std.specs.Prelude.{◌≡◌, ◌≤◌, length};
 ghost use Rattle.drive.specs.Refusal.{row11};
 ghost use Rattle.drive.specs.Able.{judgement};
-ghost use Rattle.events.specs.State.{driveIn};
-ghost use Rattle.events.specs.Unsound.{isMisheld, isMisopened, hasStray};
+ghost use Rattle.events.specs.State.{drive_in};
+ghost use Rattle.events.specs.Unsound.{is_misheld, is_misopened, has_stray};
 
 use crate::{coming, layout, state};
 
@@ -13,7 +13,7 @@ const LAST_HOLD: u16 = 2;
 // What rows 11 and 10 say of the state, 0 where both let it pass.
 pub(crate) fn judge(state: &[u16], sectors: &[u16], staging: &[u16]) -> u8
     requires { 21 ≤ length state.now }
-    ensures { result ≡ judgement (driveIn state.now) sectors.now staging.now }
+    ensures { result ≡ judgement (drive_in state.now) sectors.now staging.now }
 {
     if is_unsound(state) {
         return parts::UNSOUND_STATE;
@@ -27,7 +27,7 @@ pub(crate) fn judge(state: &[u16], sectors: &[u16], staging: &[u16]) -> u8
 
 fn is_unsound(state: &[u16]) -> bool
     requires { 21 ≤ length state.now }
-    ensures { result ≡ row11 (driveIn state.now) }
+    ensures { result ≡ row11 (drive_in state.now) }
 {
     let setup = state::setup_in(state);
     if !setup.within_limits() {
@@ -54,7 +54,7 @@ fn is_unsound(state: &[u16]) -> bool
 // below 80 that opens none has no words.
 fn is_misopened(state: &[u16], control: u16, moved: u16) -> bool
     requires { 21 ≤ length state.now }
-    ensures { result ≡ isMisopened (driveIn state.now).setup control moved }
+    ensures { result ≡ is_misopened (drive_in state.now).setup control moved }
 {
     if control == 0 {
         return moved != 0;
@@ -73,7 +73,7 @@ fn is_misopened(state: &[u16], control: u16, moved: u16) -> bool
 
 // Nobody selected: an owner and a hold are there together, and no transfer. Else the selected port is the owner.
 fn is_misheld(selected: u16, owner: u16, hold: u16, control: u16) -> bool
-    ensures { result ≡ isMisheld selected owner hold control }
+    ensures { result ≡ is_misheld selected owner hold control }
 {
     if (LAST_HOLD < hold) | (parts::NOBODY < owner) {
         return true;
@@ -85,7 +85,7 @@ fn is_misheld(selected: u16, owner: u16, hold: u16, control: u16) -> bool
 }
 
 fn has_stray(pending: u16) -> bool
-    ensures { result ≡ hasStray pending }
+    ensures { result ≡ has_stray pending }
 {
     (pending / 256 % 64 != 0) | (pending % 16 != 0)
 }

@@ -3,11 +3,11 @@ ghost use Rattle.std.specs.Prelude.{◌≤◌};
 ghost use Rattle.parts.specs.Kind.{Kind, Work, word_of, place_of};
 ghost use Rattle.drive.specs.Answer.{normal};
 ghost use Rattle.drive.specs.State.{told};
-ghost use Rattle.drive.specs.Drive.{selected, deselected, afterReset};
-ghost use Rattle.drive.specs.Command.{endedEarly};
-ghost use Rattle.drive.specs.Request.{dataControl, positioned, targeted, statusRead};
-ghost use Rattle.drive.specs.Able.{unlessOwnRow};
-ghost use Rattle.events.specs.State.{driveIn};
+ghost use Rattle.drive.specs.Drive.{selected, deselected, after_reset};
+ghost use Rattle.drive.specs.Command.{ended_early};
+ghost use Rattle.drive.specs.Request.{data_control, positioned, targeted, status_read};
+ghost use Rattle.drive.specs.Able.{unless_own_row};
+ghost use Rattle.events.specs.State.{drive_in};
 ghost use Rattle.events.specs.Fit.{Fit, Did};
 
 use crate::{answer, layout, pending, place, request, state, timing};
@@ -16,7 +16,7 @@ use parts::{Event, Place};
 
 pub(crate) fn on_select(state: &mut [u16], event: Event) -> Answer
     requires { Fit state.old }
-    ensures { Did state.old (unlessOwnRow Kind.Select (driveIn state.old) event (told Answer.Done (selected (driveIn state.old) event.port event.a0))) result state.new }
+    ensures { Did state.old (unless_own_row Kind.Select (drive_in state.old) event (told Answer.Done (selected (drive_in state.old) event.port event.a0))) result state.new }
 {
     let d = state::drive_in(&state[..]);
     let s = d.setup;
@@ -42,7 +42,7 @@ pub(crate) fn on_select(state: &mut [u16], event: Event) -> Answer
 
 pub(crate) fn on_deselect(state: &mut [u16], event: Event) -> Answer
     requires { Fit state.old }
-    ensures { Did state.old (unlessOwnRow Kind.Deselect (driveIn state.old) event (told Answer.Done (deselected (driveIn state.old)))) result state.new }
+    ensures { Did state.old (unless_own_row Kind.Deselect (drive_in state.old) event (told Answer.Done (deselected (drive_in state.old)))) result state.new }
 {
     let formed = parts::none_at_all(event);
     let n = timing::refusal(&state[..], event.port, formed);
@@ -56,7 +56,7 @@ pub(crate) fn on_deselect(state: &mut [u16], event: Event) -> Answer
 
 pub(crate) fn on_reset(state: &mut [u16], event: Event) -> Answer
     requires { Fit state.old }
-    ensures { Did state.old (unlessOwnRow Kind.Reset (driveIn state.old) event (told Answer.Done (afterReset (driveIn state.old)))) result state.new }
+    ensures { Did state.old (unless_own_row Kind.Reset (drive_in state.old) event (told Answer.Done (after_reset (drive_in state.old)))) result state.new }
 {
     if !parts::none_at_all(event) {
         return Answer::Refused(parts::MALFORMED);
@@ -68,7 +68,7 @@ pub(crate) fn on_reset(state: &mut [u16], event: Event) -> Answer
 
 pub(crate) fn on_end(state: &mut [u16], event: Event) -> Answer
     requires { Fit state.old }
-    ensures { Did state.old (unlessOwnRow (Kind.Use Work.End) (driveIn state.old) event (told (Answer.Status normal) (endedEarly (driveIn state.old)))) result state.new }
+    ensures { Did state.old (unless_own_row (Kind.Use Work.End) (drive_in state.old) event (told (Answer.Status normal) (ended_early (drive_in state.old)))) result state.new }
 {
     let formed = parts::none_at_all(event);
     let selected = timing::is_selected(&state[..], event.port);
@@ -87,7 +87,7 @@ pub(crate) fn on_end(state: &mut [u16], event: Event) -> Answer
 
 pub(crate) fn on_data_control(state: &mut [u16], event: Event) -> Answer
     requires { Fit state.old × (event.port ≤ 1) }
-    ensures { Did state.old (unlessOwnRow (Kind.Use Work.DataControl) (driveIn state.old) event (dataControl (driveIn state.old) event.port event.a0)) result state.new }
+    ensures { Did state.old (unless_own_row (Kind.Use Work.DataControl) (drive_in state.old) event (data_control (drive_in state.old) event.port event.a0)) result state.new }
 {
     let formed = parts::none_after_1(event);
     let n = timing::refusal(&state[..], event.port, formed);
@@ -99,7 +99,7 @@ pub(crate) fn on_data_control(state: &mut [u16], event: Event) -> Answer
 
 pub(crate) fn on_position(state: &mut [u16], event: Event) -> Answer
     requires { Fit state.old × (event.port ≤ 1) }
-    ensures { Did state.old (unlessOwnRow (Kind.Use Work.Position) (driveIn state.old) event (positioned (driveIn state.old) event.port (place_of event))) result state.new }
+    ensures { Did state.old (unless_own_row (Kind.Use Work.Position) (drive_in state.old) event (positioned (drive_in state.old) event.port (place_of event))) result state.new }
 {
     let n = timing::refusal(&state[..], event.port, true);
     if n != 0 {
@@ -115,7 +115,7 @@ pub(crate) fn on_position(state: &mut [u16], event: Event) -> Answer
 
 pub(crate) fn on_target(state: &mut [u16], event: Event) -> Answer
     requires { Fit state.old × (event.port ≤ 1) }
-    ensures { Did state.old (unlessOwnRow (Kind.Use Work.Target) (driveIn state.old) event (targeted (driveIn state.old) event.port (word_of event))) result state.new }
+    ensures { Did state.old (unless_own_row (Kind.Use Work.Target) (drive_in state.old) event (targeted (drive_in state.old) event.port (word_of event))) result state.new }
 {
     let formed = parts::none_after_2(event);
     let n = timing::refusal(&state[..], event.port, formed);
@@ -127,7 +127,7 @@ pub(crate) fn on_target(state: &mut [u16], event: Event) -> Answer
 
 pub(crate) fn on_read_status(state: &mut [u16], event: Event) -> Answer
     requires { Fit state.old × (event.port ≤ 1) }
-    ensures { Did state.old (unlessOwnRow (Kind.Use Work.ReadStatus) (driveIn state.old) event (statusRead (driveIn state.old) event.port)) result state.new }
+    ensures { Did state.old (unless_own_row (Kind.Use Work.ReadStatus) (drive_in state.old) event (status_read (drive_in state.old) event.port)) result state.new }
 {
     let formed = parts::none_at_all(event);
     let n = timing::refusal(&state[..], event.port, formed);

@@ -1,7 +1,7 @@
 // A replay that stops on request: so many of a capture's records, from one of them on, and the ticks between neighbours.
 ghost use Rattle.std.specs.Prelude.{◌≡◌, ◌+◌, ◌-◌, ◌*◌, ◌<◌, ◌≤◌, min, length};
-ghost use Rattle.laws.specs.Lists.{writtenOver, tableFrom};
-ghost use Rattle.events.specs.Part.{tickAt, gapAt, PartOnWords};
+ghost use Rattle.laws.specs.Lists.{written_over, table_from};
+ghost use Rattle.events.specs.Part.{tick_at, gap_at, PartOnWords};
 
 use crate::{answer_words, batch, event, state};
 
@@ -66,7 +66,7 @@ fn count_within(record_count: usize, from: usize, limit: usize) -> usize
 
 fn put_gaps(records: &[u8], from: usize, count: usize, gaps: &mut [u16])
     requires { (0 < count) × (8 * (from + count) ≤ length records.now) × (count ≤ length gaps.old) }
-    ensures { gaps.new ≡ writtenOver gaps.old (tableFrom (gapAt records.now) from count) }
+    ensures { gaps.new ≡ written_over gaps.old (table_from (gap_at records.now) from count) }
 {
     let mut earlier = tick_before(records, from);
     let mut i = 0;
@@ -81,7 +81,7 @@ fn put_gaps(records: &[u8], from: usize, count: usize, gaps: &mut [u16])
 // The first record has none before it: its own tick, which leaves a gap of 0.
 fn tick_before(records: &[u8], index: usize) -> u16
     requires { 8 * index + 8 ≤ length records.now }
-    ensures { result ≡ tickAt records.now (index - 1) }
+    ensures { result ≡ tick_at records.now (index - 1) }
 {
     if index == 0 {
         return tick_at(records, 0);
@@ -91,7 +91,7 @@ fn tick_before(records: &[u8], index: usize) -> u16
 
 fn tick_at(records: &[u8], index: usize) -> u16
     requires { 8 * index + 8 ≤ length records.now }
-    ensures { result ≡ tickAt records.now index }
+    ensures { result ≡ tick_at records.now index }
 {
     let at = event::RECORD_OCTETS * index;
     word(records[at], records[at + 1])

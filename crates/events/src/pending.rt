@@ -1,8 +1,8 @@
 // What is pending on a port, in its word of the state.
 ghost use Rattle.std.specs.Prelude.{◌≤◌};
 ghost use Rattle.parts.specs.Pending.{bit_of};
-ghost use Rattle.drive.specs.Request.{badRequest, statusRead};
-ghost use Rattle.events.specs.State.{driveIn};
+ghost use Rattle.drive.specs.Request.{bad_request, status_read};
+ghost use Rattle.events.specs.State.{drive_in};
 ghost use Rattle.events.specs.Fit.{Fit, Did, TakenUp};
 
 use crate::{answer, layout, state};
@@ -25,7 +25,7 @@ pub(crate) fn take_up(state: &mut [u16], port: u8) -> bool
 // A bad request, and its bit of octet 2.
 pub(crate) fn fault(state: &mut [u16], port: u8, fault: Fault) -> Answer
     requires { Fit state.old × (port ≤ 1) }
-    ensures { Did state.old (badRequest (driveIn state.old) port (bit_of fault)) result state.new }
+    ensures { Did state.old (bad_request (drive_in state.old) port (bit_of fault)) result state.new }
 {
     let at = layout::PENDING_0 + port as usize;
     let pending = state::pending_in(state[at]);
@@ -37,7 +37,7 @@ pub(crate) fn fault(state: &mut [u16], port: u8, fault: Fault) -> Answer
 // The status response, which clears what it tells.
 pub(crate) fn tell_status(state: &mut [u16], port: u8) -> Answer
     requires { Fit state.old × (port ≤ 1) }
-    ensures { Did state.old (statusRead (driveIn state.old) port) result state.new }
+    ensures { Did state.old (status_read (drive_in state.old) port) result state.new }
 {
     let at = layout::PENDING_0 + port as usize;
     let pending = state::pending_in(state[at]);

@@ -1,5 +1,5 @@
 // Power-up on the words of a state.
-ghost use Rattle.drive.specs.Power.{setupOf};
+ghost use Rattle.drive.specs.Power.{setup_of};
 ghost use Rattle.events.specs.Power.{PoweredUpOnWords};
 
 use crate::state;
@@ -18,7 +18,7 @@ pub fn power_up_words(
     staging_words: &[u16],
     state: &mut [u16],
 ) -> u8
-    ensures { PoweredUpOnWords (setupOf cylinders heads sectors header field1 field2 address) sector_words.now staging_words.now state.old result state.new }
+    ensures { PoweredUpOnWords (setup_of cylinders heads sectors header field1 field2 address) sector_words.now staging_words.now state.old result state.new }
 {
     let powered = drive::power_up(
         cylinders,

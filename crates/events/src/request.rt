@@ -1,8 +1,8 @@
 // Kinds 3, 7 and 8: a control, a position, a target.
 ghost use Rattle.std.specs.Prelude.{◌≡◌, ◌≤◌, true, false, ◌||◌};
-ghost use Rattle.parts.specs.Control.{controlOf, takesWords, givesWords, isData};
-ghost use Rattle.drive.specs.Request.{opened, opening, controlled, dataControl, positioned, targeted};
-ghost use Rattle.events.specs.State.{driveIn};
+ghost use Rattle.parts.specs.Control.{control_of, takes_words, gives_words, is_data};
+ghost use Rattle.drive.specs.Request.{opened, opening, controlled, data_control, positioned, targeted};
+ghost use Rattle.events.specs.State.{drive_in};
 ghost use Rattle.events.specs.Fit.{Fit, Did};
 
 use crate::{answer, coming, command, layout, pending, place, state};
@@ -12,7 +12,7 @@ use parts::{Control, Fault, Place};
 // The code that reads status is never answered C, and clears nothing yet.
 pub(crate) fn ask(state: &mut [u16], port: u8, control: u16) -> Answer
     requires { Fit state.old × (port ≤ 1) }
-    ensures { Did state.old (dataControl (driveIn state.old) port control) result state.new }
+    ensures { Did state.old (data_control (drive_in state.old) port control) result state.new }
 {
     if control == command::READ_STATUS {
         return open_code(state, control);
@@ -26,7 +26,7 @@ pub(crate) fn ask(state: &mut [u16], port: u8, control: u16) -> Answer
 // What the control asks for.
 fn carry_out(state: &mut [u16], port: u8, control: u16) -> Answer
     requires { Fit state.old × (port ≤ 1) }
-    ensures { Did state.old (controlled (controlOf control) (driveIn state.old) port control) result state.new }
+    ensures { Did state.old (controlled (control_of control) (drive_in state.old) port control) result state.new }
 {
     let kind = parts::control_of(control);
     match kind {
@@ -44,8 +44,8 @@ fn carry_out(state: &mut [u16], port: u8, control: u16) -> Answer
 
 // At the position, or at the target, which has to be there.
 fn open_there(state: &mut [u16], port: u8, control: u16) -> Answer
-    requires { Fit state.old × (port ≤ 1) × (isData control ≡ true) }
-    ensures { Did state.old (opening (driveIn state.old) port control) result state.new }
+    requires { Fit state.old × (port ≤ 1) × (is_data control ≡ true) }
+    ensures { Did state.old (opening (drive_in state.old) port control) result state.new }
 {
     if !parts::is_at_target(control) {
         return open(state, control);
@@ -59,8 +59,8 @@ fn open_there(state: &mut [u16], port: u8, control: u16) -> Answer
 
 // A command or response opens: it always has words.
 fn open_code(state: &mut [u16], control: u16) -> Answer
-    requires { Fit state.old × (isData control ≡ false) × ((takesWords (controlOf control) || givesWords (controlOf control)) ≡ true) }
-    ensures { Did state.old (opened (driveIn state.old) control) result state.new }
+    requires { Fit state.old × (is_data control ≡ false) × ((takes_words (control_of control) || gives_words (control_of control)) ≡ true) }
+    ensures { Did state.old (opened (drive_in state.old) control) result state.new }
 {
     let words = parts::parameter_words(control);
     let here = state::place_in(&state[..]);
@@ -70,8 +70,8 @@ fn open_code(state: &mut [u16], control: u16) -> Answer
 
 // A data transfer opens at the position, or ends at once where no word is to come.
 fn open(state: &mut [u16], control: u16) -> Answer
-    requires { Fit state.old × (isData control ≡ true) }
-    ensures { Did state.old (opened (driveIn state.old) control) result state.new }
+    requires { Fit state.old × (is_data control ≡ true) }
+    ensures { Did state.old (opened (drive_in state.old) control) result state.new }
 {
     let words = coming::data_words(&state[..], control);
     if words == 0 {
@@ -85,7 +85,7 @@ fn open(state: &mut [u16], control: u16) -> Answer
 
 pub(crate) fn move_to(state: &mut [u16], port: u8, place: Place) -> Answer
     requires { Fit state.old × (port ≤ 1) }
-    ensures { Did state.old (positioned (driveIn state.old) port place) result state.new }
+    ensures { Did state.old (positioned (drive_in state.old) port place) result state.new }
 {
     if !pending::take_up(state, port) {
         return Answer::Status(answer::UNSOLICITED_EXCEPTION);
@@ -100,7 +100,7 @@ pub(crate) fn move_to(state: &mut [u16], port: u8, place: Place) -> Answer
 
 pub(crate) fn aim_at(state: &mut [u16], port: u8, target: u16) -> Answer
     requires { Fit state.old × (port ≤ 1) }
-    ensures { Did state.old (targeted (driveIn state.old) port target) result state.new }
+    ensures { Did state.old (targeted (drive_in state.old) port target) result state.new }
 {
     if !pending::take_up(state, port) {
         return Answer::Status(answer::UNSOLICITED_EXCEPTION);

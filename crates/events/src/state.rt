@@ -1,7 +1,7 @@
 // The 21 words of the state: read into a drive, and written from one.
 ghost use Rattle.std.specs.Prelude.{◌≡◌, ◌≤◌, length};
-ghost use Rattle.laws.specs.Lists.{writtenOver};
-ghost use Rattle.events.specs.State.{holdWord, holdOf, pendingWord, pendingIn, selectedIn, driveIn, stateWords, moved_to};
+ghost use Rattle.laws.specs.Lists.{written_over};
+ghost use Rattle.events.specs.State.{hold_word, hold_of, pending_word, pending_in, selected_in, drive_in, state_words, moved_to};
 
 use crate::layout;
 use drive::Drive;
@@ -16,7 +16,7 @@ const NO_PORT: u16 = 3;
 
 pub(crate) fn drive_in(state: &[u16]) -> Drive
     requires { 21 ≤ length state.now }
-    ensures { result ≡ driveIn state.now }
+    ensures { result ≡ drive_in state.now }
 {
     let selected = selected_in(state);
     let hold = hold_of(state[layout::HOLD]);
@@ -42,7 +42,7 @@ pub(crate) fn drive_in(state: &[u16]) -> Drive
 
 pub(crate) fn setup_in(state: &[u16]) -> Setup
     requires { 21 ≤ length state.now }
-    ensures { result ≡ (driveIn state.now).setup }
+    ensures { result ≡ (drive_in state.now).setup }
 {
     Setup {
         cylinders: state[layout::CYLINDERS],
@@ -57,7 +57,7 @@ pub(crate) fn setup_in(state: &[u16]) -> Setup
 
 pub(crate) fn place_in(state: &[u16]) -> Place
     requires { 21 ≤ length state.now }
-    ensures { result ≡ (driveIn state.now).place }
+    ensures { result ≡ (drive_in state.now).place }
 {
     Place {
         cylinder: state[layout::CYLINDER],
@@ -68,7 +68,7 @@ pub(crate) fn place_in(state: &[u16]) -> Place
 
 pub(crate) fn transfer_in(state: &[u16]) -> Transfer
     requires { 21 ≤ length state.now }
-    ensures { result ≡ (driveIn state.now).transfer }
+    ensures { result ≡ (drive_in state.now).transfer }
 {
     let parameters = Parameters {
         word0: state[layout::PARAMETER_0],
@@ -116,7 +116,7 @@ pub(crate) fn put_moved(drive: Drive, state: &mut [u16])
 // All 21 words.
 pub(crate) fn put_state(drive: Drive, state: &mut [u16])
     requires { 21 ≤ length state.old }
-    ensures { state.new ≡ writtenOver state.old (stateWords drive) }
+    ensures { state.new ≡ written_over state.old (state_words drive) }
 {
     let s = drive.setup;
     put_moved(drive, state);
@@ -131,7 +131,7 @@ pub(crate) fn put_state(drive: Drive, state: &mut [u16])
 
 fn selected_in(state: &[u16]) -> u16
     requires { 21 ≤ length state.now }
-    ensures { result ≡ selectedIn state.now }
+    ensures { result ≡ selected_in state.now }
 {
     if state[layout::HOLD] <= LAST_HOLD {
         return state[layout::SELECTED];
@@ -140,7 +140,7 @@ fn selected_in(state: &[u16]) -> u16
 }
 
 fn hold_of(word: u16) -> Hold
-    ensures { result ≡ holdOf word }
+    ensures { result ≡ hold_of word }
 {
     match word {
         0 => Hold::None,
@@ -150,7 +150,7 @@ fn hold_of(word: u16) -> Hold
 }
 
 fn hold_word(hold: Hold) -> u16
-    ensures { result ≡ holdWord hold }
+    ensures { result ≡ hold_word hold }
 {
     match hold {
         Hold::None => 0,
@@ -160,7 +160,7 @@ fn hold_word(hold: Hold) -> u16
 }
 
 pub(crate) fn pending_in(word: u16) -> Pending
-    ensures { result ≡ pendingIn word }
+    ensures { result ≡ pending_in word }
 {
     Pending {
         octet1: (word / 256) as u8,
@@ -169,7 +169,7 @@ pub(crate) fn pending_in(word: u16) -> Pending
 }
 
 pub(crate) fn pending_word(pending: Pending) -> u16
-    ensures { result ≡ pendingWord pending }
+    ensures { result ≡ pending_word pending }
 {
     pending.octet1 as u16 * 256 + pending.octet2 as u16
 }

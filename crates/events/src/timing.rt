@@ -1,8 +1,8 @@
 // Whether an event of kinds 2 to 9 comes at its time: the rows 8, 2 and 7, on the words of a state that row 11 lets pass.
 ghost use Rattle.std.specs.Prelude.{◌≡◌, not, ◌||◌, [], ◌∷◌, ◌==◌};
 ghost use Rattle.laws.specs.Rows.{first, ◌when◌};
-ghost use Rattle.parts.specs.Tests.{isTaking, isGiving};
-ghost use Rattle.events.specs.State.{driveIn};
+ghost use Rattle.parts.specs.Tests.{is_taking, is_giving};
+ghost use Rattle.events.specs.State.{drive_in};
 ghost use Rattle.events.specs.Fit.{Fit};
 
 use crate::layout;
@@ -19,7 +19,7 @@ pub(crate) const READ: u16 = 3;
 // The refusal of an event that asks for its port selected and nothing open, else 0. A word is read where the tests before it let the event pass.
 pub(crate) fn refusal(state: &[u16], port: u8, formed: bool) -> u8
     requires { Fit state.now }
-    ensures { result ≡ first (8 when not formed ∷ 2 when not ((driveIn state.now).holding.selected == port) ∷ 7 when not ((driveIn state.now).transfer.control == 0) ∷ []) }
+    ensures { result ≡ first (8 when not formed ∷ 2 when not ((drive_in state.now).holding.selected == port) ∷ 7 when not ((drive_in state.now).transfer.control == 0) ∷ []) }
 {
     if !formed {
         return parts::MALFORMED;
@@ -36,7 +36,7 @@ pub(crate) fn refusal(state: &[u16], port: u8, formed: bool) -> u8
 // The refusal of an event that asks for its port selected, else 0.
 pub(crate) fn stranger(state: &[u16], port: u8, formed: bool) -> u8
     requires { Fit state.now }
-    ensures { result ≡ first (8 when not formed ∷ 2 when not ((driveIn state.now).holding.selected == port) ∷ []) }
+    ensures { result ≡ first (8 when not formed ∷ 2 when not ((drive_in state.now).holding.selected == port) ∷ []) }
 {
     if !formed {
         return parts::MALFORMED;
@@ -49,14 +49,14 @@ pub(crate) fn stranger(state: &[u16], port: u8, formed: bool) -> u8
 
 pub(crate) fn is_selected(state: &[u16], port: u8) -> bool
     requires { Fit state.now }
-    ensures { result ≡ ((driveIn state.now).holding.selected == port) }
+    ensures { result ≡ ((drive_in state.now).holding.selected == port) }
 {
     state[layout::SELECTED] == port as u16
 }
 
 pub(crate) fn is_one_open(state: &[u16]) -> bool
     requires { Fit state.now }
-    ensures { result ≡ (isTaking (driveIn state.now).transfer || isGiving (driveIn state.now).transfer) }
+    ensures { result ≡ (is_taking (drive_in state.now).transfer || is_giving (drive_in state.now).transfer) }
 {
     state[layout::CONTROL] != 0
 }

@@ -1,13 +1,13 @@
 // Kinds 4 and 5: words of a write are staged, and committed at the last one; words of a read are taken from the sector. Those of commands and responses
 // are handed on.
 ghost use Rattle.std.specs.Prelude.{◌≡◌, ◌-◌, ◌<◌, ◌≤◌, true};
-ghost use Rattle.parts.specs.Setup.{sectorStart};
-ghost use Rattle.parts.specs.Control.{controlOf, isWrite, isRead, dataWords};
+ghost use Rattle.parts.specs.Setup.{sector_start};
+ghost use Rattle.parts.specs.Control.{control_of, is_write, is_read, data_words};
 ghost use Rattle.parts.specs.Kind.{Kind, Work, word_of};
-ghost use Rattle.drive.specs.Transfer.{miscompares, committed, staged, wordStaged, wordTaken};
-ghost use Rattle.drive.specs.Command.{wordFromHost, wordToHost};
-ghost use Rattle.drive.specs.Able.{Able, Room, ReadsAt, unlessOwnRow, unlessOwnRowIn};
-ghost use Rattle.events.specs.State.{driveIn};
+ghost use Rattle.drive.specs.Transfer.{miscompares, committed, staged, word_staged, word_taken};
+ghost use Rattle.drive.specs.Command.{word_from_host, word_to_host};
+ghost use Rattle.drive.specs.Able.{Able, Room, ReadsAt, unless_own_row, unless_own_row_in};
+ghost use Rattle.events.specs.State.{drive_in};
 ghost use Rattle.events.specs.Fit.{Fits, Did, DidIn};
 ghost use Rattle.events.specs.Copy.{fielded, Within};
 
@@ -24,7 +24,7 @@ pub(crate) fn on_word_from_host(
     staging: &mut [u16],
 ) -> Answer
     requires { Fits state.old sectors.old staging.old × (event.port ≤ 1) }
-    ensures { DidIn state.old (unlessOwnRowIn (Kind.Use Work.WordFromHost) (driveIn state.old) event sectors.old staging.old (wordFromHost (driveIn state.old) event.port (word_of event) sectors.old staging.old)) result state.new sectors.new staging.new }
+    ensures { DidIn state.old (unless_own_row_in (Kind.Use Work.WordFromHost) (drive_in state.old) event sectors.old staging.old (word_from_host (drive_in state.old) event.port (word_of event) sectors.old staging.old)) result state.new sectors.new staging.new }
 {
     let n = timing::stranger(&state[..], event.port, parts::none_after_2(event));
     if n != 0 {
@@ -49,8 +49,8 @@ fn stage(
     sectors: &mut [u16],
     staging: &mut [u16],
 ) -> Answer
-    requires { Fits state.old sectors.old staging.old × (control ≡ (driveIn state.old).transfer.control) × (isWrite (controlOf control) ≡ true) }
-    ensures { DidIn state.old (wordStaged (driveIn state.old) word sectors.old staging.old) result state.new sectors.new staging.new }
+    requires { Fits state.old sectors.old staging.old × (control ≡ (drive_in state.old).transfer.control) × (is_write (control_of control) ≡ true) }
+    ensures { DidIn state.old (word_staged (drive_in state.old) word sectors.old staging.old) result state.new sectors.new staging.new }
 {
     let moved = state[layout::MOVED] as usize;
     staging[moved] = word;
@@ -65,8 +65,8 @@ fn after_word(
     sectors: &mut [u16],
     staging: &[u16],
 ) -> Answer
-    requires { Fits state.old sectors.old staging.now × (control ≡ (driveIn state.old).transfer.control) × (isWrite (controlOf control) ≡ true) × (count < 65536) }
-    ensures { DidIn state.old (staged (driveIn state.old) count (sectorStart (driveIn state.old).setup (driveIn state.old).place) sectors.old staging.now) result state.new sectors.new staging.now }
+    requires { Fits state.old sectors.old staging.now × (control ≡ (drive_in state.old).transfer.control) × (is_write (control_of control) ≡ true) × (count < 65536) }
+    ensures { DidIn state.old (staged (drive_in state.old) count (sector_start (drive_in state.old).setup (drive_in state.old).place) sectors.old staging.now) result state.new sectors.new staging.now }
 {
     if header_miscompares(&state[..], count, &sectors[..], staging) {
         place::end_transfer(state);
@@ -86,7 +86,7 @@ fn after_word(
 // The tests come one by one, each with its own reads: this is asked at every word.
 fn header_miscompares(state: &[u16], count: usize, sectors: &[u16], staging: &[u16]) -> bool
     requires { Fits state.now sectors.now staging.now }
-    ensures { result ≡ miscompares (driveIn state.now).setup (driveIn state.now).transfer.control count (sectorStart (driveIn state.now).setup (driveIn state.now).place) sectors.now staging.now }
+    ensures { result ≡ miscompares (drive_in state.now).setup (drive_in state.now).transfer.control count (sector_start (drive_in state.now).setup (drive_in state.now).place) sectors.now staging.now }
 {
     if count != state[layout::HEADER] as usize {
         return false;
@@ -156,7 +156,7 @@ pub(crate) fn on_take_word(
     staging: &[u16],
 ) -> Answer
     requires { Fits state.old sectors.now staging.now × (event.port ≤ 1) }
-    ensures { Did state.old (unlessOwnRow (Kind.Use Work.TakeWord) (driveIn state.old) event (wordToHost (driveIn state.old) event.port sectors.now)) result state.new }
+    ensures { Did state.old (unless_own_row (Kind.Use Work.TakeWord) (drive_in state.old) event (word_to_host (drive_in state.old) event.port sectors.now)) result state.new }
 {
     let n = timing::stranger(&state[..], event.port, parts::none_at_all(event));
     if n != 0 {
@@ -173,8 +173,8 @@ pub(crate) fn on_take_word(
 }
 
 fn take(state: &mut [u16], sectors: &[u16], staging: &[u16]) -> Answer
-    requires { Fits state.old sectors.now staging.now × Able (driveIn state.old) sectors.now staging.now × (isRead (controlOf (driveIn state.old).transfer.control) ≡ true) }
-    ensures { Did state.old (wordTaken (driveIn state.old) sectors.now) result state.new }
+    requires { Fits state.old sectors.now staging.now × Able (drive_in state.old) sectors.now staging.now × (is_read (control_of (drive_in state.old).transfer.control) ≡ true) }
+    ensures { Did state.old (word_taken (drive_in state.old) sectors.now) result state.new }
 {
     let control = state[layout::CONTROL];
     let moved = state[layout::MOVED];
@@ -192,7 +192,7 @@ fn take(state: &mut [u16], sectors: &[u16], staging: &[u16]) -> Answer
 
 // Where word k of a read stands in its sector.
 fn word_offset(setup: Setup, control: u16, moved: u16) -> usize
-    requires { (moved < dataWords setup control) × (isRead (controlOf control) ≡ true) }
+    requires { (moved < data_words setup control) × (is_read (control_of control) ≡ true) }
     ensures { ReadsAt setup control moved result }
 {
     let header = parts::part_of(parts::moves_header(control), setup.header);

@@ -14,11 +14,11 @@ pub differ : {a b : ℕ} → eqb a b ≡ false → a ≡ b → ⊥
 differ {a} {b} e h = true≢false (sym (eq-eqb a b h) ∙ e)
 
 -- the same with both numbers written down, the wrong one first
-pub told-apart : (wrong right : ℕ) → eqb wrong right ≡ false → wrong ≡ right → ⊥
-told-apart wrong right = differ
+pub told_apart : (wrong right : ℕ) → eqb wrong right ≡ false → wrong ≡ right → ⊥
+told_apart wrong right = differ
 
-pub differ-at : (i : ℕ) {xs ys : List ℕ} → eqb (get_or xs i 0) (get_or ys i 0) ≡ false → xs ≡ ys → ⊥
-differ-at i {xs} {ys} e h = differ e (ap (λ (list : List ℕ). get_or list i 0) h)
+pub differ_at : (i : ℕ) {xs ys : List ℕ} → eqb (get_or xs i 0) (get_or ys i 0) ≡ false → xs ≡ ys → ⊥
+differ_at i {xs} {ys} e h = differ e (ap (λ (list : List ℕ). get_or list i 0) h)
 
 -- what is absent is not there
 pub absent : {A : Type 0} {B : Type 0} {x : Option B} {b : B} → x ≡ none → x ≡ some b → A

@@ -2,5 +2,5 @@
 -- Assumes nothing.
 use mathlib.Core.Path.{◌≡◌, sym, ◌∙◌}
 
-pub answer-only : {A : Type 0} {answer r s : A} → r ≡ answer → s ≡ answer → r ≡ s
-answer-only p q = p ∙ sym q
+pub answer_only : {A : Type 0} {answer r s : A} → r ≡ answer → s ≡ answer → r ≡ s
+answer_only p q = p ∙ sym q

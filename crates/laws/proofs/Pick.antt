@@ -7,13 +7,13 @@ use mathlib.Core.Bool.{Bool, true, false, not}
 use borrow.Author.Tests.{lt-ltb, le-ltb, le-leb, lt-leb, eq-eqb, ne_eqb, not-true, not-false}
 use Rattle.laws.specs.Pick.{pick}
 
-pub pick-t : (A : Type 0) (test : Bool) (x a b : A) → test ≡ true → x ≡ a → x ≡ pick test a b
+pub pick_t : (A : Type 0) (test : Bool) (x a b : A) → test ≡ true → x ≡ a → x ≡ pick test a b
 unfolding pick
-pick-t A test x a b e p = rw e p
+pick_t A test x a b e p = rw e p
 
-pub pick-f : (A : Type 0) (test : Bool) (x a b : A) → test ≡ false → x ≡ b → x ≡ pick test a b
+pub pick_f : (A : Type 0) (test : Bool) (x a b : A) → test ≡ false → x ≡ b → x ≡ pick test a b
 unfolding pick
-pick-f A test x a b e p = rw e p
+pick_f A test x a b e p = rw e p
 
 -- what a call returned, and what the branch on it says
 pub told : (r test value : Bool) → r ≡ test → r ≡ value → test ≡ value
@@ -26,21 +26,21 @@ either P true p q = p
 either P false p q = q
 
 -- a part is no more than the whole
-pub pick-le : (test : Bool) (n : ℕ) → pick test n 0 ≤ n
+pub pick_le : (test : Bool) (n : ℕ) → pick test n 0 ≤ n
 unfolding pick
-pick-le true n = omega arith
-pick-le false n = omega arith
+pick_le true n = omega arith
+pick_le false n = omega arith
 
 -- a choice seen through a function, and one by the opposite test
-pub pick-map : {A B : Type 0} (f : A → B) (test : Bool) {x y : A} {x' y' : B} → x' ≡ f x → y' ≡ f y → pick test x' y' ≡ f (pick test x y)
+pub pick_map : {A B : Type 0} (f : A → B) (test : Bool) {x y : A} {x' y' : B} → x' ≡ f x → y' ≡ f y → pick test x' y' ≡ f (pick test x y)
 unfolding pick
-pick-map f true p q = p
-pick-map f false p q = q
+pick_map f true p q = p
+pick_map f false p q = q
 
-pub pick-not : {A : Type 0} (test : Bool) (x y : A) → pick (not test) x y ≡ pick test y x
+pub pick_not : {A : Type 0} (test : Bool) (x y : A) → pick (not test) x y ≡ pick test y x
 unfolding pick
-pick-not true x y = refl
-pick-not false x y = refl
+pick_not true x y = refl
+pick_not false x y = refl
 
 pub not_t : (test : Bool) → test ≡ false → not test ≡ true
 not_t test e = rw e
@@ -48,7 +48,7 @@ not_t test e = rw e
 pub not_f : (test : Bool) → test ≡ true → not test ≡ false
 not_f test e = rw e
 
-pub ruleset steps = (pick-t, pick-f, lt-ltb, le-ltb, le-leb, lt-leb, eq-eqb, ne_eqb)
+pub ruleset steps = (pick_t, pick_f, lt-ltb, le-ltb, le-leb, lt-leb, eq-eqb, ne_eqb)
 
 -- flags: a negated one, and one that a callee returned
 pub ruleset flags = (not_t, not_f, not-true, not-false, told)
@@ -58,9 +58,9 @@ pub pick_true : {A : Type 0} (a b : A) → pick true a b ≡ a
 unfolding pick
 pick_true a b = refl
 
-pub pick-false : {A : Type 0} (a b : A) → pick false a b ≡ b
+pub pick_false : {A : Type 0} (a b : A) → pick false a b ≡ b
 unfolding pick
-pick-false a b = refl
+pick_false a b = refl
 
 -- a choice has what each side has when the test chose it
 pub cases : {A : Type 0} (P : A → Type 0) (test : Bool) {x y : A} → (test ≡ true → P x) → (test ≡ false → P y) → P (pick test x y)
@@ -69,14 +69,14 @@ cases P true yes' no' = yes' refl
 cases P false yes' no' = no' refl
 
 -- two choices whose tests never hold together can change places
-pub picks-apart : {A : Type 0} (a b : Bool) (x y z : A) → (a ≡ true → b ≡ true → ⊥) → pick a x (pick b y z) ≡ pick b y (pick a x z)
+pub picks_apart : {A : Type 0} (a b : Bool) (x y z : A) → (a ≡ true → b ≡ true → ⊥) → pick a x (pick b y z) ≡ pick b y (pick a x z)
 unfolding pick
-picks-apart true true x y z apart = absurd (apart refl refl)
-picks-apart true false x y z apart = refl
-picks-apart false b x y z apart = refl
+picks_apart true true x y z apart = absurd (apart refl refl)
+picks_apart true false x y z apart = refl
+picks_apart false b x y z apart = refl
 
 -- two choices by one test that say the same where they are made
-pub pick-alike : {A : Type 0} (test : Bool) {x x' y y' : A} → (test ≡ true → x ≡ x') → y ≡ y' → pick test x y ≡ pick test x' y'
+pub pick_alike : {A : Type 0} (test : Bool) {x x' y y' : A} → (test ≡ true → x ≡ x') → y ≡ y' → pick test x y ≡ pick test x' y'
 unfolding pick
-pick-alike true p q = p refl
-pick-alike false p q = q
+pick_alike true p q = p refl
+pick_alike false p q = q

@@ -10,7 +10,7 @@ use borrow.Author.Tests.{ltb-true, leb-true}
 use lib.Dec.{ltb, leb}
 use Rattle.laws.specs.Pick.{pick}
 use Rattle.laws.proofs.Tests.{and_l, and_r}
-use Rattle.laws.specs.Rows.{Row, first, Given, here, later, unlessRefused, Paper, refusedWith, tells, refusedOr}
+use Rattle.laws.specs.Rows.{Row, first, Given, here, later, unless_refused, Paper, refused_with, tells, refused_or}
 
 at_head : (n : ℕ) (row : Row) (rows : List Row) (test : Bool) → row.holds ≡ test → pick test row.number (first rows) ≡ n
     → (first rows ≡ n → Given n rows) → Given n (row ∷ rows)
@@ -18,45 +18,45 @@ unfolding pick
 at_head n row rows true h e below = here e h
 at_head n row rows false h e below = later h (below e)
 
-given-of : (n : ℕ) (rows : List Row) → first rows ≡ suc n → Given (suc n) rows
-given-of n [] e = absurd (omega arith)
-given-of n (row ∷ rows) e = at_head (suc n) row rows row.holds refl e (given-of n rows)
+given_of : (n : ℕ) (rows : List Row) → first rows ≡ suc n → Given (suc n) rows
+given_of n [] e = absurd (omega arith)
+given_of n (row ∷ rows) e = at_head (suc n) row rows row.holds refl e (given_of n rows)
 
-first-of : {n : ℕ} {rows : List Row} → Given n rows → first rows ≡ n
+first_of_lem : {n : ℕ} {rows : List Row} → Given n rows → first rows ≡ n
 unfolding pick
-first-of (here e h) = rw h e
-first-of (later h g) = rw h (first-of g)
+first_of_lem (here e h) = rw h e
+first_of_lem (later h g) = rw h (first_of_lem g)
 
-pub first-is-exact : (n : ℕ) (rows : List Row) → first rows ≡ suc n ↔ Given (suc n) rows
-first-is-exact n rows = (given-of n rows, first-of)
+pub first_is_exact : (n : ℕ) (rows : List Row) → first rows ≡ suc n ↔ Given (suc n) rows
+first_is_exact n rows = (given_of n rows, first_of_lem)
 
 -- the number that a call reports is its refusal, if a refused call reports its number and an accepted one 0
 pub reported : {A : Type 0} (report : A → ℕ) (refused : ℕ → A) → ((n : ℕ) → report (refused n) ≡ n)
-    → (refusal : ℕ) (accepted : A) → report accepted ≡ 0 → report (unlessRefused refusal (refused refusal) accepted) ≡ refusal
+    → (refusal : ℕ) (accepted : A) → report accepted ≡ 0 → report (unless_refused refusal (refused refusal) accepted) ≡ refusal
 reported report refused told zero accepted e = e
 reported report refused told (suc n) accepted e = told (suc n)
 
--- how code that computed a refusal meets `unlessRefused`: not 0, and it told it; 0, and it did the rest
-pub refused_as : {A : Type 0} (n refusal : ℕ) (told : ℕ → A) (new : A) → n ≡ refusal → (n ≡ 0 → ⊥) → told n ≡ unlessRefused refusal (told refusal) new
+-- how code that computed a refusal meets `unless_refused`: not 0, and it told it; 0, and it did the rest
+pub refused_as : {A : Type 0} (n refusal : ℕ) (told : ℕ → A) (new : A) → n ≡ refusal → (n ≡ 0 → ⊥) → told n ≡ unless_refused refusal (told refusal) new
 refused_as n refusal told new e h = rw (← e) (at n h)
   where
-    at : (n : ℕ) → (n ≡ 0 → ⊥) → told n ≡ unlessRefused n (told n) new
+    at : (n : ℕ) → (n ≡ 0 → ⊥) → told n ≡ unless_refused n (told n) new
     at zero h = absurd (h refl)
     at (suc n) h = refl
 
-pub accepted-as : {A : Type 0} (n refusal : ℕ) (old new x : A) → n ≡ refusal → n ≡ 0 → x ≡ new → x ≡ unlessRefused refusal old new
-accepted-as n refusal old new x e z p = rw (← e, z) p
+pub accepted_as : {A : Type 0} (n refusal : ℕ) (old new x : A) → n ≡ refusal → n ≡ 0 → x ≡ new → x ≡ unless_refused refusal old new
+accepted_as n refusal old new x e z p = rw (← e, z) p
 
 -- no row is given: the first one does not hold, and none of the rest is given
-pub row-off : (test : Bool) (n rest : ℕ) → pick test (suc n) rest ≡ 0 → test ≡ false
+pub row_off : (test : Bool) (n rest : ℕ) → pick test (suc n) rest ≡ 0 → test ≡ false
 unfolding pick
-row-off true n rest e = absurd (omega arith)
-row-off false n rest e = refl
+row_off true n rest e = absurd (omega arith)
+row_off false n rest e = refl
 
-pub rows-rest : (test : Bool) (n rest : ℕ) → pick test (suc n) rest ≡ 0 → rest ≡ 0
+pub rows_rest : (test : Bool) (n rest : ℕ) → pick test (suc n) rest ≡ 0 → rest ≡ 0
 unfolding pick
-rows-rest true n rest e = absurd (omega arith)
-rows-rest false n rest e = e
+rows_rest true n rest e = absurd (omega arith)
+rows_rest false n rest e = e
 
 -- ---- an answer that is refused by the row that is given, or else is the accepted one
 
@@ -69,15 +69,15 @@ abbrev pub Passed : List Row → Type 0
 Passed [] = Unit
 Passed (row ∷ rows) = (row.holds ≡ false) × Passed rows
 
-pub none-given : (rows : List Row) → Passed rows → first rows ≡ 0
+pub none_given : (rows : List Row) → Passed rows → first rows ≡ 0
 unfolding pick
-none-given [] p = refl
-none-given (row ∷ rows) p = rw p.0 (none-given rows p.1)
+none_given [] p = refl
+none_given (row ∷ rows) p = rw p.0 (none_given rows p.1)
 
-pub all-passed : (rows : List Row) → numbered rows ≡ true → first rows ≡ 0 → Passed rows
+pub all_passed : (rows : List Row) → numbered rows ≡ true → first rows ≡ 0 → Passed rows
 unfolding pick
-all-passed [] n e = tt
-all-passed (row ∷ rows) n e = at_head row.holds refl e (all-passed rows (and_r (ltb 0 row.number) (numbered rows) n))
+all_passed [] n e = tt
+all_passed (row ∷ rows) n e = at_head row.holds refl e (all_passed rows (and_r (ltb 0 row.number) (numbered rows) n))
   where
     at_head : (test : Bool) → row.holds ≡ test → pick test row.number (first rows) ≡ 0 → (first rows ≡ 0 → Passed rows) → Passed (row ∷ rows)
     at_head true h e below = absurd (let p = ltb-true 0 row.number (and_l (ltb 0 row.number) (numbered rows) n) in omega arith)
@@ -85,61 +85,61 @@ all-passed (row ∷ rows) n e = at_head row.holds refl e (all-passed rows (and_r
 
 -- an answer that is no refusal is the accepted one, and every test was passed
 pub accepted : {A : Type 0} (rows : List Row) (refused : ℕ → A) (answer new : A) → numbered rows ≡ true → ((n : ℕ) → answer ≡ refused n → ◌≡◌ {A = ℕ} 0 1)
-    → answer ≡ unlessRefused (first rows) (refused (first rows)) new → (answer ≡ new) × Passed rows
-accepted {A} rows refused answer new n other e = by-refusal (first rows) refl e
+    → answer ≡ unless_refused (first rows) (refused (first rows)) new → (answer ≡ new) × Passed rows
+accepted {A} rows refused answer new n other e = by_refusal (first rows) refl e
   where
-    by-refusal : (refusal : ℕ) → first rows ≡ refusal → answer ≡ unlessRefused refusal (refused refusal) new → (answer ≡ new) × Passed rows
-    by-refusal zero f e = (e, all-passed rows n f)
-    by-refusal (suc refusal) f e = absurd (let p = other (suc refusal) e in omega arith)
+    by_refusal : (refusal : ℕ) → first rows ≡ refusal → answer ≡ unless_refused refusal (refused refusal) new → (answer ≡ new) × Passed rows
+    by_refusal zero f e = (e, all_passed rows n f)
+    by_refusal (suc refusal) f e = absurd (let p = other (suc refusal) e in omega arith)
 
 -- an answer that is not the accepted one changes nothing
 pub declined : {A B : Type 0} (rows : List Row) (refused : ℕ → A) (answer new : A) (old' new' : B) → (answer ≡ new → ◌≡◌ {A = ℕ} 0 1)
-    → answer ≡ unlessRefused (first rows) (refused (first rows)) new → unlessRefused (first rows) old' new' ≡ old'
-declined {A} {B} rows refused answer new old' new' other e = by-refusal (first rows) e
+    → answer ≡ unless_refused (first rows) (refused (first rows)) new → unless_refused (first rows) old' new' ≡ old'
+declined {A} {B} rows refused answer new old' new' other e = by_refusal (first rows) e
   where
-    by-refusal : (refusal : ℕ) → answer ≡ unlessRefused refusal (refused refusal) new → unlessRefused refusal old' new' ≡ old'
-    by-refusal zero e = absurd (let p = other e in omega arith)
-    by-refusal (suc refusal) e = refl
+    by_refusal : (refusal : ℕ) → answer ≡ unless_refused refusal (refused refusal) new → unless_refused refusal old' new' ≡ old'
+    by_refusal zero e = absurd (let p = other e in omega arith)
+    by_refusal (suc refusal) e = refl
 
 -- the number that an answer reports is given exactly as the table says, if a refusal reports its number and the accepted answer 0
 pub exactly : {A : Type 0} (report : A → ℕ) (refused : ℕ → A) (new answer : A) (rows : List Row) → ((n : ℕ) → report (refused n) ≡ n) → report new ≡ 0
-    → answer ≡ unlessRefused (first rows) (refused (first rows)) new → (n : ℕ) → report answer ≡ suc n ↔ Given (suc n) rows
-exactly report refused new answer rows told z e n = rw (e, reported report refused told (first rows) new z) (first-is-exact n rows)
+    → answer ≡ unless_refused (first rows) (refused (first rows)) new → (n : ℕ) → report answer ≡ suc n ↔ Given (suc n) rows
+exactly report refused new answer rows told z e n = rw (e, reported report refused told (first rows) new z) (first_is_exact n rows)
 
 -- an answer on paper: a refusal tells its number, and the accepted answer the value, once every test was passed
-pub seen-on-paper : {A B : Type 0} (paper : A → Paper B) (refused : ℕ → A) (new answer : A) (value : B) (rows : List Row) → numbered rows ≡ true
-    → ((n : ℕ) → paper (refused n) ≡ refusedWith n) → (Passed rows → paper new ≡ tells value)
-    → answer ≡ unlessRefused (first rows) (refused (first rows)) new → paper answer ≡ refusedOr rows value
-seen-on-paper {A} {B} paper refused new answer value rows n told accepted e = ap paper e ∙ by-refusal (first rows) refl
+pub seen_on_paper : {A B : Type 0} (paper : A → Paper B) (refused : ℕ → A) (new answer : A) (value : B) (rows : List Row) → numbered rows ≡ true
+    → ((n : ℕ) → paper (refused n) ≡ refused_with n) → (Passed rows → paper new ≡ tells value)
+    → answer ≡ unless_refused (first rows) (refused (first rows)) new → paper answer ≡ refused_or rows value
+seen_on_paper {A} {B} paper refused new answer value rows n told accepted e = ap paper e ∙ by_refusal (first rows) refl
   where
-    by-refusal : (refusal : ℕ) → first rows ≡ refusal → paper (unlessRefused refusal (refused refusal) new) ≡ unlessRefused refusal (refusedWith refusal) (tells value)
-    by-refusal zero f = accepted (all-passed rows n f)
-    by-refusal (suc refusal) f = told (suc refusal)
+    by_refusal : (refusal : ℕ) → first rows ≡ refusal → paper (unless_refused refusal (refused refusal) new) ≡ unless_refused refusal (refused_with refusal) (tells value)
+    by_refusal zero f = accepted (all_passed rows n f)
+    by_refusal (suc refusal) f = told (suc refusal)
 
 -- what holds of every row's number holds of the number that is given
 abbrev pub EachNumber : (ℕ → Type 0) → List Row → Type 0
 EachNumber P [] = Unit
 EachNumber P (row ∷ rows) = P row.number × EachNumber P rows
 
-pub first-among : (P : ℕ → Type 0) (rows : List Row) → EachNumber P rows → (n : ℕ) → first rows ≡ suc n → P (suc n)
-first-among P rows each n e = go (given-of n rows e) each
+pub first_among : (P : ℕ → Type 0) (rows : List Row) → EachNumber P rows → (n : ℕ) → first rows ≡ suc n → P (suc n)
+first_among P rows each n e = go (given_of n rows e) each
   where
     go : {n : ℕ} {rows : List Row} → Given n rows → EachNumber P rows → P n
     go (here p h) each = subst P p each.0
     go (later h g) each = go g each.1
 
 -- no number over the largest of the table's is given
-abbrev pub numberedUpTo : ℕ → List Row → Bool
-numberedUpTo bound [] = true
-numberedUpTo bound (row ∷ rows) = leb row.number bound && numberedUpTo bound rows
+abbrev pub numbered_up_to : ℕ → List Row → Bool
+numbered_up_to bound [] = true
+numbered_up_to bound (row ∷ rows) = leb row.number bound && numbered_up_to bound rows
 
-pub first-up-to : (bound : ℕ) (rows : List Row) → numberedUpTo bound rows ≡ true → first rows ≤ bound
+pub first_up_to : (bound : ℕ) (rows : List Row) → numbered_up_to bound rows ≡ true → first rows ≤ bound
 unfolding pick
-first-up-to bound [] n = omega arith
-first-up-to bound (row ∷ rows) n =
-    by-test row.holds (leb-true row.number bound (and_l (leb row.number bound) (numberedUpTo bound rows) n))
-    (first-up-to bound rows (and_r (leb row.number bound) (numberedUpTo bound rows) n))
+first_up_to bound [] n = omega arith
+first_up_to bound (row ∷ rows) n =
+    by_test row.holds (leb-true row.number bound (and_l (leb row.number bound) (numbered_up_to bound rows) n))
+    (first_up_to bound rows (and_r (leb row.number bound) (numbered_up_to bound rows) n))
   where
-    by-test : (test : Bool) → row.number ≤ bound → first rows ≤ bound → pick test row.number (first rows) ≤ bound
-    by-test true h below = h
-    by-test false h below = below
+    by_test : (test : Bool) → row.number ≤ bound → first rows ≤ bound → pick test row.number (first rows) ≤ bound
+    by_test true h below = h
+    by_test false h below = below

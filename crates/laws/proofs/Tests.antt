@@ -25,16 +25,16 @@ or_r false b e = e
 pub ruleset joined = (and_l, and_r, or_l, or_r)
 
 -- two tests that say the same
-pub same_test : (a b c d : ℕ) → (a < b → c < d) → (b ≤ a → d ≤ c) → ltb a b ≡ ltb c d
-same_test a b c d up down = by-test (ltb a b) refl
+pub same_test_lem : (a b c d : ℕ) → (a < b → c < d) → (b ≤ a → d ≤ c) → ltb a b ≡ ltb c d
+same_test_lem a b c d up down = by_test (ltb a b) refl
   where
-    by-test : (test : Bool) → ltb a b ≡ test → test ≡ ltb c d
-    by-test true e = sym (lt-ltb c d (up (ltb-true a b e)))
-    by-test false e = sym (le-ltb c d (down (ltb-false a b e)))
+    by_test : (test : Bool) → ltb a b ≡ test → test ≡ ltb c d
+    by_test true e = sym (lt-ltb c d (up (ltb-true a b e)))
+    by_test false e = sym (le-ltb c d (down (ltb-false a b e)))
 
-pub same-equation : (a b c d : ℕ) → (a ≡ b → c ≡ d) → (c ≡ d → a ≡ b) → eqb a b ≡ eqb c d
-same-equation a b c d there back = by-test (eqb a b) refl
+pub same_equation : (a b c d : ℕ) → (a ≡ b → c ≡ d) → (c ≡ d → a ≡ b) → eqb a b ≡ eqb c d
+same_equation a b c d there back = by_test (eqb a b) refl
   where
-    by-test : (test : Bool) → eqb a b ≡ test → test ≡ eqb c d
-    by-test true e = sym (eq-eqb c d (there (eqb-true a b e)))
-    by-test false e = sym (ne_eqb c d (λ f. eqb-false a b e (back f)))
+    by_test : (test : Bool) → eqb a b ≡ test → test ≡ eqb c d
+    by_test true e = sym (eq-eqb c d (there (eqb-true a b e)))
+    by_test false e = sym (ne_eqb c d (λ f. eqb-false a b e (back f)))

@@ -6,17 +6,17 @@ abbrev pub bit : ℕ → ℕ → Bool
 bit k n = eqb (n / 2 ^ k % 2) 1
 
 -- The number that octets stand for, high first, behind what was read already.
-abbrev pub numberAfter : ℕ → List ℕ → ℕ
-numberAfter before [] = before
-numberAfter before (octet ∷ octets) = numberAfter (before * 256 + octet) octets
+abbrev pub number_after : ℕ → List ℕ → ℕ
+number_after before [] = before
+number_after before (octet ∷ octets) = number_after (before * 256 + octet) octets
 
 abbrev pub number_of : List ℕ → ℕ
-number_of octets = numberAfter 0 octets
+number_of octets = number_after 0 octets
 
 -- The low `count` octets of a number, high first.
-abbrev pub octetsOf : ℕ → ℕ → List ℕ
-octetsOf zero n = []
-octetsOf (suc count) n = octetsOf count (n / 256) ++ (n % 256 ∷ [])
+abbrev pub octets_of : ℕ → ℕ → List ℕ
+octets_of zero n = []
+octets_of (suc count) n = octets_of count (n / 256) ++ (n % 256 ∷ [])
 
 -- Each element of the list is an octet.
 abbrev pub AllOctets : List ℕ → Type 0

@@ -17,27 +17,27 @@ abbrev pub first : List Row → ℕ
 first [] = 0
 first (row ∷ rows) = pick row.holds row.number (first rows)
 
--- That sentence as a proposition: row n holds, and no row tested earlier does. `first-is-exact` proves it of `first`.
+-- That sentence as a proposition: row n holds, and no row tested earlier does. `first_is_exact` proves it of `first`.
 pub data Given (n : ℕ) : List Row → Type 0 where
   here : {row : Row} {rows : List Row} → row.number ≡ n → row.holds ≡ true → Given n (row ∷ rows)
   later : {row : Row} {rows : List Row} → row.holds ≡ false → Given n rows → Given n (row ∷ rows)
 
 -- "A refusal .. changes nothing": of the old and the new, what stands after a call with this refusal.
-abbrev pub unlessRefused : {A : Type 0} → ℕ → A → A → A
-unlessRefused zero old new = new
-unlessRefused (suc n) old new = old
+abbrev pub unless_refused : {A : Type 0} → ℕ → A → A → A
+unless_refused zero old new = new
+unless_refused (suc n) old new = old
 
 -- "A refusal reports its number and nothing else": an answer on paper has the number of a refusal, or a value.
 pub record Paper (A : Type 0) : Type 0 where
   pub refusal : Option ℕ
   pub value : Option A
 
-abbrev pub refusedWith : {A : Type 0} → ℕ → Paper A
-refusedWith n = record { refusal = some n; value = none }
+abbrev pub refused_with : {A : Type 0} → ℕ → Paper A
+refused_with n = record { refusal = some n; value = none }
 
 abbrev pub tells : {A : Type 0} → A → Paper A
 tells value = record { refusal = none; value = some value }
 
 -- What a call with these rows answers on paper: the number of the first row that holds, or the value.
-abbrev pub refusedOr : {A : Type 0} → List Row → A → Paper A
-refusedOr rows value = unlessRefused (first rows) (refusedWith (first rows)) (tells value)
+abbrev pub refused_or : {A : Type 0} → List Row → A → Paper A
+refused_or rows value = unless_refused (first rows) (refused_with (first rows)) (tells value)

@@ -8,25 +8,25 @@ use lib.Dec.{eqb}
 use lib.ListN.{length, get_or}
 use Rattle.laws.specs.Pick.{pick}
 use Rattle.laws.proofs.Pick.{either, cases}
-use Rattle.laws.proofs.Lists.{length-table, table_at}
-use Rattle.lines.specs.Moves.{entry_of, movesTable, TableIsTheList, OneLineMoves}
+use Rattle.laws.proofs.Lists.{length_table, table_at}
+use Rattle.lines.specs.Moves.{entry_of, moves_table, TableIsTheList, OneLineMoves}
 
-in_table : (old new : ℕ) → old < 32 → new < 32 → get_or movesTable (32 * old + new) 0 ≡ entry_of old new
-unfolding movesTable
+in_table : (old new : ℕ) → old < 32 → new < 32 → get_or moves_table (32 * old + new) 0 ≡ entry_of old new
+unfolding moves_table
 in_table old new h k =
     table_at (λ at. entry_of (at / 32) (at % 32)) 1024 (32 * old + new) (omega arith) ∙ ap₂ entry_of (omega arith) (omega arith)
 
-pub count-of-pairs : length movesTable ≡ 1024
-unfolding movesTable
-count-of-pairs = length-table (λ at. entry_of (at / 32) (at % 32)) 0 1024
+pub count_of_pairs : length moves_table ≡ 1024
+unfolding moves_table
+count_of_pairs = length_table (λ at. entry_of (at / 32) (at % 32)) 0 1024
 
-pub table-is-the-list : TableIsTheList
-unfolding movesTable entry_of pick
-table-is-the-list = record { entry = in_table; same = refl; controllers = refl; drives = refl; undefined = refl }
+pub table_is_the_list : TableIsTheList
+unfolding moves_table entry_of pick
+table_is_the_list = record { entry = in_table; same = refl; controllers = refl; drives = refl; undefined = refl }
 
-pub one-line-moves : OneLineMoves
+pub one_line_moves : OneLineMoves
 unfolding pick
-one-line-moves = record { controllers = refl; drives = refl }
+one_line_moves = record { controllers = refl; drives = refl }
 
 -- of two settings that differ the table does not say that they are the same
 pub not_same : (old new : ℕ) → eqb old new ≡ false → eqb (entry_of old new) 0 ≡ false

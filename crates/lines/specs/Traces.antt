@@ -19,16 +19,16 @@ answers f (new ∷ trace) = (step_of f new).answer ∷ answers (step_of f new).f
 -- "a follower state that no trace from the start can reach" is one of which this does not hold.
 pub record Reached (f : Follower) : Type 0 where
   pub trace : List ℕ
-  pub leads-here : after idle trace ≡ f
+  pub leads_here : after idle trace ≡ f
 
 -- `is_reached` is reachability, both ways: every trace stays inside, and every state inside has a trace.
 pub record ReachedExactly : Type 0 where
-  pub stays-inside : (trace : List ℕ) → is_reached (after idle trace) ≡ true
-  pub has-a-trace : (f : Follower) → is_reached f ≡ true → Reached f
+  pub stays_inside_lem : (trace : List ℕ) → is_reached (after idle trace) ≡ true
+  pub has_a_trace : (f : Follower) → is_reached f ≡ true → Reached f
 
 -- How the lines came to their setting: the earlier settings without a break, newest first, repeats left out. Or they are lost.
 pub data Way : Type 0 where
-  came-to : ℕ → List ℕ → Way
+  came_to : ℕ → List ℕ → Way
   astray : Way
 
 pub record Watched : Type 0 where
@@ -38,39 +38,39 @@ pub record Watched : Type 0 where
 abbrev pub saw : Answer → Way → Watched
 saw answer way = record { answer = answer; way = way }
 
-abbrev pub cameFrom : List ℕ → List ℕ → Bool
-cameFrom [] earlier = true
-cameFrom (setting ∷ settings) [] = false
-cameFrom (setting ∷ settings) (last ∷ earlier) = eqb last setting && cameFrom settings earlier
+abbrev pub came_from : List ℕ → List ℕ → Bool
+came_from [] earlier = true
+came_from (setting ∷ settings) [] = false
+came_from (setting ∷ settings) (last ∷ earlier) = eqb last setting && came_from settings earlier
 
 -- "24→28 needs SLAVACK to have come from MASTEND that came from BUSACK. 16→0 needs SELECT to have come from IDLE."
-unfoldable pub hasHistory : ℕ → List ℕ → ℕ → Bool
-hasHistory old earlier new =
-    pick (eqb old SLAVACK && eqb new XFRRDY) (cameFrom (MASTEND ∷ BUSACK ∷ []) earlier)
-    (pick (eqb old SELECT && eqb new IDLE) (cameFrom (IDLE ∷ []) earlier) true)
+unfoldable pub has_history : ℕ → List ℕ → ℕ → Bool
+has_history old earlier new =
+    pick (eqb old SLAVACK && eqb new XFRRDY) (came_from (MASTEND ∷ BUSACK ∷ []) earlier)
+    (pick (eqb old SELECT && eqb new IDLE) (came_from (IDLE ∷ []) earlier) true)
 
 -- "Any other move is undefined: .. then IDLE if the new setting is 0, else lost."
-unfoldable pub sawUndefined : ℕ → Watched
-sawUndefined new = saw Undefined (pick (eqb new 0) (came-to IDLE []) astray)
+unfoldable pub saw_undefined : ℕ → Watched
+saw_undefined new = saw Undefined (pick (eqb new 0) (came_to IDLE []) astray)
 
-unfoldable pub sawMove : ℕ → ℕ → List ℕ → ℕ → Watched
-sawMove entry old earlier new =
-    pick (eqb entry 0) (saw Same (came-to old earlier))
-    (pick (eqb entry 1) (pick (hasHistory old earlier new) (saw Controllers (came-to new (old ∷ earlier))) (sawUndefined new))
-    (pick (eqb entry 2) (saw Drives (came-to new (old ∷ earlier))) (sawUndefined new)))
+unfoldable pub saw_move : ℕ → ℕ → List ℕ → ℕ → Watched
+saw_move entry old earlier new =
+    pick (eqb entry 0) (saw Same (came_to old earlier))
+    (pick (eqb entry 1) (pick (has_history old earlier new) (saw Controllers (came_to new (old ∷ earlier))) (saw_undefined new))
+    (pick (eqb entry 2) (saw Drives (came_to new (old ∷ earlier))) (saw_undefined new)))
 
 -- The watcher: document 01's rules over the whole way.
-abbrev pub sawSetting : Way → ℕ → Watched
-sawSetting (came-to old earlier) new = sawMove (entry_of old new) old earlier new
-sawSetting astray new = pick (eqb new 0) (saw Idle (came-to IDLE [])) (saw Lost astray)
+abbrev pub saw_setting : Way → ℕ → Watched
+saw_setting (came_to old earlier) new = saw_move (entry_of old new) old earlier new
+saw_setting astray new = pick (eqb new 0) (saw Idle (came_to IDLE [])) (saw Lost astray)
 
 unfoldable pub watch : Way → ℕ → Watched
-watch way new = pick (ltb 31 new) (saw (Refused 8) way) (sawSetting way new)
+watch way new = pick (ltb 31 new) (saw (Refused 8) way) (saw_setting way new)
 
-unfoldable pub watchedAnswers : Way → List ℕ → List Answer
-watchedAnswers way [] = []
-watchedAnswers way (new ∷ trace) = (watch way new).answer ∷ watchedAnswers (watch way new).way trace
+unfoldable pub watched_answers : Way → List ℕ → List Answer
+watched_answers way [] = []
+watched_answers way (new ∷ trace) = (watch way new).answer ∷ watched_answers (watch way new).way trace
 
 -- The follower's mark is as good as the whole way: the same answers to every trace from the start.
 pub record HistoryKept : Type 0 where
-  pub same-answers : (trace : List ℕ) → answers idle trace ≡ watchedAnswers (came-to IDLE []) trace
+  pub same_answers_lem : (trace : List ℕ) → answers idle trace ≡ watched_answers (came_to IDLE []) trace

@@ -1,7 +1,7 @@
 // The follower of one port's lines, by value: a step for each setting that is seen.
 ghost use Rattle.std.specs.Prelude.{◌<◌, ◌≡◌};
-ghost use Rattle.lines.specs.Moves.{movesTable};
-ghost use Rattle.lines.specs.Follower.{lacksHistory, remembers, undefinedAt, whileLost, moved, Started, Stepped, ReachedSaid};
+ghost use Rattle.lines.specs.Moves.{moves_table};
+ghost use Rattle.lines.specs.Follower.{lacks_history, remembers, undefined_at, while_lost, moved, Started, Stepped, ReachedSaid};
 ghost use Rattle.lines.specs.Reading.{OctetSaid};
 
 use crate::{line, table};
@@ -68,7 +68,7 @@ impl Follower {
     }
 
     pub(crate) fn step_by(self, moves: &[u8], setting: u8) -> Followed
-        requires { moves.now ≡ movesTable }
+        requires { moves.now ≡ moves_table }
         ensures { Stepped self setting result }
     {
         if !self.is_reached() {
@@ -117,7 +117,7 @@ impl Follower {
     }
 
     fn moved(self, moves: &[u8], setting: u8) -> Followed
-        requires { (moves.now ≡ movesTable) × (self.setting < 32) × (setting < 32) }
+        requires { (moves.now ≡ moves_table) × (self.setting < 32) × (setting < 32) }
         ensures { result ≡ moved self setting }
     {
         if setting == self.setting {
@@ -146,7 +146,7 @@ impl Follower {
     }
 
     fn lacks_history(self, setting: u8) -> bool
-        ensures { result ≡ lacksHistory self setting }
+        ensures { result ≡ lacks_history self setting }
     {
         if self.history {
             return false;
@@ -178,7 +178,7 @@ impl Follower {
 
 // IDLE where the setting is 0, else lost.
 pub(crate) fn undefined_at(setting: u8) -> Followed
-    ensures { result ≡ undefinedAt setting }
+    ensures { result ≡ undefined_at setting }
 {
     Followed {
         answer: Answer::Undefined,
@@ -191,7 +191,7 @@ pub(crate) fn undefined_at(setting: u8) -> Followed
 }
 
 pub(crate) fn while_lost(setting: u8) -> Followed
-    ensures { result ≡ whileLost setting }
+    ensures { result ≡ while_lost setting }
 {
     if setting == line::IDLE {
         return Followed {

@@ -1,6 +1,6 @@
 // The five control lines: the part of each in a setting, and its owner.
 ghost use Rattle.std.specs.Prelude.{◌≡◌};
-ghost use Rattle.lines.specs.Line.{namedSettings, WeightSaid, OwnerSaid};
+ghost use Rattle.lines.specs.Line.{named_settings, WeightSaid, OwnerSaid};
 
 // The settings that have a name.
 pub const IDLE: u8 = 0;
@@ -33,7 +33,7 @@ pub const XFRRES: u8 = 31;
 
 // Nothing calls it: its promise holds the names above to document 01's numbers.
 fn named_settings() -> [u8; 14]
-    ensures { result ≡ namedSettings }
+    ensures { result ≡ named_settings }
 {
     [
         IDLE, MAINT, REQUEST, DESEL, SELECT, SLAVEND, SLAVACK, BUSCTL, MASTEND, BUSACK, XFRRDY,

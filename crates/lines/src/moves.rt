@@ -1,6 +1,6 @@
 // What a pair of settings is.
 ghost use Rattle.std.specs.Prelude.{◌≡◌};
-ghost use Rattle.lines.specs.Moves.{saidBy, MoveSaid};
+ghost use Rattle.lines.specs.Moves.{said_by, MoveSaid};
 
 use crate::{line, table};
 
@@ -28,7 +28,7 @@ pub fn move_of(old: u8, new: u8) -> Move
 
 // What an entry of the table says.
 fn said_by(entry: u8) -> Move
-    ensures { result ≡ saidBy entry }
+    ensures { result ≡ said_by entry }
 {
     match entry {
         0 => Move::Same,

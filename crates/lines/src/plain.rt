@@ -1,10 +1,10 @@
 // A whole trace of settings without the table: the controller's turn hands over to the drive's turn and back.
 ghost use Rattle.std.specs.Prelude.{◌+◌, ◌<◌, ◌≤◌, ◌≡◌, not, ◌&&◌, length};
-ghost use Rattle.lines.specs.Moves.{isListed, controllersMoves, drivesMoves};
-ghost use Rattle.lines.specs.Follower.{◌with-history◌, told, lacksHistory, remembers, Stepped};
+ghost use Rattle.lines.specs.Moves.{is_listed, controllers_moves, drives_moves};
+ghost use Rattle.lines.specs.Follower.{◌with-history◌, told, lacks_history, remembers, Stepped};
 ghost use Rattle.lines.specs.declared.follower.Answer.TheVariants.{Refused};
-ghost use Rattle.lines.specs.Reading.{Leaves, stepByStep, TraceRead};
-ghost use Rattle.lines.specs.Turns.{nobodysMove, controllerTakes, driveTakes, controllersTurn, drivesTurn, readPlainly};
+ghost use Rattle.lines.specs.Reading.{Leaves, step_by_step, TraceRead};
+ghost use Rattle.lines.specs.Turns.{nobodys_move, controller_takes, drive_takes, controllers_turn, drives_turn, read_plainly};
 
 use crate::follower::{Answer, Followed, Follower, undefined_at, while_lost};
 use crate::line;
@@ -15,7 +15,7 @@ const STRETCH: usize = 16;
 
 // What `follow` does: 10 where the slice for the answers is shorter than the trace, and then nothing changes.
 pub fn read_plainly(follower: Follower, trace: &[u8], answers: &mut [u8]) -> Traced
-    ensures { TraceRead (readPlainly follower trace.now) trace.now answers.old result answers.new }
+    ensures { TraceRead (read_plainly follower trace.now) trace.now answers.old result answers.new }
 {
     if answers.len() < trace.len() {
         return Traced::Refused(line::ANSWERS_TOO_SHORT);
@@ -41,7 +41,7 @@ pub fn step_plainly(follower: Follower, setting: u8) -> Followed
 
 fn read_stretches(follower: Follower, trace: &[u8], answers: &mut [u8]) -> Follower
     requires { length trace.now ≤ length answers.old }
-    ensures { Leaves (stepByStep follower trace.now) answers.old result answers.new }
+    ensures { Leaves (step_by_step follower trace.now) answers.old result answers.new }
 {
     let mut last = follower;
     let mut at = 0;
@@ -66,7 +66,7 @@ fn end_of_stretch(at: usize, length: usize) -> usize
 // The controller has the first turn, unless a move of the drive comes.
 fn read_stretch(follower: Follower, stretch: &[u8], answers: &mut [u8]) -> Follower
     requires { (0 < length stretch.now) × (length stretch.now ≤ 16) × (length stretch.now ≤ length answers.old) }
-    ensures { Leaves (stepByStep follower stretch.now) answers.old result answers.new }
+    ensures { Leaves (step_by_step follower stretch.now) answers.old result answers.new }
 {
     if is_drives(follower.setting, stretch[0]) {
         return drives_turn(follower, stretch, answers);
@@ -77,7 +77,7 @@ fn read_stretch(follower: Follower, stretch: &[u8], answers: &mut [u8]) -> Follo
 #[cycle(controllers_turn_drives_turn)]
 fn controllers_turn(follower: Follower, rest: &[u8], answers: &mut [u8]) -> Follower
     requires { (0 < length rest.now) × (length rest.now ≤ 16) × (length rest.now ≤ length answers.old) }
-    ensures { Leaves (controllersTurn follower rest.now) answers.old result answers.new }
+    ensures { Leaves (controllers_turn follower rest.now) answers.old result answers.new }
 {
     let taken = controller_takes(follower, rest[0]);
     let answer = taken.answer;
@@ -97,7 +97,7 @@ fn controllers_turn(follower: Follower, rest: &[u8], answers: &mut [u8]) -> Foll
 #[cycle(controllers_turn_drives_turn)]
 fn drives_turn(follower: Follower, rest: &[u8], answers: &mut [u8]) -> Follower
     requires { (0 < length rest.now) × (length rest.now ≤ 16) × (length rest.now ≤ length answers.old) }
-    ensures { Leaves (drivesTurn follower rest.now) answers.old result answers.new }
+    ensures { Leaves (drives_turn follower rest.now) answers.old result answers.new }
 {
     let taken = drive_takes(follower, rest[0]);
     let answer = taken.answer;
@@ -115,7 +115,7 @@ fn drives_turn(follower: Follower, rest: &[u8], answers: &mut [u8]) -> Follower
 }
 
 fn controller_takes(follower: Follower, new: u8) -> Followed
-    ensures { result ≡ controllerTakes follower new }
+    ensures { result ≡ controller_takes follower new }
 {
     if !follower.is_reached() {
         return never_reached(follower);
@@ -127,7 +127,7 @@ fn controller_takes(follower: Follower, new: u8) -> Followed
 }
 
 fn drive_takes(follower: Follower, new: u8) -> Followed
-    ensures { result ≡ driveTakes follower new }
+    ensures { result ≡ drive_takes follower new }
 {
     if !follower.is_reached() {
         return never_reached(follower);
@@ -140,7 +140,7 @@ fn drive_takes(follower: Follower, new: u8) -> Followed
 
 // "controller: 0→4, 4→0, 0→1, 1→0, 0→16, 16→0, 24→25, 27→26, 24→28, 30→31, 29→28, 30→26, 20→16, 24→8", and "Two moves also need history."
 fn is_controllers(old: u8, history: bool, new: u8) -> bool
-    ensures { result ≡ (isListed controllersMoves old new && not (lacksHistory (old with-history history) new)) }
+    ensures { result ≡ (is_listed controllers_moves old new && not (lacks_history (old with-history history) new)) }
 {
     match old {
         0 => (new == 4) | (new == 1) | (new == 16),
@@ -158,7 +158,7 @@ fn is_controllers(old: u8, history: bool, new: u8) -> bool
 
 // "drive: 16→24, 25→27, 26→24, 28→20, 28→30, 31→29, 8→0"
 fn is_drives(old: u8, new: u8) -> bool
-    ensures { result ≡ isListed drivesMoves old new }
+    ensures { result ≡ is_listed drives_moves old new }
 {
     match old {
         16 => new == 24,
@@ -190,7 +190,7 @@ fn moved(follower: Follower, new: u8, side: Answer) -> Followed
 }
 
 fn nobodys_move(follower: Follower, new: u8) -> Followed
-    ensures { result ≡ nobodysMove follower new }
+    ensures { result ≡ nobodys_move follower new }
 {
     if line::LAST_SETTING < new {
         return Followed {

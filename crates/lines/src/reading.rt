@@ -1,7 +1,7 @@
 // A whole trace of settings by the table: so many steps, and an octet for each answer.
 ghost use Rattle.std.specs.Prelude.{◌≤◌, ◌≡◌, length};
-ghost use Rattle.lines.specs.Moves.{movesTable};
-ghost use Rattle.lines.specs.Reading.{Leaves, stepByStep, TraceRead};
+ghost use Rattle.lines.specs.Moves.{moves_table};
+ghost use Rattle.lines.specs.Reading.{Leaves, step_by_step, TraceRead};
 
 use crate::follower::Follower;
 use crate::{line, table};
@@ -15,7 +15,7 @@ pub enum Traced {
 
 // 10 where the slice for the answers is shorter than the trace: then nothing changes.
 pub fn follow(follower: Follower, trace: &[u8], answers: &mut [u8]) -> Traced
-    ensures { TraceRead (stepByStep follower trace.now) trace.now answers.old result answers.new }
+    ensures { TraceRead (step_by_step follower trace.now) trace.now answers.old result answers.new }
 {
     if answers.len() < trace.len() {
         return Traced::Refused(line::ANSWERS_TOO_SHORT);
@@ -24,8 +24,8 @@ pub fn follow(follower: Follower, trace: &[u8], answers: &mut [u8]) -> Traced
 }
 
 fn steps(follower: Follower, moves: &[u8], trace: &[u8], answers: &mut [u8]) -> Follower
-    requires { (moves.now ≡ movesTable) × (length trace.now ≤ length answers.old) }
-    ensures { Leaves (stepByStep follower trace.now) answers.old result answers.new }
+    requires { (moves.now ≡ moves_table) × (length trace.now ≤ length answers.old) }
+    ensures { Leaves (step_by_step follower trace.now) answers.old result answers.new }
 {
     let mut last = follower;
     let mut i = 0;

@@ -1,10 +1,10 @@
 // The table of all 1,024 pairs of settings, indexed by 32 times old plus new.
 ghost use Rattle.std.specs.Prelude.{◌<◌, ◌≡◌};
-ghost use Rattle.lines.specs.Moves.{entry_of, movesTable};
+ghost use Rattle.lines.specs.Moves.{entry_of, moves_table};
 
 // Whoever asks often lends the table: the compiler builds it anew wherever it is named.
 pub(crate) fn entry(moves: &[u8], old: u8, new: u8) -> u8
-    requires { (moves.now ≡ movesTable) × (old < 32) × (new < 32) }
+    requires { (moves.now ≡ moves_table) × (old < 32) × (new < 32) }
     ensures { result ≡ entry_of old new }
 {
     let at = 32 * (old as usize) + new as usize;

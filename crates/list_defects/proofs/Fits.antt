@@ -7,26 +7,26 @@ use mathlib.Core.List.{List}
 use native.Mathlib.Omega.{arith}
 use lib.ListN.{length, drop, length-append}
 use Rattle.laws.specs.Pick.{pick}
-use Rattle.laws.specs.Lists.{writtenOver}
+use Rattle.laws.specs.Lists.{written_over}
 use Rattle.laws.proofs.Differ.{never}
 use Rattle.parts.specs.declared.setup.Setup.{Setup}
-use Rattle.defects.specs.Defect.{listOctets}
-use Rattle.defects.specs.Decoding.{DecodedMap, decodeOffence, defectsOf}
+use Rattle.defects.specs.Defect.{list_octets}
+use Rattle.defects.specs.Decoding.{DecodedMap, decode_offence, defects_of}
 use Rattle.defects.specs.declared.defect.Defect.{Defect}
 use Rattle.defects.specs.declared.decoding.MapRead.TheVariants.{Map, Refused}
-use Rattle.defects.proofs.DefectOctets.{length-list}
+use Rattle.defects.proofs.DefectOctets.{length_list}
 
 module _ (count cylinder head number offset cylinder' head' : ℕ) (defects : List Defect) (before after : List ℕ) (kept : length after ≡ length before) where
-  listed-within : (refused : Bool) → Map count cylinder head ≡ pick refused (Refused number offset) (Map (length defects) cylinder' head')
-      → after ≡ pick refused before (writtenOver before (listOctets defects)) → 12 * count ≤ length after
+  listed_within : (refused : Bool) → Map count cylinder head ≡ pick refused (Refused number offset) (Map (length defects) cylinder' head')
+      → after ≡ pick refused before (written_over before (list_octets defects)) → 12 * count ≤ length after
   unfolding pick
-  listed-within true answer slice = absurd (never (cc))
-  listed-within false answer slice =
-      let octets = listOctets defects in
+  listed_within true answer slice = absurd (never (cc))
+  listed_within false answer slice =
+      let octets = list_octets defects in
       let counted : count ≡ length defects = cc in
-      omega (arith, length-list defects, ap length slice ∙ length-append octets (drop (length octets) before))
+      omega (arith, length_list defects, ap length slice ∙ length-append octets (drop (length octets) before))
 
-pub told-within : {s : Setup} {octets before after : List ℕ} {count cylinder head : ℕ} → DecodedMap s octets before after (Map count cylinder head) → length after ≡ length before
+pub told_within : {s : Setup} {octets before after : List ℕ} {count cylinder head : ℕ} → DecodedMap s octets before after (Map count cylinder head) → length after ≡ length before
     → 12 * count ≤ length after
-told-within {s} {octets} {before} {after} told kept =
-    listed-within _ _ _ _ _ _ _ (defectsOf s octets) before after kept (decodeOffence s octets before).found told.answer told.slice
+told_within {s} {octets} {before} {after} told kept =
+    listed_within _ _ _ _ _ _ _ (defects_of s octets) before after kept (decode_offence s octets before).found told.answer told.slice

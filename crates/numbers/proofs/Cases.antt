@@ -5,6 +5,6 @@ use Rattle.laws.specs.Pick.{pick}
 use Rattle.numbers.specs.Number.{number_in}
 use Rattle.numbers.specs.Cases.{NumberCases}
 
-pub number-cases : NumberCases
+pub number_cases : NumberCases
 unfolding pick number_in
-number-cases = record { smallest = refl; largest = refl; zerosInFront = refl }
+number_cases = record { smallest = refl; largest = refl; zeros_in_front = refl }

@@ -3,9 +3,9 @@
 use Prim.Native.Nat.{ℕ}
 use mathlib.Core.Path.{◌≡◌}
 use mathlib.Core.List.{List}
-use Rattle.laws.proofs.Only.{answer-only}
+use Rattle.laws.proofs.Only.{answer_only}
 use Rattle.numbers.specs.Number.{number_in}
 use Rattle.numbers.specs.declared.number.Number.{Number}
 
-pub number-of-only : (digits : List ℕ) (r s : Number) → r ≡ number_in digits → s ≡ number_in digits → r ≡ s
-number-of-only digits r s p q = answer-only p q
+pub number_of_only : (digits : List ℕ) (r s : Number) → r ≡ number_in digits → s ≡ number_in digits → r ≡ s
+number_of_only digits r s p q = answer_only p q

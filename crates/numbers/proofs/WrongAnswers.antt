@@ -5,14 +5,14 @@ use Rattle.laws.proofs.Differ.{never}
 use Rattle.numbers.specs.Number.{number_in}
 use Rattle.numbers.specs.WrongAnswers.{WrongAnswers}
 
-pub wrong-answers : WrongAnswers
+pub wrong_answers : WrongAnswers
 unfolding pick number_in
-wrong-answers =
+wrong_answers =
     record {
-      goneRound = λ h. never (cc);
-      nothingAsZero = λ h. never (cc);
-      signSkipped = λ h. never (cc);
-      letterLeftOut = λ h. never (cc);
-      eleventhDigitTaken = λ h. never (cc);
-      lastDigitFirst = λ h. never (cc);
+      gone_round = λ h. never (cc);
+      nothing_as_zero = λ h. never (cc);
+      sign_skipped = λ h. never (cc);
+      letter_left_out = λ h. never (cc);
+      eleventh_digit_taken = λ h. never (cc);
+      last_digit_first = λ h. never (cc);
     }

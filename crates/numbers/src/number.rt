@@ -1,6 +1,6 @@
 // A number as decimal digits spell it.
 ghost use Rattle.std.specs.Prelude.{◌-◌, ◌≤◌, ◌≡◌};
-ghost use Rattle.numbers.specs.Number.{isDigit, number_in};
+ghost use Rattle.numbers.specs.Number.{is_digit, number_in};
 
 #[derive(Drop)]
 pub enum Number {
@@ -37,7 +37,7 @@ pub fn number_of(digits: &[u8]) -> Number
 }
 
 fn is_digit(octet: u8) -> bool
-    ensures { result ≡ isDigit octet }
+    ensures { result ≡ is_digit octet }
 {
     (b'0' <= octet) & (octet <= b'9')
 }

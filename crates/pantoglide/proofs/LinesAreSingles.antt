@@ -1,4 +1,4 @@
--- `lines-are-singles`: what `pg_line` does with a setting and `pg_lines` with the rest is what `pg_lines` does with both.
+-- `lines_are_singles`: what `pg_line` does with a setting and `pg_lines` with the rest is what `pg_lines` does with both.
 -- Assumes nothing.
 use Prim.Native.Nat.{ℕ, zero, suc, ◌+◌, ◌/◌, ◌%◌, ◌<◌, ◌≤◌}
 use mathlib.Core.Path.{◌≡◌, refl, sym, ap, ap₂, ◌∙◌}
@@ -10,20 +10,20 @@ use lib.Dec.{eqb}
 use lib.ListN.{length, get_or, set}
 use lib.Seq.{set-set, set-get_or}
 use Rattle.laws.specs.Pick.{pick}
-use Rattle.laws.specs.Rows.{first, unlessRefused}
+use Rattle.laws.specs.Rows.{first, unless_refused}
 use Rattle.laws.specs.Octets.{bit}
-use Rattle.laws.proofs.Rows.{all-passed, refused_as}
-use Rattle.lines.specs.Follower.{is_reached, stepRows, step_of}
+use Rattle.laws.proofs.Rows.{all_passed, refused_as}
+use Rattle.lines.specs.Follower.{is_reached, step_rows, step_of}
 use Rattle.lines.specs.Traces.{after, answers}
-use Rattle.lines.specs.Reading.{octetOf, answersIn, readRows, stepByStep}
-use Rattle.lines.proofs.Step.{unreached-refused}
-use Rattle.lines.proofs.Reached.{reached-below-32, step_stays}
+use Rattle.lines.specs.Reading.{octet_of, answers_in, read_rows, step_by_step}
+use Rattle.lines.proofs.Step.{unreached_refused}
+use Rattle.lines.proofs.Reached.{reached_below_32, step_stays}
 use Rattle.lines.specs.declared.follower.Follower.{Follower}
 use Rattle.lines.specs.declared.follower.Followed.{Followed}
-use Rattle.pantoglide.specs.Line.{settingIn, followerIn, followerOctet, LineFollowed}
-use Rattle.pantoglide.specs.Lines.{linesRows, octetLeft, LinesRead, LinesAreSingles}
-use Rattle.pantoglide.proofs.Lines.{Ends, answered, refused, step-ends, with-octet}
-use Rattle.pantoglide.proofs.LinesFollow.{lines-follow}
+use Rattle.pantoglide.specs.Line.{setting_in, follower_in, follower_octet, LineFollowed}
+use Rattle.pantoglide.specs.Lines.{lines_rows, octet_left, LinesRead, LinesAreSingles}
+use Rattle.pantoglide.proofs.Lines.{Ends, answered, refused, step_ends, with_octet}
+use Rattle.pantoglide.proofs.LinesFollow.{lines_follow}
 
 -- ---- an octet that a trace reaches is written back as it was
 
@@ -59,79 +59,79 @@ unfolding pick
 low octet true e h s = absurd (omega arith)
 low octet false e h s = let a = even (octet / 128) e in omega arith
 
-written_back : (octet : ℕ) → octet < 256 → is_reached (followerIn octet) ≡ true → followerOctet (followerIn octet) ≡ octet
-unfolding followerOctet followerIn settingIn pick
+written_back : (octet : ℕ) → octet < 256 → is_reached (follower_in octet) ≡ true → follower_octet (follower_in octet) ≡ octet
+unfolding follower_octet follower_in setting_in pick
 written_back octet h e =
-    let small = reached-below-32 (followerIn octet) e in
+    let small = reached_below_32 (follower_in octet) e in
     let under = low octet (bit 7 octet) refl h small in
     let clear : bit 7 octet ≡ false = ne_eqb (octet / 128 % 2) 1 (λ one. omega arith) in
     rw clear (let m : octet % 32 % 32 ≡ octet % 32 = omega arith in rw m (by_bits octet (bit 5 octet) (bit 6 octet) refl refl under))
 
-stays : (octets : List ℕ) → get_or octets 0 0 < 256 → (reached : Bool) → is_reached (followerIn (get_or octets 0 0)) ≡ reached → octets ≡ octetLeft octets (followerIn (get_or octets 0 0))
+stays : (octets : List ℕ) → get_or octets 0 0 < 256 → (reached : Bool) → is_reached (follower_in (get_or octets 0 0)) ≡ reached → octets ≡ octet_left octets (follower_in (get_or octets 0 0))
 unfolding pick
 stays octets h true e = rw e (sym (ap (set octets 0) (written_back (get_or octets 0 0) h e) ∙ set-get_or octets 0 0))
 stays octets h false e = rw e
 
-no-setting : {octets : List ℕ} (room : List ℕ) → 1 ≤ length octets → get_or octets 0 0 < 256 → LinesRead stepByStep octets [] room 0 octets room
+no_setting : {octets : List ℕ} (room : List ℕ) → 1 ≤ length octets → get_or octets 0 0 < 256 → LinesRead step_by_step octets [] room 0 octets room
 unfolding after answers pick
-no-setting {octets} room there h =
+no_setting {octets} room there h =
     record {
-      refusal = sym (with-octet octets (readRows [] room) there ∙ rw (le-ltb (length room) 0 (omega arith)));
-      follower = stays octets h (is_reached (followerIn (get_or octets 0 0))) refl;
+      refusal = sym (with_octet octets (read_rows [] room) there ∙ rw (le-ltb (length room) 0 (omega arith)));
+      follower = stays octets h (is_reached (follower_in (get_or octets 0 0))) refl;
       answers = refl;
     }
 
 -- ---- a setting more
 
 module _ {octets : List ℕ} {setting r : ℕ} {octets₁ trace room octets₂ room₁ : List ℕ} (slot : ℕ) (there : 1 ≤ length octets) (w : LineFollowed octets setting r octets₁)
-    (v : LinesRead stepByStep octets₁ trace room 0 octets₂ room₁) where
+    (v : LinesRead step_by_step octets₁ trace room 0 octets₂ room₁) where
   abbrev before : Follower
-  before = followerIn (get_or octets 0 0)
+  before = follower_in (get_or octets 0 0)
 
   abbrev next : Follower
   next = (step_of before setting).follower
 
-  followed : followerIn (get_or octets₁ 0 0) ≡ next
-  followed = lines-follow.next there w
+  followed : follower_in (get_or octets₁ 0 0) ≡ next
+  followed = lines_follow.next there w
 
-  number : r ≡ octetOf (step_of before setting).answer
-  number = by_end (step-ends before setting)
+  number : r ≡ octet_of (step_of before setting).answer
+  number = by_end_lem (step_ends before setting)
     where
-      told : r ≡ unlessRefused (first (stepRows before setting)) (first (stepRows before setting)) (octetOf (step_of before setting).answer)
-      told = rw (with-octet octets (stepRows before setting) there) at w.answer
+      told : r ≡ unless_refused (first (step_rows before setting)) (first (step_rows before setting)) (octet_of (step_of before setting).answer)
+      told = rw (with_octet octets (step_rows before setting) there) at w.answer
 
-      by_end : Ends (first (stepRows before setting)) (octetOf (step_of before setting).answer) → r ≡ octetOf (step_of before setting).answer
-      by_end (answered z k) = rw z at told
-      by_end (refused s p q) = told ∙ sym (refused_as _ _ (λ m. m) _ s (λ z. omega arith))
+      by_end_lem : Ends (first (step_rows before setting)) (octet_of (step_of before setting).answer) → r ≡ octet_of (step_of before setting).answer
+      by_end_lem (answered z k) = rw z at told
+      by_end_lem (refused s p q) = told ∙ sym (refused_as _ _ (λ m. m) _ s (λ z. omega arith))
 
-  put : octets₁ ≡ unlessRefused (first (stepRows before setting)) octets (set octets 0 (followerOctet next))
-  put = rw (with-octet octets (stepRows before setting) there) at w.follower
+  put : octets₁ ≡ unless_refused (first (step_rows before setting)) octets (set octets 0 (follower_octet next))
+  put = rw (with_octet octets (step_rows before setting) there) at w.follower
 
-  set-again : (n x : ℕ) → octets₁ ≡ unlessRefused n octets (set octets 0 (followerOctet next)) → set octets₁ 0 x ≡ set octets 0 x
-  set-again zero x e = rw e (set-set octets 0 (followerOctet next) x)
-  set-again (suc n) x e = rw e
+  set_again : (n x : ℕ) → octets₁ ≡ unless_refused n octets (set octets 0 (follower_octet next)) → set octets₁ 0 x ≡ set octets 0 x
+  set_again zero x e = rw e (set-set octets 0 (follower_octet next) x)
+  set_again (suc n) x e = rw e
 
-  left_by : (last : Follower) (reached : Bool) → is_reached before ≡ reached → octetLeft octets₁ last ≡ octetLeft octets last
+  left_by : (last : Follower) (reached : Bool) → is_reached before ≡ reached → octet_left octets₁ last ≡ octet_left octets last
   unfolding pick
   left_by last true e =
-      let reached : is_reached (followerIn (get_or octets₁ 0 0)) ≡ true = ap is_reached followed ∙ step_stays before setting e in
-      rw (reached, e) (set-again (first (stepRows before setting)) (followerOctet last) put)
+      let reached : is_reached (follower_in (get_or octets₁ 0 0)) ≡ true = ap is_reached followed ∙ step_stays before setting e in
+      rw (reached, e) (set_again (first (step_rows before setting)) (follower_octet last) put)
   left_by last false e =
-      let same : next ≡ before = ap (λ (d : Followed). d.follower) (unreached-refused before setting e) in
-      let unreached : is_reached (followerIn (get_or octets₁ 0 0)) ≡ false = ap is_reached (followed ∙ same) ∙ e in
+      let same : next ≡ before = ap (λ (d : Followed). d.follower) (unreached_refused before setting e) in
+      let unreached : is_reached (follower_in (get_or octets₁ 0 0)) ≡ false = ap is_reached (followed ∙ same) ∙ e in
       rw (unreached, e) (put ∙ rw e)
 
   enough : length trace ≤ length room
-  enough = ltb-false (length room) (length trace) (all-passed (linesRows octets₁ trace room) refl (sym v.refusal)).1.0
+  enough = ltb-false (length room) (length trace) (all_passed (lines_rows octets₁ trace room) refl (sym v.refusal)).1.0
 
-  both : LinesRead stepByStep octets (setting ∷ trace) (slot ∷ room) 0 octets₂ (r ∷ room₁)
+  both : LinesRead step_by_step octets (setting ∷ trace) (slot ∷ room) 0 octets₂ (r ∷ room₁)
   unfolding after answers pick
   both =
       record {
-        refusal = sym (with-octet octets (readRows (setting ∷ trace) (slot ∷ room)) there ∙ rw (le-ltb (length (slot ∷ room)) (length (setting ∷ trace)) (omega (arith, enough))));
-        follower = v.follower ∙ ap (λ (f : Follower). octetLeft octets₁ (after f trace)) followed ∙ left_by (after next trace) (is_reached before) refl;
-        answers = ap₂ (λ (n : ℕ) (list : List ℕ). n ∷ list) number (v.answers ∙ ap (λ (f : Follower). answersIn room (stepByStep f trace)) followed);
+        refusal = sym (with_octet octets (read_rows (setting ∷ trace) (slot ∷ room)) there ∙ rw (le-ltb (length (slot ∷ room)) (length (setting ∷ trace)) (omega (arith, enough))));
+        follower = v.follower ∙ ap (λ (f : Follower). octet_left octets₁ (after f trace)) followed ∙ left_by (after next trace) (is_reached before) refl;
+        answers = ap₂ (λ (n : ℕ) (list : List ℕ). n ∷ list) number (v.answers ∙ ap (λ (f : Follower). answers_in room (step_by_step f trace)) followed);
       }
 
-pub lines-are-singles : LinesAreSingles
-lines-are-singles = record { none = no-setting; one_more = λ slot there w v. both slot there w v }
+pub lines_are_singles : LinesAreSingles
+lines_are_singles = record { none = no_setting; one_more = λ slot there w v. both slot there w v }

@@ -1,5 +1,5 @@
 // A defect both ways, and the places of a defect map.
-ghost use Rattle.drive.specs.Power.{setupOf};
+ghost use Rattle.drive.specs.Power.{setup_of};
 ghost use Rattle.pantoglide.specs.Defects.{DefectTold, DefectMade, PlaceTold};
 
 use defects::{Defect, DefectRead, Encoded, MapPlace};
@@ -66,7 +66,7 @@ pub extern "C" fn pg_map_place(
     head: &mut u16,
     sector: &mut u16,
 ) -> u8
-    ensures { PlaceTold (setupOf cylinders heads sectors header field1 field2 address) data_field cylinder.old head.old sector.old result cylinder.new head.new sector.new }
+    ensures { PlaceTold (setup_of cylinders heads sectors header field1 field2 address) data_field cylinder.old head.old sector.old result cylinder.new head.new sector.new }
 {
     let setup = Setup {
         cylinders,

@@ -1,5 +1,5 @@
 // One event on the words of the state.
-ghost use Rattle.events.specs.Event.{eventOfOctets, EventOnWords};
+ghost use Rattle.events.specs.Event.{event_of_octets, EventOnWords};
 
 use parts::Event;
 
@@ -16,7 +16,7 @@ pub extern "C" fn pg_event(
     staging: &mut [u16],
     answer: &mut [u16],
 ) -> u8
-    ensures { EventOnWords state.old (eventOfOctets port kind a0 a1 a2 a3) sectors.old staging.old answer.old result state.new sectors.new staging.new answer.new }
+    ensures { EventOnWords state.old (event_of_octets port kind a0 a1 a2 a3) sectors.old staging.old answer.old result state.new sectors.new staging.new answer.new }
 {
     let event = Event {
         port,

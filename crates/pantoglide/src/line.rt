@@ -1,7 +1,7 @@
 // The line follower as one octet.
 ghost use Rattle.std.specs.Prelude.{◌≤◌, ◌≡◌};
 ghost use Rattle.laws.specs.Pick.{pick};
-ghost use Rattle.pantoglide.specs.Line.{settingIn, followerIn, followerOctet, LineFollowed};
+ghost use Rattle.pantoglide.specs.Line.{setting_in, follower_in, follower_octet, LineFollowed};
 
 use lines::Follower;
 
@@ -33,7 +33,7 @@ pub extern "C" fn pg_line(follower: &mut [u8], setting: u8) -> u8
 }
 
 pub(crate) fn follower_in(octet: u8) -> Follower
-    ensures { result ≡ followerIn octet }
+    ensures { result ≡ follower_in octet }
 {
     Follower {
         setting: setting_in(octet),
@@ -43,7 +43,7 @@ pub(crate) fn follower_in(octet: u8) -> Follower
 }
 
 fn setting_in(octet: u8) -> u8
-    ensures { result ≡ settingIn octet }
+    ensures { result ≡ setting_in octet }
 {
     if octet / 128 % 2 == 1 {
         return NO_SETTING;
@@ -52,7 +52,7 @@ fn setting_in(octet: u8) -> u8
 }
 
 pub(crate) fn follower_octet(follower: Follower) -> u8
-    ensures { result ≡ followerOctet follower }
+    ensures { result ≡ follower_octet follower }
 {
     let history = mark(follower.history, HISTORY);
     let lost = mark(follower.lost, LOST);

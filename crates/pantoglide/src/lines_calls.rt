@@ -1,15 +1,15 @@
 // A trace of settings behind the follower's octet, by the table and without it.
 ghost use Rattle.std.specs.Prelude.{◌≤◌, ◌≡◌, length};
-ghost use Rattle.lines.specs.Reading.{stepByStep};
-ghost use Rattle.lines.specs.Turns.{readPlainly};
-ghost use Rattle.pantoglide.specs.Lines.{octetLeft, LinesRead};
+ghost use Rattle.lines.specs.Reading.{step_by_step};
+ghost use Rattle.lines.specs.Turns.{read_plainly};
+ghost use Rattle.pantoglide.specs.Lines.{octet_left, LinesRead};
 
 use crate::line;
 use lines::{Follower, Traced};
 
 #[unsafe(no_mangle)]
 pub extern "C" fn pg_lines(follower: &mut [u8], trace: &[u8], answers: &mut [u8]) -> u8
-    ensures { LinesRead stepByStep follower.old trace.now answers.old result follower.new answers.new }
+    ensures { LinesRead step_by_step follower.old trace.now answers.old result follower.new answers.new }
 {
     if follower.len() < 1 {
         return parts::SLICE_TOO_SHORT;
@@ -25,7 +25,7 @@ pub extern "C" fn pg_lines(follower: &mut [u8], trace: &[u8], answers: &mut [u8]
 
 #[unsafe(no_mangle)]
 pub extern "C" fn pg_lines_plain(follower: &mut [u8], trace: &[u8], answers: &mut [u8]) -> u8
-    ensures { LinesRead readPlainly follower.old trace.now answers.old result follower.new answers.new }
+    ensures { LinesRead read_plainly follower.old trace.now answers.old result follower.new answers.new }
 {
     if follower.len() < 1 {
         return parts::SLICE_TOO_SHORT;
@@ -42,7 +42,7 @@ pub extern "C" fn pg_lines_plain(follower: &mut [u8], trace: &[u8], answers: &mu
 // An octet that stands for no follower stays, every bit of it.
 fn put_last(follower: &mut [u8], last: Follower)
     requires { 1 ≤ length follower.old }
-    ensures { follower.new ≡ octetLeft follower.old last }
+    ensures { follower.new ≡ octet_left follower.old last }
 {
     if line::follower_in(follower[0]).is_reached() {
         follower[0] = line::follower_octet(last);

@@ -1,5 +1,5 @@
 // The maker's defect map: decoded and encoded, and on the last cylinder's sectors.
-ghost use Rattle.drive.specs.Power.{setupOf};
+ghost use Rattle.drive.specs.Power.{setup_of};
 ghost use Rattle.pantoglide.specs.Defects.{MapTold, MapMade, MapReadOff, MapPut};
 
 use defects::{Encoded, MapEncoded, MapRead};
@@ -22,7 +22,7 @@ pub extern "C" fn pg_decode_map(
     storage_head: &mut u16,
     offset: &mut usize,
 ) -> u8
-    ensures { MapTold (setupOf cylinders heads sectors header field1 field2 address) octets.now defects.old count.old storage_cylinder.old storage_head.old offset.old result defects.new count.new storage_cylinder.new storage_head.new offset.new }
+    ensures { MapTold (setup_of cylinders heads sectors header field1 field2 address) octets.now defects.old count.old storage_cylinder.old storage_head.old offset.old result defects.new count.new storage_cylinder.new storage_head.new offset.new }
 {
     let setup = Setup {
         cylinders,
@@ -70,7 +70,7 @@ pub extern "C" fn pg_encode_map(
     out: &mut [u8],
     size: &mut usize,
 ) -> u8
-    ensures { MapMade (setupOf cylinders heads sectors header field1 field2 address) storage_cylinder storage_head defects.now out.old size.old result out.new size.new }
+    ensures { MapMade (setup_of cylinders heads sectors header field1 field2 address) storage_cylinder storage_head defects.now out.old size.old result out.new size.new }
 {
     let setup = Setup {
         cylinders,
@@ -107,7 +107,7 @@ pub extern "C" fn pg_read_map(
     storage_head: &mut u16,
     offset: &mut usize,
 ) -> u8
-    ensures { MapReadOff (setupOf cylinders heads sectors header field1 field2 address) sector_words.now defects.old count.old storage_cylinder.old storage_head.old offset.old result defects.new count.new storage_cylinder.new storage_head.new offset.new }
+    ensures { MapReadOff (setup_of cylinders heads sectors header field1 field2 address) sector_words.now defects.old count.old storage_cylinder.old storage_head.old offset.old result defects.new count.new storage_cylinder.new storage_head.new offset.new }
 {
     let setup = Setup {
         cylinders,
@@ -154,7 +154,7 @@ pub extern "C" fn pg_write_map(
     defects: &[u8],
     sector_words: &mut [u16],
 ) -> u8
-    ensures { MapPut (setupOf cylinders heads sectors header field1 field2 address) storage_cylinder storage_head defects.now sector_words.old result sector_words.new }
+    ensures { MapPut (setup_of cylinders heads sectors header field1 field2 address) storage_cylinder storage_head defects.now sector_words.old result sector_words.new }
 {
     let setup = Setup {
         cylinders,

@@ -1,5 +1,5 @@
 // Power-up.
-ghost use Rattle.drive.specs.Power.{setupOf};
+ghost use Rattle.drive.specs.Power.{setup_of};
 ghost use Rattle.events.specs.Power.{PoweredUpOnWords};
 
 #[unsafe(no_mangle)]
@@ -15,7 +15,7 @@ pub extern "C" fn pg_power_up(
     staging_words: &[u16],
     state: &mut [u16],
 ) -> u8
-    ensures { PoweredUpOnWords (setupOf cylinders heads sectors header field1 field2 address) sector_words.now staging_words.now state.old result state.new }
+    ensures { PoweredUpOnWords (setup_of cylinders heads sectors header field1 field2 address) sector_words.now staging_words.now state.old result state.new }
 {
     events::power_up_words(
         cylinders,

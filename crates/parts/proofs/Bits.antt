@@ -10,8 +10,8 @@ use lib.Dec.{eqb}
 use Rattle.laws.specs.Pick.{pick}
 use Rattle.laws.specs.Lists.{one_of}
 use Rattle.laws.proofs.Pick.{cases}
-use Rattle.laws.proofs.Lists.{everyBelow, every-below, every, every-one-of}
-use Rattle.parts.specs.Pending.{OneBit, bit7, bit6, bit5, bit4, StaysSet, withBit, bit_of}
+use Rattle.laws.proofs.Lists.{every_below, every_below_lem, every, every_one_of}
+use Rattle.parts.specs.Pending.{OneBit, bit7, bit6, bit5, bit4, StaysSet, with_bit, bit_of}
 use Rattle.parts.specs.declared.pending.Fault.{Fault}
 use Rattle.parts.specs.declared.pending.Fault.TheVariants.{InvalidBusControl, InvalidParameter, UnsupportedBusControl, BusControlContext}
 
@@ -33,33 +33,33 @@ has_room octet bit6 h n = omega arith
 has_room octet bit5 h n = omega arith
 has_room octet bit4 h n = omega arith
 
-pub bit-fits : {bit : ℕ} (octet : ℕ) → OneBit bit → octet < 256 → withBit octet bit < 256
-unfolding withBit
-bit-fits {bit} octet b h = cases (λ (n : ℕ). n < 256) (eqb (octet / bit % 2) 1) (λ z. h) (λ z. has_room octet b h (eqb-false (octet / bit % 2) 1 z))
+pub bit_fits : {bit : ℕ} (octet : ℕ) → OneBit bit → octet < 256 → with_bit octet bit < 256
+unfolding with_bit
+bit_fits {bit} octet b h = cases (λ (n : ℕ). n < 256) (eqb (octet / bit % 2) 1) (λ z. h) (λ z. has_room octet b h (eqb-false (octet / bit % 2) 1 z))
 
 -- ---- one computed test over all octets
 
 bits : List ℕ
 bits = 0x80 ∷ 0x40 ∷ 0x20 ∷ 0x10 ∷ []
 
-one-of-bits : {bit : ℕ} → OneBit bit → one_of bits bit ≡ true
+one_of_bits : {bit : ℕ} → OneBit bit → one_of bits bit ≡ true
 unfolding bits
-one-of-bits bit7 = refl
-one-of-bits bit6 = refl
-one-of-bits bit5 = refl
-one-of-bits bit4 = refl
+one_of_bits bit7 = refl
+one_of_bits bit6 = refl
+one_of_bits bit5 = refl
+one_of_bits bit4 = refl
 
 keeps : ℕ → ℕ → ℕ → Bool
-keeps octet bit other = not (eqb (octet / other % 2) 1) || eqb (withBit octet bit / other % 2) 1
+keeps octet bit other = not (eqb (octet / other % 2) 1) || eqb (with_bit octet bit / other % 2) 1
 
-all_keep : everyBelow 256 (λ octet. every (λ bit. every (keeps octet bit) bits) bits) ≡ true
-unfolding bits keeps withBit pick
+all_keep : every_below 256 (λ octet. every (λ bit. every (keeps octet bit) bits) bits) ≡ true
+unfolding bits keeps with_bit pick
 all_keep = refl
 
-pub set-bits-stay : {bit : ℕ} (octet : ℕ) → OneBit bit → octet < 256 → StaysSet octet (withBit octet bit)
+pub set_bits_stay : {bit : ℕ} (octet : ℕ) → OneBit bit → octet < 256 → StaysSet octet (with_bit octet bit)
 unfolding keeps
-set-bits-stay {bit} octet o h other p s =
-    let at-octet = every-below 256 (λ n. every (λ b. every (keeps n b) bits) bits) all_keep octet h in
-    let at-bit = every-one-of (λ b. every (keeps octet b) bits) bits bit (one-of-bits o) at-octet in
-    let at_other = every-one-of (keeps octet bit) bits other (one-of-bits p) at-bit in
-    eqb-true (withBit octet bit / other % 2) 1 (rw s at at_other)
+set_bits_stay {bit} octet o h other p s =
+    let at-octet = every_below_lem 256 (λ n. every (λ b. every (keeps n b) bits) bits) all_keep octet h in
+    let at-bit = every_one_of (λ b. every (keeps octet b) bits) bits bit (one_of_bits o) at-octet in
+    let at_other = every_one_of (keeps octet bit) bits other (one_of_bits p) at-bit in
+    eqb-true (with_bit octet bit / other % 2) 1 (rw s at at_other)

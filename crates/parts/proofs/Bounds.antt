@@ -9,40 +9,40 @@ use native.Mathlib.Omega.{arith}
 use borrow.Author.Tests.{leb-true, ltb-true}
 use lib.Dec.{eqb}
 use Rattle.laws.proofs.Tests.{and_l, and_r}
-use Rattle.laws.proofs.Pick.{pick-le, either}
+use Rattle.laws.proofs.Pick.{pick_le, either}
 use Rattle.laws.specs.Pick.{pick}
-use Rattle.parts.specs.Command.{parameterWords, loadDriveFunction, loadCylinderAddress, loadHeadAddress, loadTargetSectorAddress, loadPosition, readStatus, readCurrentSectorAddress, readCurrentPosition}
-use Rattle.parts.specs.Control.{controlOf, isWrite, isRead, isData, movesHeader, headerPasses, namesField1, namesField2, part, dataWords, wordsToCome}
-use Rattle.parts.proofs.ByBits.{write-is-data}
-use Rattle.parts.specs.Setup.{withinLimits, sectorWords, allWords, sectorNumber, sectorStart, isPlace}
+use Rattle.parts.specs.Command.{parameter_words, load_drive_function, load_cylinder_address, load_head_address, load_target_sector_address, load_position, read_status, read_current_sector_address, read_current_position}
+use Rattle.parts.specs.Control.{control_of, is_write, is_read, is_data, moves_header, header_passes, names_field1, names_field2, part, data_words, words_to_come}
+use Rattle.parts.proofs.ByBits.{write_is_data}
+use Rattle.parts.specs.Setup.{within_limits, sector_words, all_words, sector_number, sector_start, is_place}
 use Rattle.parts.specs.declared.control.Control.{Control}
 use Rattle.parts.specs.declared.setup.Setup.{Setup}
 use Rattle.parts.specs.declared.setup.Place.{Place}
 
 pub record Limits (s : Setup) : Type 0 where
-  pub some-cylinder : 1 ≤ s.cylinders
+  pub some_cylinder : 1 ≤ s.cylinders
   pub cylinders : s.cylinders ≤ 4096
-  pub some-head : 1 ≤ s.heads
+  pub some_head : 1 ≤ s.heads
   pub heads : s.heads ≤ 32
-  pub some-sector : 1 ≤ s.sectors
+  pub some_sector : 1 ≤ s.sectors
   pub sectors : s.sectors ≤ 256
   pub header : s.header ≤ 8
-  pub some-field1 : 1 ≤ s.field1
+  pub some_field1 : 1 ≤ s.field1
   pub field1 : s.field1 ≤ 1024
   pub field2 : s.field2 ≤ 1024
 
-pub limits : (s : Setup) → withinLimits s ≡ true → Limits s
-unfolding withinLimits
+pub limits : (s : Setup) → within_limits s ≡ true → Limits s
+unfolding within_limits
 limits s h =
     record {
-      some-cylinder = leb-true 1 s.cylinders (search (and_l, and_r) depth 9);
+      some_cylinder = leb-true 1 s.cylinders (search (and_l, and_r) depth 9);
       cylinders = leb-true s.cylinders 4096 (search (and_l, and_r) depth 9);
-      some-head = leb-true 1 s.heads (search (and_l, and_r) depth 9);
+      some_head = leb-true 1 s.heads (search (and_l, and_r) depth 9);
       heads = leb-true s.heads 32 (search (and_l, and_r) depth 9);
-      some-sector = leb-true 1 s.sectors (search (and_l, and_r) depth 9);
+      some_sector = leb-true 1 s.sectors (search (and_l, and_r) depth 9);
       sectors = leb-true s.sectors 256 (search (and_l, and_r) depth 9);
       header = leb-true s.header 8 (search (and_l, and_r) depth 9);
-      some-field1 = leb-true 1 s.field1 (search (and_l, and_r) depth 9);
+      some_field1 = leb-true 1 s.field1 (search (and_l, and_r) depth 9);
       field1 = leb-true s.field1 1024 (search (and_l, and_r) depth 9);
       field2 = leb-true s.field2 1024 (search (and_l, and_r) depth 9);
     }
@@ -52,8 +52,8 @@ pub record Inside (s : Setup) (p : Place) : Type 0 where
   pub head : p.head < s.heads
   pub sector : p.sector < s.sectors
 
-pub inside : (s : Setup) (p : Place) → isPlace s p ≡ true → Inside s p
-unfolding isPlace
+pub inside : (s : Setup) (p : Place) → is_place s p ≡ true → Inside s p
+unfolding is_place
 inside s p h =
     record {
       cylinder = ltb-true p.cylinder s.cylinders (search (and_l, and_r));
@@ -61,81 +61,81 @@ inside s p h =
       sector = ltb-true p.sector s.sectors (search (and_l, and_r));
     }
 
-pub sector-words-few : (s : Setup) → Limits s → sectorWords s ≤ 2056
-sector-words-few s l = omega arith
+pub sector_words_few : (s : Setup) → Limits s → sector_words s ≤ 2056
+sector_words_few s l = omega arith
 
 -- no more words of a data transfer pass than the sector has
-data-words-within : (s : Setup) (c : ℕ) → dataWords s c ≤ sectorWords s
-unfolding dataWords
-data-words-within s c =
-    omega (arith, pick-le (headerPasses c) s.header, pick-le (namesField1 c) s.field1, pick-le (namesField2 c) s.field2)
+data_words_within : (s : Setup) (c : ℕ) → data_words s c ≤ sector_words s
+unfolding data_words
+data_words_within s c =
+    omega (arith, pick_le (header_passes c) s.header, pick_le (names_field1 c) s.field1, pick_le (names_field2 c) s.field2)
 
-pub data-words : (s : Setup) (c : ℕ) → isData c ≡ true → wordsToCome s c ≡ dataWords s c
-unfolding wordsToCome pick
-data-words s c h = rw h
+pub data_words_lem : (s : Setup) (c : ℕ) → is_data c ≡ true → words_to_come s c ≡ data_words s c
+unfolding words_to_come pick
+data_words_lem s c h = rw h
 
-pub words-within : (s : Setup) (c : ℕ) → isData c ≡ true → wordsToCome s c ≤ sectorWords s
-unfolding wordsToCome pick
-words-within s c h = rw h (data-words-within s c)
+pub words_within : (s : Setup) (c : ℕ) → is_data c ≡ true → words_to_come s c ≤ sector_words s
+unfolding words_to_come pick
+words_within s c h = rw h (data_words_within s c)
 
 few : (test : Bool) (n : ℕ) {m : ℕ} → n ≤ 5 → m ≤ 5 → pick test n m ≤ 5
 few test n h k = either (λ (j : ℕ). j ≤ 5) test h k
 
-pub parameters-few : (c : ℕ) → parameterWords c ≤ 5
-unfolding parameterWords
-parameters-few c =
-    few (eqb c loadDriveFunction) 1 (omega arith)
-    (few (eqb c loadCylinderAddress) 2 (omega arith)
-    (few (eqb c loadHeadAddress) 1 (omega arith)
-    (few (eqb c loadTargetSectorAddress) 1 (omega arith)
-    (few (eqb c loadPosition) 4 (omega arith)
-    (few (eqb c readStatus) 4 (omega arith)
-    (few (eqb c readCurrentSectorAddress) 1 (omega arith)
-    (few (eqb c readCurrentPosition) 5 (omega arith) (omega arith))))))))
+pub parameters_few : (c : ℕ) → parameter_words c ≤ 5
+unfolding parameter_words
+parameters_few c =
+    few (eqb c load_drive_function) 1 (omega arith)
+    (few (eqb c load_cylinder_address) 2 (omega arith)
+    (few (eqb c load_head_address) 1 (omega arith)
+    (few (eqb c load_target_sector_address) 1 (omega arith)
+    (few (eqb c load_position) 4 (omega arith)
+    (few (eqb c read_status) 4 (omega arith)
+    (few (eqb c read_current_sector_address) 1 (omega arith)
+    (few (eqb c read_current_position) 5 (omega arith) (omega arith))))))))
 
-pub code-words : (s : Setup) (c : ℕ) → isData c ≡ false → wordsToCome s c ≡ parameterWords c
-unfolding wordsToCome pick
-code-words s c h = rw h
+pub code_words : (s : Setup) (c : ℕ) → is_data c ≡ false → words_to_come s c ≡ parameter_words c
+unfolding words_to_come pick
+code_words s c h = rw h
 
-pub code-words-few : (s : Setup) (c : ℕ) → isData c ≡ false → wordsToCome s c ≤ 5
-code-words-few s c h = rw (code-words s c h) (parameters-few c)
+pub code_words_few : (s : Setup) (c : ℕ) → is_data c ≡ false → words_to_come s c ≤ 5
+code_words_few s c h = rw (code_words s c h) (parameters_few c)
 
 -- a write takes the header's words and those of the fields that it names
-pub write-words : (s : Setup) (c : ℕ) → isWrite (controlOf c) ≡ true → wordsToCome s c ≡ s.header + part (namesField1 c) s.field1 + part (namesField2 c) s.field2
-unfolding wordsToCome dataWords headerPasses pick
-write-words s c h = rw (write-is-data c h, h)
+pub write_words : (s : Setup) (c : ℕ) → is_write (control_of c) ≡ true → words_to_come s c ≡ s.header + part (names_field1 c) s.field1 + part (names_field2 c) s.field2
+unfolding words_to_come data_words header_passes pick
+write_words s c h = rw (write_is_data c h, h)
 
 -- a read takes the header's words where it moves them
-pub read-passes : (c : ℕ) → isRead (controlOf c) ≡ true → headerPasses c ≡ movesHeader c
-unfolding headerPasses
-read-passes c r = rw (by-control (controlOf c) r)
+pub read_passes : (c : ℕ) → is_read (control_of c) ≡ true → header_passes c ≡ moves_header c
+unfolding header_passes
+read_passes c r = rw (by_control_lem (control_of c) r)
   where
-    by-control : (k : Control) → isRead k ≡ true → isWrite k ≡ false
-    by-control Control.Read h = refl
-    by-control Control.Write h = absurd (false≢true h)
-    by-control Control.Command h = absurd (false≢true h)
-    by-control Control.Response h = absurd (false≢true h)
-    by-control Control.StepHead h = absurd (false≢true h)
-    by-control Control.Reserved h = absurd (false≢true h)
-    by-control Control.Unsupported h = absurd (false≢true h)
-    by-control Control.Invalid h = absurd (false≢true h)
+    by_control_lem : (k : Control) → is_read k ≡ true → is_write k ≡ false
+    by_control_lem Control.Read h = refl
+    by_control_lem Control.Write h = absurd (false≢true h)
+    by_control_lem Control.Command h = absurd (false≢true h)
+    by_control_lem Control.Response h = absurd (false≢true h)
+    by_control_lem Control.StepHead h = absurd (false≢true h)
+    by_control_lem Control.Reserved h = absurd (false≢true h)
+    by_control_lem Control.Unsupported h = absurd (false≢true h)
+    by_control_lem Control.Invalid h = absurd (false≢true h)
 
-pub words-few : (s : Setup) (c : ℕ) → Limits s → wordsToCome s c ≤ 2056
-unfolding wordsToCome
-words-few s c l =
-    either (λ (n : ℕ). n ≤ 2056) (isData c) (omega (arith, data-words-within s c, sector-words-few s l)) (omega (arith, parameters-few c))
+pub words_few : (s : Setup) (c : ℕ) → Limits s → words_to_come s c ≤ 2056
+unfolding words_to_come
+words_few s c l =
+    either (λ (n : ℕ). n ≤ 2056) (is_data c) (omega (arith, data_words_within s c, sector_words_few s l)) (omega (arith, parameters_few c))
 
 -- the products on the way to all words
 pub record FewWords (s : Setup) : Type 0 where
   pub tracks : s.cylinders * s.heads ≤ 4096 * 32
   pub sectors : s.cylinders * s.heads * s.sectors ≤ 4096 * 32 * 256
-  pub words : s.cylinders * s.heads * s.sectors * sectorWords s ≤ 4096 * 32 * 256 * 2056
+  pub words : s.cylinders * s.heads * s.sectors * sector_words s ≤ 4096 * 32 * 256 * 2056
 
 pub few_words : (s : Setup) → Limits s → FewWords s
 few_words s l =
     let t = mul-le-mul l.cylinders l.heads in
     let n = mul-le-mul t l.sectors in
-    record { tracks = t; sectors = n; words = mul-le-mul n (sector-words-few s l) }
+    record { tracks = t; sectors = n; words = mul-le-mul n (sector_words_few s l) }
 
 -- i below m and j below n: place j of run i, of runs of n, is below m runs
 inner : (i m j n : ℕ) → i < m → j < n → i * n + j + 1 ≤ m * n
@@ -149,24 +149,24 @@ pub record InRange (s : Setup) (p : Place) : Type 0 where
   pub track : p.cylinder * s.heads + p.head < s.cylinders * s.heads
   pub sector : (p.cylinder * s.heads + p.head) * s.sectors + p.sector < s.cylinders * s.heads * s.sectors
 
-pub in-range : (s : Setup) (p : Place) → Inside s p → InRange s p
-in-range s p i =
+pub in_range : (s : Setup) (p : Place) → Inside s p → InRange s p
+in_range s p i =
     let t = inner p.cylinder s.cylinders p.head s.heads i.cylinder i.head in
     let n = inner (p.cylinder * s.heads + p.head) (s.cylinders * s.heads) p.sector s.sectors (omega arith) i.sector in
     record { track = omega arith; sector = omega arith }
 
 -- a sector of the drive ends within the words of all sectors
-pub sector-in-room : (s : Setup) (p : Place) → Inside s p → sectorStart s p + sectorWords s ≤ allWords s
-unfolding sectorStart sectorNumber allWords
-sector-in-room s p i =
+pub sector_in_room : (s : Setup) (p : Place) → Inside s p → sector_start s p + sector_words s ≤ all_words s
+unfolding sector_start sector_number all_words
+sector_in_room s p i =
     let n = (p.cylinder * s.heads + p.head) * s.sectors + p.sector in
-    let h : (n + 1) * sectorWords s ≤ s.cylinders * s.heads * s.sectors * sectorWords s = mul-le-mul_right (sectorWords s) (omega (arith, in-range s p i)) in
-    let e : (n + 1) * sectorWords s ≡ n * sectorWords s + sectorWords s = rw (add-one n) (suc-mul n (sectorWords s)) in
+    let h : (n + 1) * sector_words s ≤ s.cylinders * s.heads * s.sectors * sector_words s = mul-le-mul_right (sector_words s) (omega (arith, in_range s p i)) in
+    let e : (n + 1) * sector_words s ≡ n * sector_words s + sector_words s = rw (add-one n) (suc-mul n (sector_words s)) in
     omega arith
 
-pub start_small : (s : Setup) (p : Place) → Limits s → Inside s p → sectorNumber s p * sectorWords s ≤ 4096 * 32 * 256 * 2056
-unfolding sectorNumber
+pub start_small : (s : Setup) (p : Place) → Limits s → Inside s p → sector_number s p * sector_words s ≤ 4096 * 32 * 256 * 2056
+unfolding sector_number
 start_small s p l i =
     let f = few_words s l in
-    let r = in-range s p i in
-    mul-le-mul {n₁ = (p.cylinder * s.heads + p.head) * s.sectors + p.sector} {n₂ = 4096 * 32 * 256} (omega arith) (sector-words-few s l)
+    let r = in_range s p i in
+    mul-le-mul {n₁ = (p.cylinder * s.heads + p.head) * s.sectors + p.sector} {n₂ = 4096 * 32 * 256} (omega arith) (sector_words_few s l)

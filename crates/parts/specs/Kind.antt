@@ -28,27 +28,27 @@ kind_of n =
     (pick (eqb n 10) Reset Unknown)))))))))
 
 -- "Each event has four argument octets: kinds 1 and 3 use one, 4 and 8 two, 7 all four .., the others none."
-abbrev pub noneAfter1 : Event → Bool
-noneAfter1 e = eqb e.a1 0 && eqb e.a2 0 && eqb e.a3 0
+abbrev pub none_after1 : Event → Bool
+none_after1 e = eqb e.a1 0 && eqb e.a2 0 && eqb e.a3 0
 
-abbrev pub noneAfter2 : Event → Bool
-noneAfter2 e = eqb e.a2 0 && eqb e.a3 0
+abbrev pub none_after2 : Event → Bool
+none_after2 e = eqb e.a2 0 && eqb e.a3 0
 
-abbrev pub noneAtAll : Event → Bool
-noneAtAll e = eqb e.a0 0 && eqb e.a1 0 && eqb e.a2 0 && eqb e.a3 0
+abbrev pub none_at_all : Event → Bool
+none_at_all e = eqb e.a0 0 && eqb e.a1 0 && eqb e.a2 0 && eqb e.a3 0
 
-abbrev pub usesOnlyItsOwn : Kind → Event → Bool
-usesOnlyItsOwn Select e = noneAfter1 e
-usesOnlyItsOwn Deselect e = noneAtAll e
-usesOnlyItsOwn Reset e = noneAtAll e
-usesOnlyItsOwn (Use DataControl) e = noneAfter1 e
-usesOnlyItsOwn (Use WordFromHost) e = noneAfter2 e
-usesOnlyItsOwn (Use TakeWord) e = noneAtAll e
-usesOnlyItsOwn (Use End) e = noneAtAll e
-usesOnlyItsOwn (Use Position) e = true
-usesOnlyItsOwn (Use Target) e = noneAfter2 e
-usesOnlyItsOwn (Use ReadStatus) e = noneAtAll e
-usesOnlyItsOwn Unknown e = false
+abbrev pub uses_only_its_own : Kind → Event → Bool
+uses_only_its_own Select e = none_after1 e
+uses_only_its_own Deselect e = none_at_all e
+uses_only_its_own Reset e = none_at_all e
+uses_only_its_own (Use DataControl) e = none_after1 e
+uses_only_its_own (Use WordFromHost) e = none_after2 e
+uses_only_its_own (Use TakeWord) e = none_at_all e
+uses_only_its_own (Use End) e = none_at_all e
+uses_only_its_own (Use Position) e = true
+uses_only_its_own (Use Target) e = none_after2 e
+uses_only_its_own (Use ReadStatus) e = none_at_all e
+uses_only_its_own Unknown e = false
 
 -- The octet of kinds 1 and 3, the word of 4, the target of 8, "(cylinder 2, head 1, sector 1)" of 7, high first.
 abbrev pub word_of : Event → ℕ

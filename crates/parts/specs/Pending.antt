@@ -6,37 +6,37 @@ use Rattle.parts.specs.declared.pending.Fault.{Fault}
 use Rattle.parts.specs.declared.pending.Fault.TheVariants.{InvalidBusControl, InvalidParameter, UnsupportedBusControl, BusControlContext}
 
 -- "Octet 1: bit 7 Reset Complete, bit 6 Alternate Port Priority Select."
-abbrev pub resetComplete : ℕ
-resetComplete = 0x80
+abbrev pub reset_complete : ℕ
+reset_complete = 0x80
 
-abbrev pub alternatePortPrioritySelect : ℕ
-alternatePortPrioritySelect = 0x40
+abbrev pub alternate_port_priority_select : ℕ
+alternate_port_priority_select = 0x40
 
 -- Octet 2, by the names of 001's figure 3-3. "D0 and controls outside 80–9F and C0–DF: bit 7. A place or target outside the drive: bit 6.
 -- 80–83 and 91–93: bit 5. "At target" with FFFF: bit 4."
-abbrev pub invalidBusControl : ℕ
-invalidBusControl = 0x80
+abbrev pub invalid_bus_control : ℕ
+invalid_bus_control = 0x80
 
-abbrev pub invalidParameter : ℕ
-invalidParameter = 0x40
+abbrev pub invalid_parameter : ℕ
+invalid_parameter = 0x40
 
-abbrev pub unsupportedBusControl : ℕ
-unsupportedBusControl = 0x20
+abbrev pub unsupported_bus_control : ℕ
+unsupported_bus_control = 0x20
 
-abbrev pub busControlContext : ℕ
-busControlContext = 0x10
+abbrev pub bus_control_context : ℕ
+bus_control_context = 0x10
 
 abbrev pub bit_of : Fault → ℕ
-bit_of InvalidBusControl = invalidBusControl
-bit_of InvalidParameter = invalidParameter
-bit_of UnsupportedBusControl = unsupportedBusControl
-bit_of BusControlContext = busControlContext
+bit_of InvalidBusControl = invalid_bus_control
+bit_of InvalidParameter = invalid_parameter
+bit_of UnsupportedBusControl = unsupported_bus_control
+bit_of BusControlContext = bus_control_context
 
-abbrev pub pendingOf : ℕ → ℕ → Pending
-pendingOf octet1 octet2 = record { octet1 = octet1; octet2 = octet2 }
+abbrev pub pending_of : ℕ → ℕ → Pending
+pending_of octet1 octet2 = record { octet1 = octet1; octet2 = octet2 }
 
-abbrev pub nothingPending : Pending
-nothingPending = pendingOf 0 0
+abbrev pub nothing_pending : Pending
+nothing_pending = pending_of 0 0
 
 -- The bits above, and no others.
 pub data OneBit : ℕ → Type 0 where
@@ -49,17 +49,17 @@ pub data OneBit : ℕ → Type 0 where
 abbrev pub StaysSet : ℕ → ℕ → Type 0
 StaysSet before after = (bit : ℕ) → OneBit bit → before / bit % 2 ≡ 1 → after / bit % 2 ≡ 1
 
--- A bit goes pending; the others stay (`set-bits-stay`).
-unfoldable pub withBit : ℕ → ℕ → ℕ
-withBit octet bit = pick (eqb (octet / bit % 2) 1) octet (octet + bit)
+-- A bit goes pending; the others stay (`set_bits_stay`).
+unfoldable pub with_bit : ℕ → ℕ → ℕ
+with_bit octet bit = pick (eqb (octet / bit % 2) 1) octet (octet + bit)
 
 -- "Alternate Port Priority Select goes pending"
 unfoldable pub noticed : Pending → Pending
-noticed p = pendingOf (withBit p.octet1 alternatePortPrioritySelect) p.octet2
+noticed p = pending_of (with_bit p.octet1 alternate_port_priority_select) p.octet2
 
 -- "a bad request .. sets a bit in octet 2"
 unfoldable pub faulted : Pending → ℕ → Pending
-faulted p bit = pendingOf p.octet1 (withBit p.octet2 bit)
+faulted p bit = pending_of p.octet1 (with_bit p.octet2 bit)
 
 -- "Octet 0: bit 6 if octet 1 is not zero, bit 5 if octet 2 is not zero."
 unfoldable pub octet0 : Pending → ℕ

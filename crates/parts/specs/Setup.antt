@@ -9,8 +9,8 @@ between low n high = leb low n && leb n high
 
 -- "Cylinders 1 to 4,096, heads 1 to 32, sectors per track 1 to 256; per sector a header of 0 to 8 words, field 1 of 1 to 1,024 words,
 -- field 2 of 0 to 1,024 words; address 0 to 7."
-unfoldable pub withinLimits : Setup → Bool
-withinLimits s =
+unfoldable pub within_limits : Setup → Bool
+within_limits s =
     between 1 s.cylinders 4096
     && between 1 s.heads 32
     && between 1 s.sectors 256
@@ -20,35 +20,35 @@ withinLimits s =
     && between 0 s.address 7
 
 -- "A sector's words are header, field 1, field 2, in that order; sectors follow by sector, then head, then cylinder."
-abbrev pub sectorWords : Setup → ℕ
-sectorWords s = s.header + s.field1 + s.field2
+abbrev pub sector_words : Setup → ℕ
+sector_words s = s.header + s.field1 + s.field2
 
-unfoldable pub allWords : Setup → ℕ
-allWords s = s.cylinders * s.heads * s.sectors * sectorWords s
+unfoldable pub all_words : Setup → ℕ
+all_words s = s.cylinders * s.heads * s.sectors * sector_words s
 
 -- "The sector slice must hold every sector; staging must hold one sector": so many words do not, or the set-up is outside its limits.
-unfoldable pub lacksRoom : Setup → ℕ → ℕ → Bool
-lacksRoom s sectors staging = not (withinLimits s) || ltb sectors (allWords s) || ltb staging (sectorWords s)
+unfoldable pub lacks_room : Setup → ℕ → ℕ → Bool
+lacks_room s sectors staging = not (within_limits s) || ltb sectors (all_words s) || ltb staging (sector_words s)
 
-unfoldable pub sectorNumber : Setup → Place → ℕ
-sectorNumber s p = (p.cylinder * s.heads + p.head) * s.sectors + p.sector
+unfoldable pub sector_number : Setup → Place → ℕ
+sector_number s p = (p.cylinder * s.heads + p.head) * s.sectors + p.sector
 
-unfoldable pub sectorStart : Setup → Place → ℕ
-sectorStart s p = sectorNumber s p * sectorWords s
+unfoldable pub sector_start : Setup → Place → ℕ
+sector_start s p = sector_number s p * sector_words s
 
-abbrev pub sectorAt : Setup → Place → List ℕ → List ℕ
-sectorAt s p sectors = take (sectorWords s) (drop (sectorStart s p) sectors)
+abbrev pub sector_at : Setup → Place → List ℕ → List ℕ
+sector_at s p sectors = take (sector_words s) (drop (sector_start s p) sectors)
 
 -- A place in the drive.
-unfoldable pub isPlace : Setup → Place → Bool
-isPlace s p = ltb p.cylinder s.cylinders && ltb p.head s.heads && ltb p.sector s.sectors
+unfoldable pub is_place : Setup → Place → Bool
+is_place s p = ltb p.cylinder s.cylinders && ltb p.head s.heads && ltb p.sector s.sectors
 
 -- "target FFFF hex (none, and never outside the drive)"
-abbrev pub noTarget : ℕ
-noTarget = 0xFFFF
+abbrev pub no_target : ℕ
+no_target = 0xFFFF
 
-unfoldable pub isTarget : Setup → ℕ → Bool
-isTarget s target = eqb target noTarget || ltb target s.sectors
+unfoldable pub is_target : Setup → ℕ → Bool
+is_target s target = eqb target no_target || ltb target s.sectors
 
 -- "plus one, 0 after the last": the next head, the next sector.
 unfoldable pub following : ℕ → ℕ → ℕ

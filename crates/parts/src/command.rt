@@ -1,7 +1,7 @@
 // Commands and responses: their codes, the words of each, and the functions of code 01.
 ghost use Rattle.std.specs.Prelude.{◌<◌, ◌≤◌, ◌≡◌};
 ghost use Rattle.laws.specs.Lists.{one_of};
-ghost use Rattle.parts.specs.Command.{commands, responses, codesActingOnMore, code_of, parameterWords, functionsActingOnMore, functionOf, FunctionSaid};
+ghost use Rattle.parts.specs.Command.{commands, responses, codes_acting_on_more, code_of, parameter_words, functions_acting_on_more, function_of, FunctionSaid};
 
 use crate::control::Control;
 
@@ -49,7 +49,7 @@ fn is_response(code: u16) -> bool
 }
 
 fn acts_on_more(code: u16) -> bool
-    ensures { result ≡ one_of codesActingOnMore code }
+    ensures { result ≡ one_of codes_acting_on_more code }
 {
     (code == 0x02)
         | (code == 0x03)
@@ -62,7 +62,7 @@ fn acts_on_more(code: u16) -> bool
 
 // The words of a command or response, 0 for what is neither.
 pub fn parameter_words(code: u16) -> u16
-    ensures { result ≡ parameterWords code }
+    ensures { result ≡ parameter_words code }
 {
     if code < FIRST_RESPONSE {
         return command_words(code);
@@ -73,7 +73,7 @@ pub fn parameter_words(code: u16) -> u16
 // Two dense tables: of one the compiler makes a call.
 fn command_words(code: u16) -> u16
     requires { code < 0x40 }
-    ensures { result ≡ parameterWords code }
+    ensures { result ≡ parameter_words code }
 {
     match code {
         0x01 => 1,
@@ -87,7 +87,7 @@ fn command_words(code: u16) -> u16
 
 fn response_words(code: u16) -> u16
     requires { 0x40 ≤ code }
-    ensures { result ≡ parameterWords code }
+    ensures { result ≡ parameter_words code }
 {
     match code {
         0x44 => 4,
@@ -108,7 +108,7 @@ pub fn function_of(word: u16) -> Function
 }
 
 fn listed_as(code: u16) -> Function
-    ensures { result ≡ functionOf code }
+    ensures { result ≡ function_of code }
 {
     match code {
         0x13 => Function::PriorityReserve,
@@ -126,7 +126,7 @@ fn listed_as(code: u16) -> Function
 }
 
 fn function_acts_on_more(code: u16) -> bool
-    ensures { result ≡ one_of functionsActingOnMore code }
+    ensures { result ≡ one_of functions_acting_on_more code }
 {
     (code == 0x10)
         | (code == 0x11)

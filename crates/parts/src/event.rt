@@ -1,7 +1,7 @@
 // An event of a port, and what its octets say.
 ghost use Rattle.std.specs.Prelude.{◌+◌, ◌*◌, ◌≡◌};
-ghost use Rattle.parts.specs.Kind.{noneAfter1, noneAfter2, noneAtAll, word_of};
-ghost use Rattle.parts.specs.Tests.{isMisaddressed, changesMode};
+ghost use Rattle.parts.specs.Kind.{none_after1, none_after2, none_at_all, word_of};
+ghost use Rattle.parts.specs.Tests.{is_misaddressed, changes_mode};
 
 #[derive(Drop)]
 pub struct Event {
@@ -14,19 +14,19 @@ pub struct Event {
 }
 
 pub fn none_after_1(event: Event) -> bool
-    ensures { result ≡ noneAfter1 event }
+    ensures { result ≡ none_after1 event }
 {
     (event.a1 == 0) & (event.a2 == 0) & (event.a3 == 0)
 }
 
 pub fn none_after_2(event: Event) -> bool
-    ensures { result ≡ noneAfter2 event }
+    ensures { result ≡ none_after2 event }
 {
     (event.a2 == 0) & (event.a3 == 0)
 }
 
 pub fn none_at_all(event: Event) -> bool
-    ensures { result ≡ noneAtAll event }
+    ensures { result ≡ none_at_all event }
 {
     (event.a0 == 0) & (event.a1 == 0) & (event.a2 == 0) & (event.a3 == 0)
 }
@@ -39,13 +39,13 @@ pub fn word_of(event: Event) -> u16
 }
 
 pub fn is_misaddressed(octet: u8, address: u16) -> bool
-    ensures { result ≡ isMisaddressed octet address }
+    ensures { result ≡ is_misaddressed octet address }
 {
     (octet / 128 % 2 == 1) | ((octet / 16 % 8) as u16 != address)
 }
 
 pub fn changes_mode(octet: u8) -> bool
-    ensures { result ≡ changesMode octet }
+    ensures { result ≡ changes_mode octet }
 {
     (octet / 8 % 2 == 1) | (octet / 4 % 2 == 1)
 }

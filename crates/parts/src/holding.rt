@@ -1,6 +1,6 @@
 // Who holds the drive.
 ghost use Rattle.std.specs.Prelude.{◌≡◌};
-ghost use Rattle.parts.specs.Holding.{priorityHold, prioritySelect, holdSet, holdsAgainst, isOwnedByOther, isBusy, Granted, NotHeld, Released};
+ghost use Rattle.parts.specs.Holding.{priority_hold, priority_select, hold_set, holds_against, is_owned_by_other, is_busy, Granted, NotHeld, Released};
 
 #[derive(Drop)]
 pub enum Hold {
@@ -20,20 +20,20 @@ pub struct Holding {
 }
 
 fn priority_hold(octet: u8) -> bool
-    ensures { result ≡ priorityHold octet }
+    ensures { result ≡ priority_hold octet }
 {
     octet / 2 % 2 == 1
 }
 
 fn priority_select(octet: u8) -> bool
-    ensures { result ≡ prioritySelect octet }
+    ensures { result ≡ priority_select octet }
 {
     octet / 1 % 2 == 1
 }
 
 // The hold that a granted selection sets.
 fn hold_set(octet: u8) -> Hold
-    ensures { result ≡ holdSet octet }
+    ensures { result ≡ hold_set octet }
 {
     if priority_hold(octet) {
         if priority_select(octet) {
@@ -46,7 +46,7 @@ fn hold_set(octet: u8) -> Hold
 
 // Does the owner's hold stand against the other port's selection?
 fn holds_against(hold: Hold, octet: u8) -> bool
-    ensures { result ≡ holdsAgainst hold octet }
+    ensures { result ≡ holds_against hold octet }
 {
     match hold {
         Hold::Strong => true,
@@ -78,13 +78,13 @@ pub fn no_holding() -> Holding
 
 impl Holding {
     pub fn is_owned_by_other(self, port: u16) -> bool
-        ensures { result ≡ isOwnedByOther self port }
+        ensures { result ≡ is_owned_by_other self port }
     {
         (self.owner != NOBODY) & (self.owner != port)
     }
 
     pub fn is_busy(self, port: u16, octet: u8) -> bool
-        ensures { result ≡ isBusy self port octet }
+        ensures { result ≡ is_busy self port octet }
     {
         let hold = self.hold;
         self.is_owned_by_other(port) & holds_against(hold, octet)

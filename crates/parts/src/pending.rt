@@ -1,6 +1,6 @@
 // What is pending on a port: octets 1 and 2 of its status response.
 ghost use Rattle.std.specs.Prelude.{◌≡◌};
-ghost use Rattle.parts.specs.Pending.{OneBit, withBit, bit_of, noticed, faulted, octet0};
+ghost use Rattle.parts.specs.Pending.{OneBit, with_bit, bit_of, noticed, faulted, octet0};
 
 #[derive(Drop)]
 pub struct Pending {
@@ -83,7 +83,7 @@ fn bit_of(fault: Fault) -> u8
 
 fn with_bit(octet: u8, bit: u8) -> u8
     requires { OneBit bit }
-    ensures { result ≡ withBit octet bit }
+    ensures { result ≡ with_bit octet bit }
 {
     if octet / bit % 2 == 1 {
         return octet;

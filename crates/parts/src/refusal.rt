@@ -1,7 +1,7 @@
 // The refusals: their numbers, and the rows of a kind in the order of their tests.
 ghost use Rattle.std.specs.Prelude.{◌≡◌};
 ghost use Rattle.laws.specs.Rows.{first};
-ghost use Rattle.parts.specs.Tests.{insideRows, selectRows};
+ghost use Rattle.parts.specs.Tests.{inside_rows, select_rows};
 
 pub const NO_SUCH_PORT: u8 = 1;
 
@@ -27,7 +27,7 @@ pub const UNSOUND_STATE: u8 = 11;
 
 // Kinds 2 to 9: 8, then 2, then 7.
 pub fn inside_refusal(formed: bool, selected: bool, untimely: bool) -> u8
-    ensures { result ≡ first (insideRows formed selected untimely) }
+    ensures { result ≡ first (inside_rows formed selected untimely) }
 {
     if !formed {
         return MALFORMED;
@@ -49,7 +49,7 @@ pub fn select_refusal(
     changes_mode: bool,
     busy: bool,
 ) -> u8
-    ensures { result ≡ first (selectRows formed selected misaddressed changes_mode busy) }
+    ensures { result ≡ first (select_rows formed selected misaddressed changes_mode busy) }
 {
     if !formed {
         return MALFORMED;

@@ -1,6 +1,6 @@
 // The set-up: its limits, its sizes, and where a sector's words are.
 ghost use Rattle.std.specs.Prelude.{◌≡◌, true};
-ghost use Rattle.parts.specs.Setup.{between, withinLimits, sectorWords, allWords, lacksRoom, isPlace, isTarget, following};
+ghost use Rattle.parts.specs.Setup.{between, within_limits, sector_words, all_words, lacks_room, is_place, is_target, following};
 
 #[derive(Drop)]
 pub struct Setup {
@@ -36,7 +36,7 @@ const LAST_ADDRESS: u16 = 7;
 
 impl Setup {
     pub fn within_limits(self) -> bool
-        ensures { result ≡ withinLimits self }
+        ensures { result ≡ within_limits self }
     {
         is_between(1, self.cylinders, MOST_CYLINDERS)
             & is_between(1, self.heads, MOST_HEADS)
@@ -49,22 +49,22 @@ impl Setup {
 
     // The words of one sector.
     pub fn sector_words(self) -> usize
-        ensures { result ≡ sectorWords self }
+        ensures { result ≡ sector_words self }
     {
         self.header as usize + self.field1 as usize + self.field2 as usize
     }
 
     // The words of all sectors.
     fn all_words(self) -> usize
-        requires { withinLimits self ≡ true }
-        ensures { result ≡ allWords self }
+        requires { within_limits self ≡ true }
+        ensures { result ≡ all_words self }
     {
         self.cylinders as usize * self.heads as usize * self.sectors as usize * self.sector_words()
     }
 
     // So many words lent do not hold the drive. The limits are tested here too, since the product of numbers outside them can wrap.
     pub fn lacks_room(self, sectors: usize, staging: usize) -> bool
-        ensures { result ≡ lacksRoom self sectors staging }
+        ensures { result ≡ lacks_room self sectors staging }
     {
         if !self.within_limits() {
             return true;
@@ -73,7 +73,7 @@ impl Setup {
     }
 
     pub fn is_place(self, place: Place) -> bool
-        ensures { result ≡ isPlace self place }
+        ensures { result ≡ is_place self place }
     {
         (place.cylinder < self.cylinders)
             & (place.head < self.heads)
@@ -81,7 +81,7 @@ impl Setup {
     }
 
     pub fn is_target(self, target: u16) -> bool
-        ensures { result ≡ isTarget self target }
+        ensures { result ≡ is_target self target }
     {
         (target == NO_TARGET) | (target < self.sectors)
     }

@@ -1,6 +1,6 @@
 // The open transfer: its control, the words moved, and what a command has sent so far.
 ghost use Rattle.std.specs.Prelude.{◌≡◌};
-ghost use Rattle.parts.specs.Tests.{noTransfer};
+ghost use Rattle.parts.specs.Tests.{no_transfer};
 
 // The words of a command before its last one, 0 wherever they stand for nothing.
 #[derive(Drop)]
@@ -19,7 +19,7 @@ pub struct Transfer {
 }
 
 pub fn no_transfer() -> Transfer
-    ensures { result ≡ noTransfer }
+    ensures { result ≡ no_transfer }
 {
     Transfer {
         control: 0,

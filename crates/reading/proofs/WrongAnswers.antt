@@ -6,17 +6,17 @@ use Prim.Native.Nat.{ℕ}
 use native.Mathlib.Omega.{arith}
 use lib.ListN.{get_or}
 use Rattle.laws.specs.Pick.{pick}
-use Rattle.laws.proofs.Differ.{told-apart}
-use Rattle.bench.specs.Text.{decimalWithin, decimal, numberedLine}
-use Rattle.bench.specs.Report.{captureReport, reportOf}
+use Rattle.laws.proofs.Differ.{told_apart}
+use Rattle.bench.specs.Text.{decimal_within, decimal, numbered_line}
+use Rattle.bench.specs.Report.{capture_report, report_of}
 use Rattle.reading.specs.WrongAnswers.{WrongAnswers}
 
-pub wrong-answers : WrongAnswers
-unfolding pick decimalWithin decimal numberedLine captureReport reportOf
-wrong-answers =
+pub wrong_answers : WrongAnswers
+unfolding pick decimal_within decimal numbered_line capture_report report_of
+wrong_answers =
     record {
-      nothingTold = λ h. told-apart 0 0x72 refl (ap (λ (text : List ℕ). get_or text 0 0) h.told.slice);
-      countBeyondTheSlice = λ h. omega (arith, h.few);
-      badArgumentsNotTold = λ h. told-apart 0 0x62 refl (ap (λ (text : List ℕ). get_or text 0 0) h.told.slice);
-      partNotTold = λ h. told-apart 0 0x72 refl (ap (λ (text : List ℕ). get_or text 0 0) h.told.slice);
+      nothing_told = λ h. told_apart 0 0x72 refl (ap (λ (text : List ℕ). get_or text 0 0) h.told.slice);
+      count_beyond_the_slice = λ h. omega (arith, h.few);
+      bad_arguments_not_told = λ h. told_apart 0 0x62 refl (ap (λ (text : List ℕ). get_or text 0 0) h.told.slice);
+      part_not_told = λ h. told_apart 0 0x72 refl (ap (λ (text : List ℕ). get_or text 0 0) h.told.slice);
     }

@@ -4,6 +4,6 @@ use Rattle.bench.specs.declared.report.Replayed.{Replayed}
 use Rattle.bench.specs.declared.report.Replayed.TheVariants.{Text, Refused}
 
 -- How many octets of text an answer tells.
-abbrev pub sizeTold : Replayed → ℕ
-sizeTold (Text size) = size
-sizeTold (Refused n) = 0
+abbrev pub size_told : Replayed → ℕ
+size_told (Text size) = size
+size_told (Refused n) = 0

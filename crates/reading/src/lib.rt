@@ -1,10 +1,10 @@
 // What the replays, of a whole capture and of a part, do with standard input and output.
 ghost use Rattle.std.specs.Prelude.{◌≤◌, length};
 ghost use Rattle.numbers.specs.Number.{number_in};
-ghost use Rattle.bench.specs.Report.{reportOf, partReportOf};
+ghost use Rattle.bench.specs.Report.{report_of, part_report_of};
 ghost use Rattle.bench.specs.declared.report.Wanted.TheVariants.{All};
 ghost use Rattle.reading.specs.Input.{InputReplayed};
-ghost use Rattle.reading.specs.Told.{sizeTold};
+ghost use Rattle.reading.specs.Told.{size_told};
 
 use bench::Replayed;
 use libc::{STDERR_FILENO, STDIN_FILENO, STDOUT_FILENO};
@@ -16,7 +16,7 @@ pub const INPUT_LENGTH: usize = 65_537;
 
 // Reads a capture from standard input and writes the report of its replay to standard output, and nothing else there. How many octets were read.
 pub fn replay_input(octets: &mut [u8], text: &mut [u8]) -> usize
-    ensures { InputReplayed (reportOf All) octets.new text.old result text.new }
+    ensures { InputReplayed (report_of All) octets.new text.old result text.new }
 {
     let count = read_if(true, octets);
     let whole = has_not_failed_if(true);
@@ -27,7 +27,7 @@ pub fn replay_input(octets: &mut [u8], text: &mut [u8]) -> usize
 
 // The same of a part, whose arguments are lent as their digits. Where they are no two numbers, nothing is read: who forgot them is told at once.
 pub fn part_input(from: &[u8], limit: &[u8], octets: &mut [u8], text: &mut [u8]) -> usize
-    ensures { InputReplayed (partReportOf (number_in from.now) (number_in limit.now)) octets.new text.old result text.new }
+    ensures { InputReplayed (part_report_of (number_in from.now) (number_in limit.now)) octets.new text.old result text.new }
 {
     let wanted = is_number(from) & is_number(limit);
     let count = read_if(wanted, octets);
@@ -63,7 +63,7 @@ fn has_not_failed_if(wanted: bool) -> bool {
 }
 
 fn tell(program: &[u8], whole: bool, replayed: Replayed, text: &[u8])
-    requires { sizeTold replayed ≤ length text.now }
+    requires { size_told replayed ≤ length text.now }
 {
     match replayed {
         Replayed::Text(size) => put_out(program, whole, &text[..size]),

@@ -2,9 +2,9 @@
 -- Assumes nothing.
 use mathlib.Core.Path.{refl}
 use Rattle.laws.specs.Pick.{pick}
-use Rattle.status.specs.Response.{unsolicitedOctet, busControlOctet, exceptionOctet, responseOf, is_foreign}
+use Rattle.status.specs.Response.{unsolicited_octet, bus_control_octet, exception_octet, response_of, is_foreign}
 use Rattle.status.specs.Cases.{ResponseCases}
 
-pub response-cases : ResponseCases
-unfolding pick unsolicitedOctet busControlOctet exceptionOctet responseOf is_foreign
-response-cases = record { p8 = refl; p9 = refl; p9-decoded = record { answer = refl; on-paper = refl } }
+pub response_cases_lem : ResponseCases
+unfolding pick unsolicited_octet bus_control_octet exception_octet response_of is_foreign
+response_cases_lem = record { p8 = refl; p9 = refl; p9_decoded = record { answer = refl; on_paper = refl } }

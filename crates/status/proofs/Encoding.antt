@@ -7,17 +7,17 @@ use borrow.Author.Tests.{lt-ltb, le-ltb}
 use lib.ListN.{length}
 use lib.Seq.{sets}
 use Rattle.laws.specs.Pick.{pick}
-use Rattle.laws.specs.Rows.{unlessRefused}
-use Rattle.laws.specs.Lists.{writtenOver}
+use Rattle.laws.specs.Rows.{unless_refused}
+use Rattle.laws.specs.Lists.{written_over}
 use Rattle.laws.proofs.Lists.{stored}
 use Rattle.laws.proofs.Rows.{reported}
-use Rattle.status.specs.Encoded.{refusalIn, encodeRefusal, EncodedAs}
+use Rattle.status.specs.Encoded.{refusal_in, encode_refusal, EncodedAs}
 use Rattle.status.specs.declared.encoded.Encoded.{Encoded}
 use Rattle.status.specs.declared.encoded.Encoded.TheVariants.{Written, Refused}
 
-encoded : {octets before after : List ℕ} {r : Encoded} → r ≡ unlessRefused (encodeRefusal octets before) (Refused (encodeRefusal octets before)) Written
-    → after ≡ unlessRefused (encodeRefusal octets before) before (writtenOver before octets) → EncodedAs octets before after r
-encoded {octets} {before} e s = record { answer = e; on-paper = ap refusalIn e ∙ reported refusalIn Refused (λ n. refl) (encodeRefusal octets before) Written refl; slice = s }
+encoded : {octets before after : List ℕ} {r : Encoded} → r ≡ unless_refused (encode_refusal octets before) (Refused (encode_refusal octets before)) Written
+    → after ≡ unless_refused (encode_refusal octets before) before (written_over before octets) → EncodedAs octets before after r
+encoded {octets} {before} e s = record { answer = e; on_paper = ap refusal_in e ∙ reported refusal_in Refused (λ n. refl) (encode_refusal octets before) Written refl; slice = s }
 
 pub too_short : (octets before : List ℕ) → length before < length octets → EncodedAs octets before before (Refused 10)
 unfolding pick

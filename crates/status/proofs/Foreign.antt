@@ -8,17 +8,17 @@ use native.Mathlib.Omega.{arith}
 use borrow.Author.Tests.{eq-eqb, eqb-true, not-false}
 use lib.Dec.{eqb}
 use lib.ListN.{get_or}
-use Rattle.laws.specs.Lists.{tableFrom}
-use Rattle.status.specs.Response.{bits_of, hasOther, unsolicitedOctet, busControlOctet, exceptionOctet, responseOf, responseOctets, is_foreign}
+use Rattle.laws.specs.Lists.{table_from}
+use Rattle.status.specs.Response.{bits_of, has_other, unsolicited_octet, bus_control_octet, exception_octet, response_of, response_octets, is_foreign}
 use Rattle.status.specs.declared.response.Response.{Response}
 use Rattle.laws.proofs.Tests.{or_l, or_r}
-use Rattle.status.proofs.Bits.{two-bits, four-bits}
+use Rattle.status.proofs.Bits.{two_bits, four_bits}
 
-pub response-of-octets : (r : Response) → responseOf (unsolicitedOctet r) (busControlOctet r) ≡ r
-unfolding unsolicitedOctet busControlOctet responseOf
-response-of-octets r =
-    let two = two-bits r.reset_complete r.alternate_port_priority_select in
-    let four = four-bits r.invalid_bus_control r.invalid_parameter r.unsupported_bus_control r.bus_control_context in
+pub response_of_octets : (r : Response) → response_of (unsolicited_octet r) (bus_control_octet r) ≡ r
+unfolding unsolicited_octet bus_control_octet response_of
+response_of_octets r =
+    let two = two_bits r.reset_complete r.alternate_port_priority_select in
+    let four = four_bits r.invalid_bus_control r.invalid_parameter r.unsupported_bus_control r.bus_control_context in
     λ i. record {
       reset_complete = two.0 i;
       alternate_port_priority_select = two.1 i;
@@ -30,24 +30,24 @@ response-of-octets r =
 
 -- ---- the octets that the base sends
 
-none_other : (bits : List ℕ) (octet : ℕ) → octet ≡ bits_of bits octet → hasOther bits octet ≡ false
+none_other : (bits : List ℕ) (octet : ℕ) → octet ≡ bits_of bits octet → has_other bits octet ≡ false
 none_other bits octet e = rw (eq-eqb _ _ e)
 
-two-alone : (r : Response) → hasOther (7 ∷ 6 ∷ []) (unsolicitedOctet r) ≡ false
-unfolding unsolicitedOctet
-two-alone r =
-    let (a, b) = two-bits r.reset_complete r.alternate_port_priority_select in
-    none_other (7 ∷ 6 ∷ []) (unsolicitedOctet r) (rw (a, b) (omega arith))
+two_alone : (r : Response) → has_other (7 ∷ 6 ∷ []) (unsolicited_octet r) ≡ false
+unfolding unsolicited_octet
+two_alone r =
+    let (a, b) = two_bits r.reset_complete r.alternate_port_priority_select in
+    none_other (7 ∷ 6 ∷ []) (unsolicited_octet r) (rw (a, b) (omega arith))
 
-four-alone : (r : Response) → hasOther (7 ∷ 6 ∷ 5 ∷ 4 ∷ []) (busControlOctet r) ≡ false
-unfolding busControlOctet
-four-alone r =
-    let (a, b, c, d) = four-bits r.invalid_bus_control r.invalid_parameter r.unsupported_bus_control r.bus_control_context in
-    none_other (7 ∷ 6 ∷ 5 ∷ 4 ∷ []) (busControlOctet r) (rw (a, b, c, d) (omega arith))
+four_alone : (r : Response) → has_other (7 ∷ 6 ∷ 5 ∷ 4 ∷ []) (bus_control_octet r) ≡ false
+unfolding bus_control_octet
+four_alone r =
+    let (a, b, c, d) = four_bits r.invalid_bus_control r.invalid_parameter r.unsupported_bus_control r.bus_control_context in
+    none_other (7 ∷ 6 ∷ 5 ∷ 4 ∷ []) (bus_control_octet r) (rw (a, b, c, d) (omega arith))
 
-pub never-foreign : (r : Response) (rest : List ℕ) → is_foreign (responseOctets r ++ rest) ≡ false
+pub never_foreign : (r : Response) (rest : List ℕ) → is_foreign (response_octets r ++ rest) ≡ false
 unfolding is_foreign
-never-foreign r rest = rw (two-alone r, four-alone r, eq-eqb _ _ refl)
+never_foreign r rest = rw (two_alone r, four_alone r, eq-eqb _ _ refl)
 
 -- ---- octets that are not foreign
 
@@ -56,14 +56,14 @@ same a b e = eqb-true a b (not-false _ e)
 
 ruleset apart = (or_l, or_r, same)
 
-pub own-octets : (octets : List ℕ) → is_foreign octets ≡ false → responseOctets (responseOf (get_or octets 1 0) (get_or octets 2 0)) ≡ tableFrom (λ i. get_or octets i 0) 0 8
-unfolding is_foreign responseOf unsolicitedOctet busControlOctet
-own-octets octets h =
+pub own_octets : (octets : List ℕ) → is_foreign octets ≡ false → response_octets (response_of (get_or octets 1 0) (get_or octets 2 0)) ≡ table_from (λ i. get_or octets i 0) 0 8
+unfolding is_foreign response_of unsolicited_octet bus_control_octet
+own_octets octets h =
     let at : ℕ → ℕ = λ i. get_or octets i 0 in
     let two : at 1 ≡ bits_of (7 ∷ 6 ∷ []) (at 1) = search apart depth 12 in
     let four : at 2 ≡ bits_of (7 ∷ 6 ∷ 5 ∷ 4 ∷ []) (at 2) = search apart depth 12 in
     let rest : (at 3 ≡ 0) × (at 4 ≡ 0) × (at 5 ≡ 0) × (at 6 ≡ 0) × (at 7 ≡ 0) = search apart depth 12 in
-    let fits : at 0 ≡ exceptionOctet (at 1) (at 2) = search apart depth 12 in
-    let first : unsolicitedOctet (responseOf (at 1) (at 2)) ≡ at 1 = omega arith in
-    let second : busControlOctet (responseOf (at 1) (at 2)) ≡ at 2 = omega arith in
+    let fits : at 0 ≡ exception_octet (at 1) (at 2) = search apart depth 12 in
+    let first : unsolicited_octet (response_of (at 1) (at 2)) ≡ at 1 = omega arith in
+    let second : bus_control_octet (response_of (at 1) (at 2)) ≡ at 2 = omega arith in
     cc

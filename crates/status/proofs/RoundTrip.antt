@@ -8,10 +8,10 @@ use native.Mathlib.Omega.{arith}
 use borrow.Author.Tests.{le-ltb, ltb-false, not-false}
 use lib.ListN.{length, get_or, take, drop}
 use Rattle.laws.specs.Pick.{pick}
-use Rattle.laws.specs.Lists.{writtenOver}
-use Rattle.status.specs.Encoded.{EncodedAs, encodeRows}
-use Rattle.status.specs.DriveStatus.{octetOf, statusOf, isDriveStatus, driveStatusOctets, driveStatusRows, DecodedDriveStatus}
-use Rattle.status.specs.Response.{responseOf, responseOctets, responseRows, DecodedResponse}
+use Rattle.laws.specs.Lists.{written_over}
+use Rattle.status.specs.Encoded.{EncodedAs, encode_rows}
+use Rattle.status.specs.DriveStatus.{octet_of, status_of, is_drive_status, drive_status_octets, drive_status_rows, DecodedDriveStatus}
+use Rattle.status.specs.Response.{response_of, response_octets, response_rows, DecodedResponse}
 use Rattle.status.specs.RoundTrip.{DriveStatusRoundTrip, ResponseRoundTrip}
 use Rattle.status.specs.declared.encoded.Encoded.{Encoded}
 use Rattle.status.specs.declared.drive_status.DriveStatus.{DriveStatus}
@@ -19,68 +19,68 @@ use Rattle.status.specs.declared.drive_status.DriveStatus.TheVariants.{Normal, B
 use Rattle.status.specs.declared.drive_status.DriveStatusRead.{DriveStatusRead}
 use Rattle.status.specs.declared.response.Response.{Response}
 use Rattle.status.specs.declared.response.ResponseRead.{ResponseRead}
-use Rattle.laws.proofs.Rows.{none-given, accepted}
-use Rattle.laws.proofs.Runs.{run-read}
-use Rattle.status.proofs.Foreign.{own-octets, never-foreign, response-of-octets}
-use Rattle.status.proofs.Decoding.{octet-of-status, drive-status-decoded, response-decoded}
+use Rattle.laws.proofs.Rows.{none_given, accepted}
+use Rattle.laws.proofs.Runs.{run_read}
+use Rattle.status.proofs.Foreign.{own_octets, never_foreign, response_of_octets}
+use Rattle.status.proofs.Decoding.{octet_of_status, drive_status_decoded, response_decoded}
 
 -- an encoder with room enough writes
-has-written : {octets before after : List ℕ} {answer : Encoded} → length octets ≤ length before → EncodedAs octets before after answer
-    → (answer ≡ Encoded.Written) × (after ≡ writtenOver before octets)
-has-written {octets} {before} h e =
-    let free = none-given (encodeRows octets before) (le-ltb _ _ h, tt) in
+has_written : {octets before after : List ℕ} {answer : Encoded} → length octets ≤ length before → EncodedAs octets before after answer
+    → (answer ≡ Encoded.Written) × (after ≡ written_over before octets)
+has_written {octets} {before} h e =
+    let free = none_given (encode_rows octets before) (le-ltb _ _ h, tt) in
     (e.answer ∙ rw free, e.slice ∙ rw free)
 
 -- ---- the drive status octet
 
-status-of-octet : (status : DriveStatus) → (isDriveStatus (octetOf status) ≡ true) × (statusOf (octetOf status) ≡ status)
-unfolding isDriveStatus statusOf pick
-status-of-octet Normal = (refl, refl)
-status-of-octet Busy = (refl, refl)
-status-of-octet HeaderMiscompare = (refl, refl)
-status-of-octet OperationException = (refl, refl)
-status-of-octet UnsolicitedException = (refl, refl)
+status_of_octet : (status : DriveStatus) → (is_drive_status (octet_of status) ≡ true) × (status_of (octet_of status) ≡ status)
+unfolding is_drive_status status_of pick
+status_of_octet Normal = (refl, refl)
+status_of_octet Busy = (refl, refl)
+status_of_octet HeaderMiscompare = (refl, refl)
+status_of_octet OperationException = (refl, refl)
+status_of_octet UnsolicitedException = (refl, refl)
 
-decoded-octet : (octets : List ℕ) (status : DriveStatus) → DecodedDriveStatus octets (DriveStatusRead.Status status) → driveStatusOctets status ≡ take 1 octets
-decoded-octet octets status d =
+decoded_octet : (octets : List ℕ) (status : DriveStatus) → DecodedDriveStatus octets (DriveStatusRead.Status status) → drive_status_octets status ≡ take 1 octets
+decoded_octet octets status d =
     let octet = get_or octets 0 0 in
-    let found = DriveStatusRead.Status (statusOf octet) in
-    let (is, (long, (known, end))) = accepted (driveStatusRows octets) DriveStatusRead.Refused (DriveStatusRead.Status status) found refl (λ n e. cc) d.answer in
-    let same : status ≡ statusOf octet = cc in
-    rw (same, octet-of-status octet (not-false _ known)) (sym (run-read octets 0 1 (ltb-false _ _ long)))
+    let found = DriveStatusRead.Status (status_of octet) in
+    let (is, (long, (known, end))) = accepted (drive_status_rows octets) DriveStatusRead.Refused (DriveStatusRead.Status status) found refl (λ n e. cc) d.answer in
+    let same : status ≡ status_of octet = cc in
+    rw (same, octet_of_status octet (not-false _ known)) (sym (run_read octets 0 1 (ltb-false _ _ long)))
 
-pub encoded-octet : (status : DriveStatus) (rest : List ℕ) → DecodedDriveStatus (octetOf status ∷ rest) (DriveStatusRead.Status status)
-encoded-octet status rest =
-    let (known, same) = status-of-octet status in
-    let free = none-given (driveStatusRows (octetOf status ∷ rest)) (le-ltb (suc (length rest)) 1 (omega arith), (rw known, tt)) in
-    drive-status-decoded (rw (free, same))
+pub encoded_octet : (status : DriveStatus) (rest : List ℕ) → DecodedDriveStatus (octet_of status ∷ rest) (DriveStatusRead.Status status)
+encoded_octet status rest =
+    let (known, same) = status_of_octet status in
+    let free = none_given (drive_status_rows (octet_of status ∷ rest)) (le-ltb (suc (length rest)) 1 (omega arith), (rw known, tt)) in
+    drive_status_decoded (rw (free, same))
 
 -- ---- the status response
 
-decoded-octets : (octets : List ℕ) (response : Response) → DecodedResponse octets (ResponseRead.Decoded response) → responseOctets response ≡ take 8 octets
-decoded-octets octets response d =
+decoded_octets : (octets : List ℕ) (response : Response) → DecodedResponse octets (ResponseRead.Decoded response) → response_octets response ≡ take 8 octets
+decoded_octets octets response d =
     let one = get_or octets 1 0 in
     let two = get_or octets 2 0 in
-    let found = ResponseRead.Decoded (responseOf one two) in
-    let (is, (long, (own, end))) = accepted (responseRows octets) ResponseRead.Refused (ResponseRead.Decoded response) found refl (λ n e. cc) d.answer in
-    let same : response ≡ responseOf one two = cc in
-    rw (same, own-octets octets own) (sym (run-read octets 0 8 (ltb-false _ _ long)))
+    let found = ResponseRead.Decoded (response_of one two) in
+    let (is, (long, (own, end))) = accepted (response_rows octets) ResponseRead.Refused (ResponseRead.Decoded response) found refl (λ n e. cc) d.answer in
+    let same : response ≡ response_of one two = cc in
+    rw (same, own_octets octets own) (sym (run_read octets 0 8 (ltb-false _ _ long)))
 
-pub encoded-octets : (response : Response) (rest : List ℕ) → DecodedResponse (responseOctets response ++ rest) (ResponseRead.Decoded response)
-encoded-octets response rest =
-    let free = none-given (responseRows (responseOctets response ++ rest)) (le-ltb (length (responseOctets response ++ rest)) 8 (omega arith), (never-foreign response rest, tt)) in
-    response-decoded (rw (free, response-of-octets response))
+pub encoded_octets : (response : Response) (rest : List ℕ) → DecodedResponse (response_octets response ++ rest) (ResponseRead.Decoded response)
+encoded_octets response rest =
+    let free = none_given (response_rows (response_octets response ++ rest)) (le-ltb (length (response_octets response ++ rest)) 8 (omega arith), (never_foreign response rest, tt)) in
+    response_decoded (rw (free, response_of_octets response))
 
-pub drive-status-round-trip : DriveStatusRoundTrip
-drive-status-round-trip =
+pub drive_status_round_trip : DriveStatusRoundTrip
+drive_status_round_trip =
     record {
-      encode-decode = λ octets before after status answer d h e. rw (← (decoded-octet octets status d)) (has-written h e);
-      decode-encode = λ before after status answer h e. let (is, slice) = has-written h e in (is, rw slice (encoded-octet status (drop 1 before)));
+      encode_decode = λ octets before after status answer d h e. rw (← (decoded_octet octets status d)) (has_written h e);
+      decode_encode = λ before after status answer h e. let (is, slice) = has_written h e in (is, rw slice (encoded_octet status (drop 1 before)));
     }
 
-pub response-round-trip : ResponseRoundTrip
-response-round-trip =
+pub response_round_trip : ResponseRoundTrip
+response_round_trip =
     record {
-      encode-decode = λ octets before after response answer d h e. rw (← (decoded-octets octets response d)) (has-written h e);
-      decode-encode = λ before after response answer h e. let (is, slice) = has-written h e in (is, rw slice (encoded-octets response (drop 8 before)));
+      encode_decode = λ octets before after response answer d h e. rw (← (decoded_octets octets response d)) (has_written h e);
+      decode_encode = λ before after response answer h e. let (is, slice) = has_written h e in (is, rw slice (encoded_octets response (drop 8 before)));
     }

@@ -2,21 +2,21 @@
 -- Assumes nothing.
 use mathlib.Core.Path.{refl}
 use Rattle.laws.specs.Pick.{pick}
-use Rattle.laws.proofs.Differ.{differ-at, never}
-use Rattle.status.specs.DriveStatus.{isDriveStatus}
-use Rattle.status.specs.Response.{unsolicitedOctet, busControlOctet, exceptionOctet, is_foreign}
+use Rattle.laws.proofs.Differ.{differ_at, never}
+use Rattle.status.specs.DriveStatus.{is_drive_status}
+use Rattle.status.specs.Response.{unsolicited_octet, bus_control_octet, exception_octet, is_foreign}
 use Rattle.status.specs.WrongAnswers.{WrongAnswers}
 
-pub wrong-answers : WrongAnswers
-unfolding pick isDriveStatus unsolicitedOctet busControlOctet exceptionOctet is_foreign
-wrong-answers =
+pub wrong_answers : WrongAnswers
+unfolding pick is_drive_status unsolicited_octet bus_control_octet exception_octet is_foreign
+wrong_answers =
     record {
-      normal-for-02 = λ h. never (cc);
-      eight-for-no-octet = λ h. never (cc);
-      miscompare-as-06 = λ h. differ-at 0 refl h.slice;
-      octet-1-changed = λ h. differ-at 1 refl h.slice;
-      octet-1-bit-5-taken = λ h. never (cc);
-      unfit-octet-0-taken = λ h. never (cc);
-      octet-0-left-out = λ h. differ-at 0 refl h.slice;
-      octet-7-left = λ h. differ-at 7 refl h.slice;
+      normal_for_02 = λ h. never (cc);
+      eight_for_no_octet = λ h. never (cc);
+      miscompare_as_06 = λ h. differ_at 0 refl h.slice;
+      octet_1_changed = λ h. differ_at 1 refl h.slice;
+      octet_1_bit_5_taken = λ h. never (cc);
+      unfit_octet_0_taken = λ h. never (cc);
+      octet_0_left_out = λ h. differ_at 0 refl h.slice;
+      octet_7_left = λ h. differ_at 7 refl h.slice;
     }

@@ -1,11 +1,11 @@
 -- "Bench cases": the status responses that document 01 writes out.
 use Rattle.std.specs.Prelude.{◌≡◌, true, false, [], ◌∷◌}
-use Rattle.status.specs.Response.{responseOctets, DecodedResponse}
+use Rattle.status.specs.Response.{response_octets, DecodedResponse}
 use Rattle.status.specs.declared.response.Response.{Response}
 use Rattle.status.specs.declared.response.ResponseRead.TheVariants.{Decoded}
 
-abbrev pub takenOver : Response
-takenOver =
+abbrev pub taken_over : Response
+taken_over =
     record {
       reset_complete = false;
       alternate_port_priority_select = true;
@@ -15,8 +15,8 @@ takenOver =
       bus_control_context = false;
     }
 
-abbrev pub badControl : Response
-badControl =
+abbrev pub bad_control : Response
+bad_control =
     record {
       reset_complete = false;
       alternate_port_priority_select = false;
@@ -28,7 +28,7 @@ badControl =
 
 pub record ResponseCases : Type 0 where
   -- "P8 selected, control D0: status 8; response 20 00 80 00 00 00 00 00."
-  pub p8 : responseOctets badControl ≡ 0x20 ∷ 0x00 ∷ 0x80 ∷ 0x00 ∷ 0x00 ∷ 0x00 ∷ 0x00 ∷ 0x00 ∷ []
+  pub p8 : response_octets bad_control ≡ 0x20 ∷ 0x00 ∷ 0x80 ∷ 0x00 ∷ 0x00 ∷ 0x00 ∷ 0x00 ∷ 0x00 ∷ []
   -- "P9 .. Read status: 40 40 and six 00."
-  pub p9 : responseOctets takenOver ≡ 0x40 ∷ 0x40 ∷ 0x00 ∷ 0x00 ∷ 0x00 ∷ 0x00 ∷ 0x00 ∷ 0x00 ∷ []
-  pub p9-decoded : DecodedResponse (0x40 ∷ 0x40 ∷ 0x00 ∷ 0x00 ∷ 0x00 ∷ 0x00 ∷ 0x00 ∷ 0x00 ∷ []) (Decoded takenOver)
+  pub p9 : response_octets taken_over ≡ 0x40 ∷ 0x40 ∷ 0x00 ∷ 0x00 ∷ 0x00 ∷ 0x00 ∷ 0x00 ∷ 0x00 ∷ []
+  pub p9_decoded : DecodedResponse (0x40 ∷ 0x40 ∷ 0x00 ∷ 0x00 ∷ 0x00 ∷ 0x00 ∷ 0x00 ∷ 0x00 ∷ []) (Decoded taken_over)

@@ -1,6 +1,6 @@
 // The drive status octet (004, 8.3.9).
 ghost use Rattle.std.specs.Prelude.{◌≡◌};
-ghost use Rattle.status.specs.DriveStatus.{octetOf, driveStatusOctets, DecodedDriveStatus};
+ghost use Rattle.status.specs.DriveStatus.{octet_of, drive_status_octets, DecodedDriveStatus};
 ghost use Rattle.status.specs.Encoded.{EncodedAs};
 
 use crate::encoded::Encoded;
@@ -51,7 +51,7 @@ pub fn decode_drive_status(octets: &[u8]) -> DriveStatusRead
 // The status as the first octet, the others as they were. 10 where there is no octet. Every status is what a decoding
 // yields, so there is no 8.
 pub fn encode_drive_status(status: DriveStatus, octets: &mut [u8]) -> Encoded
-    ensures { EncodedAs (driveStatusOctets status) octets.old octets.new result }
+    ensures { EncodedAs (drive_status_octets status) octets.old octets.new result }
 {
     if octets.len() < 1 {
         return Encoded::Refused(10);
@@ -61,7 +61,7 @@ pub fn encode_drive_status(status: DriveStatus, octets: &mut [u8]) -> Encoded
 }
 
 fn octet_of(status: DriveStatus) -> u8
-    ensures { result ≡ octetOf status }
+    ensures { result ≡ octet_of status }
 {
     match status {
         DriveStatus::Normal => NORMAL,

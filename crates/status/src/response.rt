@@ -3,7 +3,7 @@ ghost use Rattle.std.specs.Prelude.{◌≤◌, not, ◌≡◌, eqb, length};
 ghost use Rattle.std.specs.Int.Bits.{bit_and};
 ghost use Rattle.laws.specs.Pick.{pick};
 ghost use Rattle.status.specs.Encoded.{EncodedAs};
-ghost use Rattle.status.specs.Response.{is_foreign, exceptionOctet, unsolicitedOctet, busControlOctet, responseOf, responseOctets, DecodedResponse};
+ghost use Rattle.status.specs.Response.{is_foreign, exception_octet, unsolicited_octet, bus_control_octet, response_of, response_octets, DecodedResponse};
 
 use crate::encoded::Encoded;
 
@@ -64,7 +64,7 @@ pub fn decode_response(octets: &[u8]) -> ResponseRead
 // The response as the first 8 octets, the others as they were. 10 where there are fewer. Every response is what a decoding
 // yields, so there is no 8.
 pub fn encode_response(response: Response, octets: &mut [u8]) -> Encoded
-    ensures { EncodedAs (responseOctets response) octets.old octets.new result }
+    ensures { EncodedAs (response_octets response) octets.old octets.new result }
 {
     if octets.len() < RESPONSE_LENGTH {
         return Encoded::Refused(10);
@@ -98,7 +98,7 @@ fn is_foreign(octets: &[u8]) -> bool
 }
 
 fn response_of(unsolicited: u8, bus_control: u8) -> Response
-    ensures { result ≡ responseOf unsolicited bus_control }
+    ensures { result ≡ response_of unsolicited bus_control }
 {
     Response {
         reset_complete: has(unsolicited, RESET_COMPLETE),
@@ -111,14 +111,14 @@ fn response_of(unsolicited: u8, bus_control: u8) -> Response
 }
 
 fn exception_octet(unsolicited: u8, bus_control: u8) -> u8
-    ensures { result ≡ exceptionOctet unsolicited bus_control }
+    ensures { result ≡ exception_octet unsolicited bus_control }
 {
     bit_when(unsolicited != 0, UNSOLICITED_EXCEPTION)
         + bit_when(bus_control != 0, BUS_CONTROL_EXCEPTION)
 }
 
 fn unsolicited_octet(response: Response) -> u8
-    ensures { result ≡ unsolicitedOctet response }
+    ensures { result ≡ unsolicited_octet response }
 {
     bit_when(response.reset_complete, RESET_COMPLETE)
         + bit_when(
@@ -128,7 +128,7 @@ fn unsolicited_octet(response: Response) -> u8
 }
 
 fn bus_control_octet(response: Response) -> u8
-    ensures { result ≡ busControlOctet response }
+    ensures { result ≡ bus_control_octet response }
 {
     bit_when(response.invalid_bus_control, INVALID_BUS_CONTROL)
         + bit_when(response.invalid_parameter, INVALID_PARAMETER)

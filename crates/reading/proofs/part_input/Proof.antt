@@ -3,7 +3,7 @@
 use mathlib.Core.Path.{sym}
 use native.Mathlib.Omega.{arith}
 use lib.Seq.{length-take-le}
-use Rattle.reading.proofs.Within.{size-within}
+use Rattle.reading.proofs.Within.{size_within}
 use borrow.Author.Rules.{rules}
 use Rattle.reading.proofs.part_input.Statement.{statement}
 use Rattle.reading.proofs.part_input.Tie as tie
@@ -37,7 +37,7 @@ slice-aggregate-tell c = search rules
 tell-requires : tie.Need-tell-requires
 tell-requires c κs =
     let called : tie.After-replay-part = search in
-    omega (arith, called.replay-part.kept.1.1.1.0, size-within _ called.replay-part.ensures)
+    omega (arith, called.replay-part.kept.1.1.1.0, size_within _ called.replay-part.ensures)
 
 same_length : tie.Need-same-length
 same_length c = search rules

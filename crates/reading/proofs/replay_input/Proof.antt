@@ -3,7 +3,7 @@
 use mathlib.Core.Path.{sym}
 use native.Mathlib.Omega.{arith}
 use lib.Seq.{length-take-le}
-use Rattle.reading.proofs.Within.{size-within}
+use Rattle.reading.proofs.Within.{size_within}
 use borrow.Author.Rules.{rules}
 use Rattle.reading.proofs.replay_input.Statement.{statement}
 use Rattle.reading.proofs.replay_input.Tie as tie
@@ -31,7 +31,7 @@ slice-aggregate-tell c = search rules
 tell-requires : tie.Need-tell-requires
 tell-requires c κs =
     let called : tie.After-replay = search in
-    omega (arith, called.replay.kept.1.0, size-within _ called.replay.ensures)
+    omega (arith, called.replay.kept.1.0, size_within _ called.replay.ensures)
 
 same_length : tie.Need-same-length
 same_length c = search rules

@@ -2,7 +2,7 @@
 -- Assumes nothing.
 use native.Mathlib.Omega.{arith}
 use Rattle.bench.proofs.Pieces.{put_both}
-use Rattle.bench.proofs.Lines.{fields-size}
+use Rattle.bench.proofs.Lines.{fields_size}
 use borrow.Author.Rules.{rules}
 use Rattle.bench.proofs.line.put_event.Statement.{statement}
 use Rattle.bench.proofs.line.put_event.Tie as tie
@@ -11,14 +11,14 @@ put-field-requires : tie.Need-put-field-requires
 put-field-requires c κs =
     let start : tie.Start = search in
     let args = start.args in
-    let size = fields-size args.number args.port args.refusal args.status.now in
+    let size = fields_size args.number args.port args.refusal args.status.now in
     omega (arith, start.pre, size)
 
 put-field-requires-2 : tie.Need-put-field-requires-2
 put-field-requires-2 c κs =
     let start : tie.Start = search in
     let args = start.args in
-    let size = fields-size args.number args.port args.refusal args.status.now in
+    let size = fields_size args.number args.port args.refusal args.status.now in
     let first : tie.After-put-field = search in
     omega (arith, start.pre, size, first.put-field.ensures.behind)
 
@@ -26,7 +26,7 @@ put-field-requires-3 : tie.Need-put-field-requires-3
 put-field-requires-3 c κs =
     let start : tie.Start = search in
     let args = start.args in
-    let size = fields-size args.number args.port args.refusal args.status.now in
+    let size = fields_size args.number args.port args.refusal args.status.now in
     let first : tie.After-put-field = search in
     let second : tie.After-put-field2 = search in
     omega (arith, start.pre, size, first.put-field.ensures.behind, second.put-field2.ensures.behind)
@@ -35,7 +35,7 @@ put-requires : tie.Need-put-requires
 put-requires c κs =
     let start : tie.Start = search in
     let args = start.args in
-    let size = fields-size args.number args.port args.refusal args.status.now in
+    let size = fields_size args.number args.port args.refusal args.status.now in
     let first : tie.After-put-field = search in
     let second : tie.After-put-field2 = search in
     let third : tie.After-put-field3 = search in

@@ -3,7 +3,7 @@
 use native.Mathlib.Omega.{arith}
 use Rattle.bench.specs.Line.{line_of}
 use Rattle.bench.proofs.Pieces.{put_both}
-use Rattle.bench.proofs.Lines.{line-end}
+use Rattle.bench.proofs.Lines.{line_end_lem}
 use borrow.Author.Rules.{rules}
 use Rattle.bench.proofs.line.put_line.Statement.{statement}
 use Rattle.bench.proofs.line.put_line.Tie as tie
@@ -25,7 +25,7 @@ put-event-requires c κs =
     let start : tie.Start = search in
     let refusal : tie.After-refusal-of = search in
     let status : tie.After-status-text = search in
-    rw (refusal.refusal-of.ensures, status.status-text.ensures) (omega (arith, start.pre, line-end start.args.number start.args.port start.args.answer))
+    rw (refusal.refusal-of.ensures, status.status-text.ensures) (omega (arith, start.pre, line_end_lem start.args.number start.args.port start.args.answer))
 
 put-octet-requires : tie.Need-put-octet-requires
 put-octet-requires c κs =
@@ -33,7 +33,7 @@ put-octet-requires c κs =
     let refusal : tie.After-refusal-of = search in
     let status : tie.After-status-text = search in
     let put : tie.After-put-event = search in
-    omega (arith, start.pre, line-end start.args.number start.args.port start.args.answer, rw (refusal.refusal-of.ensures, status.status-text.ensures) at put.put-event.ensures.behind)
+    omega (arith, start.pre, line_end_lem start.args.number start.args.port start.args.answer, rw (refusal.refusal-of.ensures, status.status-text.ensures) at put.put-event.ensures.behind)
 
 same_length : tie.Need-same-length
 same_length c = search rules

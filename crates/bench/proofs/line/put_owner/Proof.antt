@@ -7,22 +7,22 @@ use native.Mathlib.Omega.{arith}
 use borrow.Author.Tests.{ne_eqb}
 use lib.ListN.{length}
 use Rattle.laws.specs.Pick.{pick}
-use Rattle.bench.specs.Line.{ownerWord, noneWord, ownerLine}
+use Rattle.bench.specs.Line.{owner_word, none_word, owner_line}
 use Rattle.bench.specs.Text.{digit, newline}
 use borrow.Author.Rules.{rules}
 use Rattle.bench.proofs.line.put_owner.Statement.{statement}
 use Rattle.bench.proofs.line.put_owner.Tie as tie
 
-port-0 : (owner : ℕ) → owner ≡ 0 → ownerLine owner ≡ ownerWord ++ (digit 0 ∷ []) ++ (newline ∷ [])
-unfolding ownerLine pick
+port-0 : (owner : ℕ) → owner ≡ 0 → owner_line owner ≡ owner_word ++ (digit 0 ∷ []) ++ (newline ∷ [])
+unfolding owner_line pick
 port-0 owner e = rw e
 
-port-1 : (owner : ℕ) → owner ≡ 1 → ownerLine owner ≡ ownerWord ++ (digit 1 ∷ []) ++ (newline ∷ [])
-unfolding ownerLine pick
+port-1 : (owner : ℕ) → owner ≡ 1 → owner_line owner ≡ owner_word ++ (digit 1 ∷ []) ++ (newline ∷ [])
+unfolding owner_line pick
 port-1 owner e = rw e
 
-nobody's : (owner : ℕ) → (owner ≡ 0 → ⊥) → (owner ≡ 1 → ⊥) → ownerLine owner ≡ ownerWord ++ noneWord ++ (newline ∷ [])
-unfolding ownerLine pick
+nobody's : (owner : ℕ) → (owner ≡ 0 → ⊥) → (owner ≡ 1 → ⊥) → owner_line owner ≡ owner_word ++ none_word ++ (newline ∷ [])
+unfolding owner_line pick
 nobody's owner p q = rw (ne_eqb owner 0 p, ne_eqb owner 1 q)
 
 slice-aggregate-put : tie.Need-slice-aggregate-put

@@ -1,9 +1,9 @@
 -- `bench::line::put_told_line` meets its contract: the fields of the event, the gap, and the end of the line.
 -- Assumes nothing.
 use native.Mathlib.Omega.{arith}
-use Rattle.bench.specs.Told.{toldLine}
+use Rattle.bench.specs.Told.{told_line}
 use Rattle.bench.proofs.Pieces.{put_both}
-use Rattle.bench.proofs.Told.{told-line-size}
+use Rattle.bench.proofs.Told.{told_line_size}
 use borrow.Author.Rules.{rules}
 use Rattle.bench.proofs.line.put_told_line.Statement.{statement}
 use Rattle.bench.proofs.line.put_told_line.Tie as tie
@@ -19,7 +19,7 @@ put-event-requires c κs =
     let start : tie.Start = search in
     let args = start.args in
     let status : tie.After-status-told-by = search in
-    let size = told-line-size args.number args.port args.refusal args.status args.gap in
+    let size = told_line_size args.number args.port args.refusal args.status args.gap in
     rw status.status-told-by.ensures (omega (arith, start.pre, size))
 
 put-octet-requires : tie.Need-put-octet-requires
@@ -27,7 +27,7 @@ put-octet-requires c κs =
     let start : tie.Start = search in
     let args = start.args in
     let status : tie.After-status-told-by = search in
-    let size = told-line-size args.number args.port args.refusal args.status args.gap in
+    let size = told_line_size args.number args.port args.refusal args.status args.gap in
     let put : tie.After-put-event = search in
     let fields = rw status.status-told-by.ensures at put.put-event.ensures.behind in
     omega (arith, start.pre, size, fields)
@@ -37,7 +37,7 @@ put-decimal-requires c κs =
     let start : tie.Start = search in
     let args = start.args in
     let status : tie.After-status-told-by = search in
-    let size = told-line-size args.number args.port args.refusal args.status args.gap in
+    let size = told_line_size args.number args.port args.refusal args.status args.gap in
     let put : tie.After-put-event = search in
     let fields = rw status.status-told-by.ensures at put.put-event.ensures.behind in
     let space : tie.After-put-octet = search in
@@ -48,7 +48,7 @@ put-octet-requires-2 c κs =
     let start : tie.Start = search in
     let args = start.args in
     let status : tie.After-status-told-by = search in
-    let size = told-line-size args.number args.port args.refusal args.status args.gap in
+    let size = told_line_size args.number args.port args.refusal args.status args.gap in
     let put : tie.After-put-event = search in
     let fields = rw status.status-told-by.ensures at put.put-event.ensures.behind in
     let space : tie.After-put-octet = search in
@@ -59,7 +59,7 @@ same_length : tie.Need-same-length
 same_length c = search rules
 
 returns : tie.Need-returns
-unfolding toldLine
+unfolding told_line
 returns c =
     let status : tie.After-status-told-by = search in
     let put : tie.After-put-event = search in

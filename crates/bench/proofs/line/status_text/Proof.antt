@@ -2,7 +2,7 @@
 -- Assumes nothing.
 use Rattle.laws.specs.Pick.{pick}
 use Rattle.drive.specs.Answer.{paper}
-use Rattle.bench.specs.Text.{hexDigit}
+use Rattle.bench.specs.Text.{hex_digit}
 use borrow.Author.Rules.{rules}
 use Rattle.bench.proofs.line.status_text.Statement.{statement}
 use Rattle.bench.proofs.line.status_text.Tie as tie
@@ -55,11 +55,11 @@ unfolding paper
 returns-5 c = rw c.before.before.enum-told4.given.1
 
 returns-6 : tie.Need-returns-6
-unfolding paper hexDigit pick
+unfolding paper hex_digit pick
 returns-6 c = rw c.before.before.enum-told5.given.1
 
 returns-7 : tie.Need-returns-7
-unfolding paper hexDigit pick
+unfolding paper hex_digit pick
 returns-7 c = rw c.before.before.enum-told6.given.1
 
 pub status-text-spec : {M : Type 1} → statement M

@@ -2,13 +2,13 @@
 -- Assumes nothing.
 use borrow.Author.Tests.{eq-eqb, ne_eqb}
 use Rattle.laws.specs.Pick.{pick}
-use Rattle.bench.specs.Told.{statusToldBy}
+use Rattle.bench.specs.Told.{status_told_by}
 use borrow.Author.Rules.{rules}
 use Rattle.bench.proofs.line.status_told_by.Statement.{statement}
 use Rattle.bench.proofs.line.status_told_by.Tie as tie
 
 returns : tie.Need-returns
-unfolding statusToldBy pick
+unfolding status_told_by pick
 returns c =
     let then1 : tie.Then1 = search in
     rw (eq-eqb _ _ then1.if1.taken)
@@ -26,7 +26,7 @@ hex-digit-requires-2 : tie.Need-hex-digit-requires-2
 hex-digit-requires-2 c κs = search rules
 
 returns-2 : tie.Need-returns-2
-unfolding statusToldBy pick
+unfolding status_told_by pick
 returns-2 c =
     let else1 : tie.Else1 = search in
     let high : tie.After-hex-digit = search in

@@ -5,15 +5,15 @@ use mathlib.Core.Path.{◌≡◌, refl}
 use native.Mathlib.Omega.{arith}
 use borrow.Author.Rules.{rules}
 use lib.ListN.{length, drop, length-append}
-use Rattle.bench.specs.Told.{toldLines}
-use Rattle.bench.proofs.Pieces.{Going, going-from, going_on, finished}
-use Rattle.bench.proofs.Told.{told-left, told-all, told-next, told_none}
+use Rattle.bench.specs.Told.{told_lines}
+use Rattle.bench.proofs.Pieces.{Going, going_from, going_on_lem, finished}
+use Rattle.bench.proofs.Told.{told_left, told_all, told_next, told_none}
 use Rattle.bench.proofs.part.put_lines.Statement.{statement}
 use Rattle.bench.proofs.part.put_lines.Tie as tie
 
 abbrev invariant-loop : tie.invariant-loop
 invariant-loop text₀ at records from count answers gaps end₀ i₀ text end i =
-    (i ≤ count) × (length text ≡ length text₀) × Going text₀ at (toldLines (from + 1) count (drop (8 * from) records) answers gaps) text end (told-left records from count answers gaps i)
+    (i ≤ count) × (length text ≡ length text₀) × Going text₀ at (told_lines (from + 1) count (drop (8 * from) records) answers gaps) text end (told_left records from count answers gaps i)
 
 abbrev decreases-loop : tie.decreases-loop
 decreases-loop text₀ at records from count answers gaps end₀ i₀ text end i = count - i
@@ -22,7 +22,7 @@ loop-holds : tie.Need-loop-init invariant-loop decreases-loop
 loop-holds c =
     let start : tie.Start invariant-loop decreases-loop = search in
     let args = start.args in
-    (search rules, refl, going-from (told-all args.records.now args.from args.count args.answers.now args.gaps.now) start.pre.1)
+    (search rules, refl, going_from (told_all args.records.now args.from args.count args.answers.now args.gaps.now) start.pre.1)
 
 add-port : tie.Need-overflow-add-port invariant-loop decreases-loop
 add-port c = search rules
@@ -75,7 +75,7 @@ put-told-line-requires c κs =
     let here : tie.At-loop invariant-loop decreases-loop = search in
     let start : tie.Start invariant-loop decreases-loop = search in
     let args = start.args in
-    let next = told-next args.records.now args.from args.count args.answers.now args.gaps.now here.loop.i turn.loop-test.taken in
+    let next = told_next args.records.now args.from args.count args.answers.now args.gaps.now here.loop.i turn.loop-test.taken in
     omega (arith, simp length-append at (rw next at here.loop.inv.2).room)
 
 loop-less : tie.Need-loop-smaller invariant-loop decreases-loop
@@ -87,9 +87,9 @@ loop-again c =
     let here : tie.At-loop invariant-loop decreases-loop = search in
     let start : tie.Start invariant-loop decreases-loop = search in
     let args = start.args in
-    let next = told-next args.records.now args.from args.count args.answers.now args.gaps.now here.loop.i turn.loop-test.taken in
+    let next = told_next args.records.now args.from args.count args.answers.now args.gaps.now here.loop.i turn.loop-test.taken in
     let put : tie.After-put-told-line invariant-loop decreases-loop = search in
-    (search rules, search rules, going_on (rw next at here.loop.inv.2) put.put-told-line.ensures)
+    (search rules, search rules, going_on_lem (rw next at here.loop.inv.2) put.put-told-line.ensures)
 
 same_length : tie.Need-same-length invariant-loop decreases-loop
 same_length c = search rules

@@ -2,7 +2,7 @@
 -- Assumes nothing.
 use borrow.Author.Tests.{lt-ltb, le-ltb}
 use Rattle.laws.specs.Pick.{pick}
-use Rattle.bench.specs.Part.{nextLine}
+use Rattle.bench.specs.Part.{next_line}
 use borrow.Author.Rules.{rules}
 use Rattle.bench.proofs.part.put_next.Statement.{statement}
 use Rattle.bench.proofs.part.put_next.Tie as tie
@@ -11,7 +11,7 @@ slice-aggregate-put-numbered : tie.Need-slice-aggregate-put-numbered
 slice-aggregate-put-numbered c = search rules
 
 put-numbered-requires : tie.Need-put-numbered-requires
-unfolding nextLine pick
+unfolding next_line pick
 put-numbered-requires c κs =
     let start : tie.Start = search in
     let then1 : tie.Then1 = search in
@@ -21,7 +21,7 @@ same_length : tie.Need-same-length
 same_length c = search rules
 
 returns : tie.Need-returns
-unfolding nextLine pick
+unfolding next_line pick
 returns c =
     let then1 : tie.Then1 = search in
     let put : tie.After-put-numbered = search in
@@ -31,7 +31,7 @@ slice-aggregate-put : tie.Need-slice-aggregate-put
 slice-aggregate-put c = search rules
 
 put-requires : tie.Need-put-requires
-unfolding nextLine pick
+unfolding next_line pick
 put-requires c κs =
     let start : tie.Start = search in
     let else1 : tie.Else1 = search in
@@ -41,7 +41,7 @@ same-length-2 : tie.Need-same-length-2
 same-length-2 c = search rules
 
 returns-2 : tie.Need-returns-2
-unfolding nextLine pick
+unfolding next_line pick
 returns-2 c =
     let else1 : tie.Else1 = search in
     let put : tie.After-put = search in

@@ -4,8 +4,8 @@ use Prim.Native.Nat.{◌+◌, ◌*◌, ◌/◌}
 use native.Mathlib.Omega.{arith}
 use lib.ListN.{length, drop}
 use Rattle.bench.proofs.Pieces.{put_both}
-use Rattle.bench.specs.Told.{toldLines}
-use Rattle.bench.proofs.Lines.{text-size}
+use Rattle.bench.specs.Told.{told_lines}
+use Rattle.bench.proofs.Lines.{text_size}
 use borrow.Author.Rules.{rules}
 use Rattle.bench.proofs.part.put_told.Statement.{statement}
 use Rattle.bench.proofs.part.put_told.Tie as tie
@@ -17,16 +17,16 @@ put-numbered-requires : tie.Need-put-numbered-requires
 put-numbered-requires c κs =
     let start : tie.Start = search in
     let args = start.args in
-    let lines-told = toldLines (args.from + 1) args.count (drop (8 * args.from) args.records.now) args.answers.now args.gaps.now in
-    let size = text-size args.count lines-told args.owner (length args.records.now / 8) (args.from + args.count) in
+    let lines_told = told_lines (args.from + 1) args.count (drop (8 * args.from) args.records.now) args.answers.now args.gaps.now in
+    let size = text_size args.count lines_told args.owner (length args.records.now / 8) (args.from + args.count) in
     omega (arith, start.pre.2, size)
 
 put-lines-requires : tie.Need-put-lines-requires
 put-lines-requires c κs =
     let start : tie.Start = search in
     let args = start.args in
-    let lines-told = toldLines (args.from + 1) args.count (drop (8 * args.from) args.records.now) args.answers.now args.gaps.now in
-    let size = text-size args.count lines-told args.owner (length args.records.now / 8) (args.from + args.count) in
+    let lines_told = told_lines (args.from + 1) args.count (drop (8 * args.from) args.records.now) args.answers.now args.gaps.now in
+    let size = text_size args.count lines_told args.owner (length args.records.now / 8) (args.from + args.count) in
     let numbered : tie.After-put-numbered = search in
     (start.pre.0, omega (arith, start.pre.2, size, numbered.put-numbered.ensures.behind))
 
@@ -34,8 +34,8 @@ put-owner-requires : tie.Need-put-owner-requires
 put-owner-requires c κs =
     let start : tie.Start = search in
     let args = start.args in
-    let lines-told = toldLines (args.from + 1) args.count (drop (8 * args.from) args.records.now) args.answers.now args.gaps.now in
-    let size = text-size args.count lines-told args.owner (length args.records.now / 8) (args.from + args.count) in
+    let lines_told = told_lines (args.from + 1) args.count (drop (8 * args.from) args.records.now) args.answers.now args.gaps.now in
+    let size = text_size args.count lines_told args.owner (length args.records.now / 8) (args.from + args.count) in
     let numbered : tie.After-put-numbered = search in
     let lines : tie.After-put-lines = search in
     omega (arith, start.pre.2, size, numbered.put-numbered.ensures.behind, lines.put-lines.ensures.behind)
@@ -47,8 +47,8 @@ put-next-requires : tie.Need-put-next-requires
 put-next-requires c κs =
     let start : tie.Start = search in
     let args = start.args in
-    let lines-told = toldLines (args.from + 1) args.count (drop (8 * args.from) args.records.now) args.answers.now args.gaps.now in
-    let size = text-size args.count lines-told args.owner (length args.records.now / 8) (args.from + args.count) in
+    let lines_told = told_lines (args.from + 1) args.count (drop (8 * args.from) args.records.now) args.answers.now args.gaps.now in
+    let size = text_size args.count lines_told args.owner (length args.records.now / 8) (args.from + args.count) in
     let numbered : tie.After-put-numbered = search in
     let lines : tie.After-put-lines = search in
     let owner : tie.After-put-owner = search in

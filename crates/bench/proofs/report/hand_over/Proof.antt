@@ -3,7 +3,7 @@
 use borrow.Author.Tests.{lt-ltb, le-ltb}
 use Rattle.laws.specs.Pick.{pick}
 use Rattle.bench.proofs.Promised.{reported}
-use Rattle.bench.proofs.Pieces.{put-over}
+use Rattle.bench.proofs.Pieces.{put_over}
 use borrow.Author.Rules.{rules}
 use Rattle.bench.proofs.report.hand_over.Statement.{statement}
 use Rattle.bench.proofs.report.hand_over.Tie as tie
@@ -25,7 +25,7 @@ unfolding pick
 returns-2 c =
     let else1 : tie.Else1 = search in
     let put : tie.After-put = search in
-    reported (rw (le-ltb _ _ else1.if1.left)) (rw (le-ltb _ _ else1.if1.left) (put-over put.put.ensures))
+    reported (rw (le-ltb _ _ else1.if1.left)) (rw (le-ltb _ _ else1.if1.left) (put_over put.put.ensures))
 
 pub hand-over-spec : {M : Type 1} → statement M
 hand-over-spec = tie.close (tie.spec returns put-requires same_length returns-2)

@@ -3,9 +3,9 @@
 use native.Mathlib.Omega.{arith}
 use borrow.Author.Tests.{lt-ltb}
 use Rattle.laws.specs.Pick.{pick}
-use Rattle.bench.specs.Report.{reportOf}
-use Rattle.bench.proofs.Captured.{report-refused, report-run, records-short, records-whole}
-use Rattle.bench.proofs.Fits.{report-fits}
+use Rattle.bench.specs.Report.{report_of}
+use Rattle.bench.proofs.Captured.{report_refused, report_run, records_short, records_whole}
+use Rattle.bench.proofs.Fits.{report_fits}
 use borrow.Author.Rules.{rules}
 use Rattle.bench.proofs.report.put_report.Statement.{statement}
 use Rattle.bench.proofs.report.put_report.Tie as tie
@@ -20,7 +20,7 @@ same_length : tie.Need-same-length
 same_length c = search rules
 
 returns : tie.Need-returns
-unfolding reportOf pick
+unfolding report_of pick
 returns c =
     let then1 : tie.Then1 = search in
     let put : tie.After-put = search in
@@ -43,10 +43,10 @@ put-numbered-requires c κs =
     let start : tie.Start = search in
     let args = start.args in
     let else1 : tie.Else1 = search in
-    let fits = report-fits args.wanted args.octets.now (λ i. (else1.before.shared-slice-known.given i).fits) in
+    let fits = report_fits args.wanted args.octets.now (λ i. (else1.before.shared-slice-known.given i).fits) in
     let decoded : tie.After-decode-capture = search in
     let told : tie.After-n = search in
-    let refused = report-refused args.wanted args.octets.now else1.if1.left (rw told.n.given.1 at decoded.decode-capture.ensures) in
+    let refused = report_refused args.wanted args.octets.now else1.if1.left (rw told.n.given.1 at decoded.decode-capture.ensures) in
     omega (arith, start.pre, rw refused at fits)
 
 enum_told : tie.Need-enum-told
@@ -60,14 +60,14 @@ put-wanted-requires c κs =
     let start : tie.Start = search in
     let args = start.args in
     let else1 : tie.Else1 = search in
-    let fits = report-fits args.wanted args.octets.now (λ i. (else1.before.shared-slice-known.given i).fits) in
+    let fits = report_fits args.wanted args.octets.now (λ i. (else1.before.shared-slice-known.given i).fits) in
     let decoded : tie.After-decode-capture = search in
     let told : tie.After-enum-told = search in
     let found = rw told.enum_told.given.1 at decoded.decode-capture.ensures in
-    let run = report-run args.wanted args.octets.now else1.if1.left found in
+    let run = report_run args.wanted args.octets.now else1.if1.left found in
     let given : tie.After-records = search in
     rw given.records.ensures.records
-    (omega (arith, start.pre, rw run at fits), records-short args.octets.now found else1.if1.left, records-whole args.octets.now found)
+    (omega (arith, start.pre, rw run at fits), records_short args.octets.now found else1.if1.left, records_whole args.octets.now found)
 
 same-length-2 : tie.Need-same-length-2
 same-length-2 c = search rules
@@ -80,7 +80,7 @@ returns-2 c =
     let decoded : tie.After-decode-capture = search in
     let told : tie.After-n = search in
     let put : tie.After-put-numbered = search in
-    rw (report-refused args.wanted args.octets.now else1.if1.left (rw told.n.given.1 at decoded.decode-capture.ensures)) put.put-numbered.ensures
+    rw (report_refused args.wanted args.octets.now else1.if1.left (rw told.n.given.1 at decoded.decode-capture.ensures)) put.put-numbered.ensures
 
 same-length-3 : tie.Need-same-length-3
 same-length-3 c = search rules
@@ -94,7 +94,7 @@ returns-3 c =
     let told : tie.After-enum-told = search in
     let given : tie.After-records = search in
     let put : tie.After-put-wanted = search in
-    rw (report-run args.wanted args.octets.now else1.if1.left (rw told.enum_told.given.1 at decoded.decode-capture.ensures), ← given.records.ensures.records) put.put_wanted.ensures
+    rw (report_run args.wanted args.octets.now else1.if1.left (rw told.enum_told.given.1 at decoded.decode-capture.ensures), ← given.records.ensures.records) put.put_wanted.ensures
 
 pub put-report-spec : {M : Type 1} → statement M
 put-report-spec =

@@ -6,11 +6,11 @@ use mathlib.Core.List.{List}
 use native.Mathlib.Omega.{arith}
 use borrow.Author.Tests.{le-ltb}
 use lib.ListN.{length, drop, length-drop}
-use Rattle.laws.proofs.Rows.{none-given}
-use Rattle.laws.proofs.Runs.{rest-whole}
-use Rattle.capture.specs.Record.{recordOf, recordRows}
+use Rattle.laws.proofs.Rows.{none_given}
+use Rattle.laws.proofs.Runs.{rest_whole}
+use Rattle.capture.specs.Record.{record_of, record_rows}
 use Rattle.capture.specs.declared.«record».RecordRead.TheVariants.{Decoded}
-use Rattle.drive.specs.Batch.{eventOf}
+use Rattle.drive.specs.Batch.{event_of}
 use borrow.Author.Rules.{rules}
 use Rattle.bench.proofs.run.event_at.Statement.{statement}
 use Rattle.bench.proofs.run.event_at.Tie as tie
@@ -33,22 +33,22 @@ enum-known-r c = search rules
 enum-known-n : tie.Need-enum-known-n
 enum-known-n c = search rules
 
-decoded : (c : tie.After-decode-record) → c.decode-record.result ≡ Decoded (recordOf (drop c.before.before.before.args.at c.before.before.before.args.records.now))
+decoded : (c : tie.After-decode-record) → c.decode-record.result ≡ Decoded (record_of (drop c.before.before.before.args.at c.before.before.before.args.records.now))
 decoded c =
     let a = c.before.before.before.args in
     let slice = drop a.at a.records.now in
     let long : 8 ≤ length slice = simp length-drop (omega arith) in
-    (rw (rest-whole a.records.now a.at) at c.decode-record.ensures.answer) ∙ rw (none-given (recordRows slice) (le-ltb (length slice) 8 long, tt))
+    (rw (rest_whole a.records.now a.at) at c.decode-record.ensures.answer) ∙ rw (none_given (record_rows slice) (le-ltb (length slice) 8 long, tt))
 
 -- the drive's event of a record is the capture's, without the tick
-as-recorded : (octets : List ℕ) → let r = recordOf octets in record { port = r.port; kind = r.kind; a0 = r.a0; a1 = r.a1; a2 = r.a2; a3 = r.a3 } ≡ eventOf octets
-unfolding recordOf eventOf
+as-recorded : (octets : List ℕ) → let r = record_of octets in record { port = r.port; kind = r.kind; a0 = r.a0; a1 = r.a1; a2 = r.a2; a3 = r.a3 } ≡ event_of octets
+unfolding record_of event_of
 as-recorded octets = refl
 
 returns : tie.Need-returns
 returns c =
     let a = c.before.before.before.before.before.before.args in
-    let same : c.before.r.given.0.0 ≡ recordOf (drop a.at a.records.now) = cc (decoded c.before.before.before, c.before.r.given.1) in
+    let same : c.before.r.given.0.0 ≡ record_of (drop a.at a.records.now) = cc (decoded c.before.before.before, c.before.r.given.1) in
     rw same (as-recorded (drop a.at a.records.now))
 
 returns-2 : tie.Need-returns-2

@@ -7,18 +7,18 @@ use native.Mathlib.Omega.{arith}
 use borrow.Author.Rules.{rules}
 use lib.ListN.{length, length-append}
 use Rattle.drive.specs.Run.{machine}
-use Rattle.bench.specs.Line.{line_of, ownerLine}
-use Rattle.drive.specs.Batch.{eventsOf}
-use Rattle.bench.specs.Run.{linesOfRun}
-use Rattle.bench.proofs.Pieces.{Going, going-from, going_on}
-use Rattle.bench.proofs.Lines.{left, left-next, left-none, left-all}
+use Rattle.bench.specs.Line.{line_of, owner_line}
+use Rattle.drive.specs.Batch.{events_of}
+use Rattle.bench.specs.Run.{lines_of_run}
+use Rattle.bench.proofs.Pieces.{Going, going_from, going_on_lem}
+use Rattle.bench.proofs.Lines.{left, left_next, left_none, left_all}
 use Rattle.bench.proofs.run.put_lines.Statement.{statement}
 use Rattle.bench.proofs.run.put_lines.Tie as tie
 
 abbrev invariant-loop : tie.invariant-loop
 invariant-loop text₀ at records sectors₀ staging₀ count drive₀ end₀ i₀ text sectors staging drive end i =
     (i ≤ count) × (length text ≡ length text₀) × (length sectors ≡ length sectors₀) × (length staging ≡ length staging₀)
-    × Going text₀ at (linesOfRun 1 (machine drive₀ sectors₀ staging₀) (eventsOf records)) text end (left records count i (machine drive sectors staging))
+    × Going text₀ at (lines_of_run 1 (machine drive₀ sectors₀ staging₀) (events_of records)) text end (left records count i (machine drive sectors staging))
 
 abbrev decreases-loop : tie.decreases-loop
 decreases-loop text₀ at records sectors₀ staging₀ count drive₀ end₀ i₀ text sectors staging drive end i = count - i
@@ -28,30 +28,30 @@ going : (c : tie.After-handle invariant-loop decreases-loop)
     → let loop = c.before.before.before.before.before in
     let start = loop.before.before.before.before.before.args in
     let records = start.records.now in
-    Going start.text.now start.at (linesOfRun 1 (machine start.bench start.sectors.now start.staging.now) (eventsOf records)) loop.loop.text loop.loop.end
+    Going start.text.now start.at (lines_of_run 1 (machine start.bench start.sectors.now start.staging.now) (events_of records)) loop.loop.text loop.loop.end
     (line_of (loop.loop.i + 1) c.before.before.before.event-at.result.port c.handle.result.answer
     ++ left records (length records / 8) (loop.loop.i + 1) (machine c.handle.result.drive c.handle.new.1.1.0 c.handle.new.1.1.1.0))
 going c =
     let called = c.before.before.before in
     let loop = called.before.before in
     let records = loop.before.before.before.before.before.args.records.now in
-    rw (left-next records (length records / 8) loop.loop.i called.before.loop-test.true called.event-at.ensures c.handle.ensures) at loop.loop.invariant.4
+    rw (left_next records (length records / 8) loop.loop.i called.before.loop-test.true called.event-at.ensures c.handle.ensures) at loop.loop.invariant.4
 
 -- the owner's line alone is left
 ending : (c : tie.At-loop invariant-loop decreases-loop)
     → let start = c.before.before.before.before.before.args in
     let records = start.records.now in
     c.loop.i ≡ length records / 8
-    → Going start.text.now start.at (linesOfRun 1 (machine start.bench start.sectors.now start.staging.now) (eventsOf records)) c.loop.text c.loop.end
-    (ownerLine c.loop.drive.holding.owner)
+    → Going start.text.now start.at (lines_of_run 1 (machine start.bench start.sectors.now start.staging.now) (events_of records)) c.loop.text c.loop.end
+    (owner_line c.loop.drive.holding.owner)
 ending c e =
     let records = c.before.before.before.before.before.args.records.now in
-    rw (left-none records (length records / 8) c.loop.i (machine c.loop.drive c.loop.sectors c.loop.staging) e) at c.loop.invariant.4
+    rw (left_none records (length records / 8) c.loop.i (machine c.loop.drive c.loop.sectors c.loop.staging) e) at c.loop.invariant.4
 
 loop-holds : tie.Need-loop-init invariant-loop decreases-loop
 loop-holds c =
     let a = c.before.before.before.before.args in
-    (search rules, refl, refl, refl, going-from (left-all a.records.now (machine a.bench a.sectors.now a.staging.now)) c.before.before.before.before.requires)
+    (search rules, refl, refl, refl, going_from (left_all a.records.now (machine a.bench a.sectors.now a.staging.now)) c.before.before.before.before.requires)
 
 mul-event-at : tie.Need-overflow-mul-event-at invariant-loop decreases-loop
 mul-event-at c = search rules
@@ -81,7 +81,7 @@ loop-again c =
       line.put-line.auto.0 ∙ loop.invariant.1,
       call.handle.auto.1.1.0 ∙ loop.invariant.2,
       call.handle.auto.1.1.1.0 ∙ loop.invariant.3,
-      going_on (going call) line.put-line.ensures,
+      going_on_lem (going call) line.put-line.ensures,
     )
 
 put-owner-requires : tie.Need-put-owner-requires invariant-loop decreases-loop

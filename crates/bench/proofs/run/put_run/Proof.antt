@@ -4,14 +4,14 @@ use Prim.Native.Nat.{ℕ, ◌+◌, ◌≤◌}
 use mathlib.Core.Path.{◌≡◌}
 use native.Mathlib.Omega.{arith}
 use lib.ListN.{length, length-append}
-use Rattle.drive.specs.Power.{atRest}
+use Rattle.drive.specs.Power.{at_rest}
 use Rattle.drive.specs.Cases.{bench}
 use Rattle.drive.specs.declared.power.Powered.TheVariants.{Up}
-use Rattle.drive.specs.Batch.{eventsOf}
-use Rattle.bench.specs.Run.{benchAtRest, linesOfRun, runReport}
-use Rattle.bench.proofs.Pieces.{Going, going-from, going_on}
-use Rattle.bench.proofs.Lines.{run-report}
-use Rattle.bench.proofs.Bench.{bench-is-up}
+use Rattle.drive.specs.Batch.{events_of}
+use Rattle.bench.specs.Run.{bench_at_rest, lines_of_run, run_report}
+use Rattle.bench.proofs.Pieces.{Going, going_from, going_on_lem}
+use Rattle.bench.proofs.Lines.{run_report_lem}
+use Rattle.bench.proofs.Bench.{bench_is_up}
 use borrow.Author.Rules.{rules}
 use Rattle.bench.proofs.run.put_run.Statement.{statement}
 use Rattle.bench.proofs.run.put_run.Tie as tie
@@ -20,15 +20,15 @@ slice-aggregate-put-numbered : tie.Need-slice-aggregate-put-numbered
 slice-aggregate-put-numbered c = search rules
 
 put-numbered-requires : tie.Need-put-numbered-requires
-put-numbered-requires c κs = omega (arith, simp length-append at (rw (run-report c.before.before.before.before.args.records.now) at c.before.before.before.before.requires))
+put-numbered-requires c κs = omega (arith, simp length-append at (rw (run_report_lem c.before.before.before.before.args.records.now) at c.before.before.before.before.requires))
 
 going : (c : tie.After-put-numbered)
     → let a = c.before.before.before.before.before.args in
-    Going a.text.now 0 (runReport a.records.now) c.put-numbered.new.0 c.put-numbered.result (linesOfRun 1 benchAtRest (eventsOf a.records.now))
+    Going a.text.now 0 (run_report a.records.now) c.put-numbered.new.0 c.put-numbered.result (lines_of_run 1 bench_at_rest (events_of a.records.now))
 going c =
     let start = c.before.before.before.before.before in
-    let room : 0 + length (runReport start.args.records.now) ≤ length start.args.text.now = omega (arith, start.requires) in
-    going_on (going-from (run-report start.args.records.now) room) c.put-numbered.ensures
+    let room : 0 + length (run_report start.args.records.now) ≤ length start.args.text.now = omega (arith, start.requires) in
+    going_on_lem (going_from (run_report_lem start.args.records.now) room) c.put-numbered.ensures
 
 slice-aggregate-power-up : tie.Need-slice-aggregate-power-up
 slice-aggregate-power-up c = search rules
@@ -39,13 +39,13 @@ slice-aggregate-power-up-2 c = search rules
 power-up-requires : tie.Need-power-up-requires
 power-up-requires c κs = search rules
 
-up : (c : tie.After-power-up) → c.power-up.result ≡ Up (atRest bench)
-up c = bench-is-up c.power-up.ensures
+up : (c : tie.After-power-up) → c.power_up_lem.result ≡ Up (at_rest bench)
+up c = bench_is_up c.power_up_lem.ensures
 
 enum-known-powered : tie.Need-enum-known-powered
 enum-known-powered c = search rules
 
-rests : (c : tie.After-powered) → c.powered.given.0.0 ≡ atRest bench
+rests : (c : tie.After-powered) → c.powered.given.0.0 ≡ at_rest bench
 rests c = cc (up c.before.before, c.powered.given.1)
 
 slice-aggregate-put-lines : tie.Need-slice-aggregate-put-lines

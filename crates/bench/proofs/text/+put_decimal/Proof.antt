@@ -8,7 +8,7 @@ use borrow.Fn.Kinds.{In}
 use borrow.Fn.PlainCycle.{Measures, is, falls, and}
 use lib.ListN.{length}
 use Rattle.bench.proofs.Pieces.{put_both}
-use Rattle.bench.proofs.Digits.{one-digit, more-digits, tenth-size}
+use Rattle.bench.proofs.Digits.{one_digit, more_digits, tenth_size}
 use Rattle.bench.proofs.text.put_decimal.Reads as put-decimal
 use Rattle.bench.proofs.text.put_decimal.Kinds as put-decimal-kinds
 use Rattle.bench.proofs.text.+put_decimal.Lts-put_decimal as put-decimal-lts
@@ -37,7 +37,7 @@ decimal-digit-requires : (t : ℕ) → put-decimal-lts.Need-decimal-digit-requir
 decimal-digit-requires t c κs = search rules
 
 put-octet-requires : (t : ℕ) → put-decimal-lts.Need-put-octet-requires (claims t) (at-t t) put-decimal.Post
-put-octet-requires t c κs = let b = c.before.before in omega (arith, b.before.before.requires.1, ap length (one-digit b.before.before.args.n b.if1.true))
+put-octet-requires t c κs = let b = c.before.before in omega (arith, b.before.before.requires.1, ap length (one_digit b.before.before.args.n b.if1.true))
 
 same_length : (t : ℕ) → put-decimal-lts.Need-same-length (claims t) (at-t t) put-decimal.Post
 same_length t c = search rules
@@ -45,12 +45,12 @@ same_length t c = search rules
 returns : (t : ℕ) → put-decimal-lts.Need-returns (claims t) (at-t t) put-decimal.Post
 returns t c =
     let told = c.before.before.before in
-    rw (one-digit _ told.before.before.if1.true, ← told.decimal_digit.ensures) c.before.before.put-octet.ensures
+    rw (one_digit _ told.before.before.if1.true, ← told.decimal_digit.ensures) c.before.before.put-octet.ensures
 
 put-decimal-requires : (t : ℕ) → put-decimal-lts.Need-put-decimal-requires (claims t) (at-t t) put-decimal.Post
 put-decimal-requires t c κs =
     let start = c.before.before.before in
-    (omega (arith, start.requires.0), omega (arith, start.requires.1, tenth-size start.args.n c.before.if1.false))
+    (omega (arith, start.requires.0), omega (arith, start.requires.1, tenth_size start.args.n c.before.if1.false))
 
 decimal-digit-requires-2 : (t : ℕ) → put-decimal-lts.Need-decimal-digit-requires-2 (claims t) (at-t t) put-decimal.Post
 decimal-digit-requires-2 t c κs = search rules
@@ -59,7 +59,7 @@ put-octet-requires-2 : (t : ℕ) → put-decimal-lts.Need-put-octet-requires-2 (
 put-octet-requires-2 t c κs =
     let called = c.before.before.before.before in
     let start = called.before.before.before.before in
-    omega (arith, start.requires.1, called.put-decimal.ensures.behind, tenth-size start.args.n called.before.before.if1.false)
+    omega (arith, start.requires.1, called.put-decimal.ensures.behind, tenth_size start.args.n called.before.before.if1.false)
 
 same-length-2 : (t : ℕ) → put-decimal-lts.Need-same-length-2 (claims t) (at-t t) put-decimal.Post
 same-length-2 t c = search rules
@@ -68,7 +68,7 @@ returns-2 : (t : ℕ) → put-decimal-lts.Need-returns-2 (claims t) (at-t t) put
 returns-2 t c =
     let told = c.before.before.before in
     let called = told.before.before.before.before in
-    rw (more-digits _ called.before.before.if1.false, ← told.decimal-digit2.ensures) (put_both called.put-decimal.ensures c.before.before.put-octet2.ensures)
+    rw (more_digits _ called.before.before.if1.false, ← told.decimal-digit2.ensures) (put_both called.put-decimal.ensures c.before.before.put-octet2.ensures)
 
 pub +put-decimal-spec : {M : Type 1} → statement M
 +put-decimal-spec =

@@ -3,7 +3,7 @@
 use borrow.Author.Rules.{rules}
 use borrow.Author.Tests.{lt-ltb, le-ltb}
 use Rattle.laws.specs.Pick.{pick}
-use Rattle.bench.specs.Text.{hexDigit}
+use Rattle.bench.specs.Text.{hex_digit}
 use Rattle.bench.proofs.text.hex_digit.Statement.{statement}
 use Rattle.bench.proofs.text.hex_digit.Tie as tie
 
@@ -14,11 +14,11 @@ add-result-2 : tie.Need-overflow-add-result-2
 add-result-2 c = search rules
 
 returns : tie.Need-returns
-unfolding hexDigit pick
+unfolding hex_digit pick
 returns c = rw (lt-ltb _ _ c.if1.true)
 
 returns-2 : tie.Need-returns-2
-unfolding hexDigit pick
+unfolding hex_digit pick
 returns-2 c = rw (le-ltb _ _ c.if1.false)
 
 pub hex-digit-spec : {M : Type 1} → statement M

@@ -7,7 +7,7 @@ use native.Mathlib.Omega.{arith}
 use borrow.Author.Rules.{rules}
 use lib.ListN.{length, drop, length-drop}
 use lib.Seq.{drop-cons, drop-length}
-use Rattle.bench.proofs.Pieces.{Going, going-from, going_on, finished}
+use Rattle.bench.proofs.Pieces.{Going, going_from, going_on_lem, finished}
 use Rattle.bench.proofs.text.put.Statement.{statement}
 use Rattle.bench.proofs.text.put.Tie as tie
 
@@ -18,7 +18,7 @@ abbrev decreases-loop : tie.decreases-loop
 decreases-loop text₀ at octets end₀ i₀ text end i = length octets - i
 
 loop-holds : tie.Need-loop-init invariant-loop decreases-loop
-loop-holds c = (search rules, refl, going-from refl c.before.before.requires)
+loop-holds c = (search rules, refl, going_from refl c.before.before.requires)
 
 shared-slice-read-put-octet : tie.Need-shared-slice-read-put-octet invariant-loop decreases-loop
 shared-slice-read-put-octet c = search rules
@@ -40,7 +40,7 @@ loop-again c =
     let inside : loop.loop.i < length octets = omega arith in (
       search rules,
       search rules,
-      rw add-one (going_on (rw (drop-cons octets loop.loop.i 0 inside) at loop.loop.invariant.2) call.put-octet.ensures),
+      rw add-one (going_on_lem (rw (drop-cons octets loop.loop.i 0 inside) at loop.loop.invariant.2) call.put-octet.ensures),
     )
 
 same_length : tie.Need-same-length invariant-loop decreases-loop

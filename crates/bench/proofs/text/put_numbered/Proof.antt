@@ -4,14 +4,14 @@ use native.Mathlib.Omega.{arith}
 use Prim.Native.Nat.{◌+◌, ◌≤◌}
 use mathlib.Core.List.{[], ◌∷◌, ◌++◌}
 use lib.ListN.{length, length-append}
-use Rattle.bench.specs.Text.{newline, decimal, numberedLine}
+use Rattle.bench.specs.Text.{newline, decimal, numbered_line}
 use Rattle.bench.proofs.Pieces.{put_both}
 use borrow.Author.Rules.{rules}
 use Rattle.bench.proofs.text.put_numbered.Statement.{statement}
 use Rattle.bench.proofs.text.put_numbered.Tie as tie
 
 room : (c : tie.Start) → c.args.at + length c.args.word.now + length (decimal c.args.n) + 1 ≤ length c.args.text.now
-unfolding numberedLine
+unfolding numbered_line
 room c =
     let word = c.args.word.now in
     let digits = decimal c.args.n in
@@ -33,7 +33,7 @@ same_length : tie.Need-same-length
 same_length c = search rules
 
 returns : tie.Need-returns
-unfolding numberedLine
+unfolding numbered_line
 returns c =
     let third = c.before.before in
     let second = third.before.before.before.before in

@@ -1,7 +1,7 @@
 -- `capture::capture::distance_of` meets its contract: four octets read as a number.
 -- Assumes nothing.
 use native.Mathlib.Omega.{arith}
-use Rattle.laws.proofs.Runs.{run-read}
+use Rattle.laws.proofs.Runs.{run_read}
 use borrow.Author.Rules.{rules}
 use Rattle.capture.proofs.capture.distance_of.Statement.{statement}
 use Rattle.capture.proofs.capture.distance_of.Tie as tie
@@ -24,7 +24,7 @@ long-requires c κs = search rules
 returns : tie.Need-returns
 returns c =
     let trailer = c.before.before.before.before.before.before.args.trailer.now in
-    rw (run-read trailer 0 4 (omega arith)) c.long.ensures
+    rw (run_read trailer 0 4 (omega arith)) c.long.ensures
 
 pub distance-of-spec : {M : Type 1} → statement M
 distance-of-spec =

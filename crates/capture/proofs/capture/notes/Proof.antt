@@ -4,7 +4,7 @@ use mathlib.Core.Path.{sym}
 use borrow.Author.Rules.{rules}
 use native.Mathlib.Omega.{arith}
 use lib.Seq.{length-take-le}
-use Rattle.capture.proofs.Decoding.{Whole, whole, whole_parts, no-parts}
+use Rattle.capture.proofs.Decoding.{Whole, whole, whole_parts, no_parts}
 use Rattle.capture.proofs.capture.notes.Statement.{statement}
 use Rattle.capture.proofs.capture.notes.Tie as tie
 
@@ -32,7 +32,7 @@ returns : tie.Need-returns
 returns c = record { notes = sym (whole_parts (found c.before.before)).0 }
 
 returns-2 : tie.Need-returns-2
-returns-2 c = record { notes = sym (no-parts (rw c.before.enum_told.given.1 at c.before.before.before.decode-capture.ensures)).0 }
+returns-2 c = record { notes = sym (no_parts (rw c.before.enum_told.given.1 at c.before.before.before.decode-capture.ensures)).0 }
 
 pub notes-spec : {M : Type 1} → statement M
 notes-spec =

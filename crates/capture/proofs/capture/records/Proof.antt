@@ -5,7 +5,7 @@ use mathlib.Core.Path.{sym}
 use native.Mathlib.Omega.{arith}
 use borrow.Author.Rules.{rules}
 use lib.ListN.{length}
-use Rattle.capture.proofs.Decoding.{Whole, whole, whole_parts, no-parts}
+use Rattle.capture.proofs.Decoding.{Whole, whole, whole_parts, no_parts}
 use Rattle.capture.proofs.capture.records.Statement.{statement}
 use Rattle.capture.proofs.capture.records.Tie as tie
 
@@ -43,7 +43,7 @@ returns : tie.Need-returns
 returns c = record { records = sym (whole_parts (found c.before.before)).1 }
 
 returns-2 : tie.Need-returns-2
-returns-2 c = record { records = sym (no-parts (rw c.before.enum_told.given.1 at c.before.before.before.decode-capture.ensures)).1 }
+returns-2 c = record { records = sym (no_parts (rw c.before.enum_told.given.1 at c.before.before.before.decode-capture.ensures)).1 }
 
 pub records-spec : {M : Type 1} → statement M
 records-spec =

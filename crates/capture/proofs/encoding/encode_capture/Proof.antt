@@ -10,9 +10,9 @@ use lib.ListN.{length}
 use Rattle.laws.specs.Pick.{pick}
 use Rattle.laws.proofs.Pick.{told}
 use borrow.Author.Rules.{rules}
-use Rattle.capture.specs.Encoding.{captureLength}
+use Rattle.capture.specs.Encoding.{capture_length}
 use Rattle.laws.proofs.Tests.{or_r}
-use Rattle.capture.proofs.Promised.{capture-encoded}
+use Rattle.capture.proofs.Promised.{capture_encoded}
 use Rattle.capture.proofs.encoding.encode_capture.Statement.{statement}
 use Rattle.capture.proofs.encoding.encode_capture.Tie as tie
 
@@ -23,23 +23,23 @@ returns : tie.Need-returns
 unfolding pick
 returns c =
     let short = told _ _ _ c.before.lacks-room.ensures c.if1.true in
-    capture-encoded (rw short) (rw short)
+    capture_encoded (rw short) (rw short)
 
 has_room : (c : tie.Else1)
     → let a = c.before.before.before.before.before.args in
-    ltb (length a.out.now) (captureLength a.notes.now a.records.now) ≡ false
+    ltb (length a.out.now) (capture_length a.notes.now a.records.now) ≡ false
 has_room c = told _ _ _ c.before.lacks-room.ensures c.if1.false
 
 room_for : (c : tie.Else1)
     → let a = c.before.before.before.before.before.args in
-    captureLength a.notes.now a.records.now ≤ length a.out.now
+    capture_length a.notes.now a.records.now ≤ length a.out.now
 room_for c = ltb-false _ _ (has_room c)
 
 returns-2 : tie.Need-returns-2
 unfolding pick
 returns-2 c =
     let room = has_room c.before in
-    capture-encoded (rw (room, c.if2.true)) (rw (room, c.if2.true))
+    capture_encoded (rw (room, c.if2.true)) (rw (room, c.if2.true))
 
 write-capture-requires : tie.Need-write-capture-requires
 write-capture-requires c κs =
@@ -62,7 +62,7 @@ returns-3 c =
     let written = c.before.before in
     let fit = written.before.before in
     let room = has_room fit.before in
-    capture-encoded (rw (room, fit.if2.false)) (rw (room, fit.if2.false) written.write-capture.ensures)
+    capture_encoded (rw (room, fit.if2.false)) (rw (room, fit.if2.false) written.write-capture.ensures)
 
 pub encode-capture-spec : {M : Type 1} → statement M
 encode-capture-spec =

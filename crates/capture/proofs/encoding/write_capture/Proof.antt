@@ -1,9 +1,9 @@
 -- `capture::encoding::write_capture` meets its contract: three parts, one behind the other.
 -- Assumes nothing.
 use mathlib.Core.Path.{◌∙◌}
-use Rattle.capture.specs.Encoding.{trailerFor}
+use Rattle.capture.specs.Encoding.{trailer_for}
 use lib.ListN.{length}
-use Rattle.capture.proofs.Pieces.{three-written}
+use Rattle.capture.proofs.Pieces.{three_written}
 use borrow.Author.Rules.{rules}
 use Rattle.capture.proofs.encoding.write_capture.Statement.{statement}
 use Rattle.capture.proofs.encoding.write_capture.Tie as tie
@@ -38,7 +38,7 @@ returns c =
     let a = trailer.before.before.before.before.args in
     third.put3.ensures
     ∙ rw (second.put2.ensures, first.put.ensures, trailer.trailer-for.ensures)
-    (three-written a.out.now a.notes.now a.records.now (trailerFor (length a.records.now)))
+    (three_written a.out.now a.notes.now a.records.now (trailer_for (length a.records.now)))
 
 pub write-capture-spec : {M : Type 1} → statement M
 write-capture-spec =

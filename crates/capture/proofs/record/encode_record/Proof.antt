@@ -7,15 +7,15 @@ use lib.ListN.{length-set}
 use borrow.Author.Tests.{lt-ltb, le-ltb}
 use Rattle.laws.specs.Pick.{pick}
 use Rattle.laws.proofs.Lists.{stored}
-use Rattle.capture.specs.Record.{recordOctets}
+use Rattle.capture.specs.Record.{record_octets}
 use borrow.Author.Rules.{rules}
-use Rattle.capture.proofs.Promised.{record-encoded}
+use Rattle.capture.proofs.Promised.{record_encoded}
 use Rattle.capture.proofs.record.encode_record.Statement.{statement}
 use Rattle.capture.proofs.record.encode_record.Tie as tie
 
 returns : tie.Need-returns
 unfolding pick
-returns c = record-encoded (rw (lt-ltb _ _ c.if1.true)) (rw (lt-ltb _ _ c.if1.true))
+returns c = record_encoded (rw (lt-ltb _ _ c.if1.true)) (rw (lt-ltb _ _ c.if1.true))
 
 cast-octets : tie.Need-overflow-cast-octets
 cast-octets c = search rules
@@ -56,8 +56,8 @@ returns-2 c =
     let b = c.before.before in
     let a = b.before.args in
     let high : a.event.tick / 256 % 256 ≡ a.event.tick / 256 = omega (arith, c.struct-known2.given) in
-    record-encoded (rw (le-ltb _ _ b.if1.false))
-    (rw (le-ltb _ _ b.if1.false, high) (rw high at (stored a.octets.now (recordOctets a.event) b.if1.false)))
+    record_encoded (rw (le-ltb _ _ b.if1.false))
+    (rw (le-ltb _ _ b.if1.false, high) (rw high at (stored a.octets.now (record_octets a.event) b.if1.false)))
 
 pub encode-record-spec : {M : Type 1} → statement M
 encode-record-spec =

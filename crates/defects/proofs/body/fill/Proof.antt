@@ -4,8 +4,8 @@ use Prim.Native.Nat.{◌+◌, ◌-◌, ◌*◌}
 use mathlib.Core.Path.{◌≡◌, ◌∙◌}
 use native.Mathlib.Omega.{arith}
 use lib.ListN.{length, drop, length-take}
-use Rattle.defects.specs.Place.{fieldOctets}
-use Rattle.defects.proofs.Plans.{plan, RunKnown, run-known}
+use Rattle.defects.specs.Place.{field_octets}
+use Rattle.defects.proofs.Plans.{plan, RunKnown, run_known}
 use Rattle.defects.proofs.Fills.{filled}
 use borrow.Author.Rules.{rules}
 use Rattle.defects.proofs.body.fill.Statement.{statement}
@@ -18,7 +18,7 @@ run-of-requires c κs =
     (omega arith, p.first _ start.pre.0.within)
 
 known : (c : tie.After-run-of) → let a = c.before.before.before.args in RunKnown a.setup a.job a.defects.now a.set c.run_of.result
-known c = let due = c.before.before.before.requires.0 in run-known (plan due.planned) due.within c.run_of.ensures
+known c = let due = c.before.before.before.requires.0 in run_known (plan due.planned) due.within c.run_of.ensures
 
 mul-end : tie.Need-overflow-mul-end
 mul-end c = search rules
@@ -76,7 +76,7 @@ put-padded-requires c κs =
     let start : tie.Start = search in
     let front : tie.After-write-front = search in
     let r = run.run_of.result in
-    let same : length front.write-front.last.1.0 ≡ fieldOctets start.args.setup = front.write-front.kept.1.0 ∙ start.pre.1 in
+    let same : length front.write-front.last.1.0 ≡ field_octets start.args.setup = front.write-front.kept.1.0 ∙ start.pre.1 in
     omega (arith, (known run).few, length-take (r.at + 12 * r.count - r.at) (drop r.at start.args.defects.now))
 
 same_length : tie.Need-same-length

@@ -7,19 +7,19 @@ use native.Mathlib.Numerals.{add-one}
 use native.Mathlib.Omega.{arith}
 use lib.ListN.{length, take, drop, set, length-set, drop_of_length-le}
 use lib.Seq.{length-take-le, sets-eq, take-set-lt}
-use Rattle.laws.specs.Octets.{octetsOf}
+use Rattle.laws.specs.Octets.{octets_of}
 use Rattle.defects.specs.EncodeSteps.{finished}
-use Rattle.defects.proofs.HighOctets.{word-high}
+use Rattle.defects.proofs.HighOctets.{word_high}
 use borrow.Author.Rules.{rules}
 use Rattle.defects.proofs.body.finish.Statement.{statement}
 use Rattle.defects.proofs.body.finish.Tie as tie
 
 -- two octets stored behind all others
-two-behind : (field : List ℕ) (end n : ℕ) → length field ≡ end + 2 → n < 2 ^ 16
-    → set (set field end (n / 256)) (end + 1) (n % 256) ≡ take end field ++ octetsOf 2 n
-two-behind field end n e h =
+two_behind : (field : List ℕ) (end n : ℕ) → length field ≡ end + 2 → n < 2 ^ 16
+    → set (set field end (n / 256)) (end + 1) (n % 256) ≡ take end field ++ octets_of 2 n
+two_behind field end n e h =
     let none : drop (end + 2) field ≡ [] = drop_of_length-le field {i = end + 2} (omega arith) in
-    ap (λ (m : ℕ). set (set field end m) (end + 1) (n % 256)) (word-high n h) ∙ rw add-one (sets-eq (octetsOf 2 n) field end (omega arith) ∙ rw (none, append-nil))
+    ap (λ (m : ℕ). set (set field end m) (end + 1) (n % 256)) (word_high n h) ∙ rw add-one (sets-eq (octets_of 2 n) field end (omega arith) ∙ rw (none, append-nil))
 
 sub-end : tie.Need-overflow-sub-end
 sub-end c = search rules
@@ -61,7 +61,7 @@ returns c =
     let a = start.args in
     let field = set a.field.now 3 a.copy in
     let end = length a.field.now - 2 in
-    two-behind field end c.crc.result (simp length-set (omega arith)) (omega arith) ∙ rw (c.crc.ensures, take-set-lt end a.field.now 3 a.copy (omega arith))
+    two_behind field end c.crc.result (simp length-set (omega arith)) (omega arith) ∙ rw (c.crc.ensures, take-set-lt end a.field.now 3 a.copy (omega arith))
 
 pub finish_spec : {M : Type 1} → statement M
 finish_spec =

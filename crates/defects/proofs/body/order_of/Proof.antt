@@ -7,20 +7,20 @@ use mathlib.Core.List.{List, [], ◌∷◌}
 use native.Mathlib.Omega.{arith}
 use lib.Dec.{ltb}
 use lib.ListN.{length}
-use Rattle.defects.specs.Defect.{address, behindAll}
-use Rattle.defects.specs.Encoding.{list_from, isUnordered}
+use Rattle.defects.specs.Defect.{address, behind_all}
+use Rattle.defects.specs.Encoding.{list_from, is_unordered}
 use Rattle.defects.specs.EncodeSteps.{AllNear, Ordered}
 use Rattle.defects.specs.declared.body.Order.{Order}
 use Rattle.defects.specs.declared.defect.Defect.{Defect}
-use Rattle.defects.proofs.Listed.{listed-first}
+use Rattle.defects.proofs.Listed.{listed_first}
 use borrow.Author.Rules.{rules}
 use Rattle.defects.proofs.body.order_of.Statement.{statement}
 use Rattle.defects.proofs.body.order_of.Tie as tie
 
 -- what is known behind some defects, with the rest to come
 record Known (least : ℕ) (all rest : List Defect) (order : Order) : Type 0 where
-  unordered : isUnordered least all ≡ order.unordered || isUnordered order.least rest
-  next : behindAll least all ≡ behindAll order.least rest
+  unordered : is_unordered least all ≡ order.unordered || is_unordered order.least rest
+  next : behind_all least all ≡ behind_all order.least rest
 
 record Passing (least : ℕ) (all : List Defect) (octets : List ℕ) (order : Order) (from left : ℕ) : Type 0 where
   within : from + 12 * left ≤ length octets
@@ -35,7 +35,7 @@ or_later false false c = refl
 
 one_more : {least : ℕ} {all rest : List Defect} {d : Defect} {here : ℕ} {order after : Order} → here ≡ address d → after.unordered ≡ ltb here order.least || order.unordered
     → after.least ≡ max order.least (here + 1) → Known least all (d ∷ rest) order → Known least all rest after
-unfolding isUnordered
+unfolding is_unordered
 one_more {d = d} {order = order} e u n k =
     record {
       unordered = k.unordered ∙ rw (u, n, e) (or_later order.unordered (ltb (address d) order.least) _);
@@ -46,9 +46,9 @@ or-none : (a : Bool) → a ≡ a || false
 or-none true = refl
 or-none false = refl
 
-all-passed : {least : ℕ} {all : List Defect} {order : Order} → Known least all [] order → Ordered least all order
-unfolding isUnordered
-all-passed {order = order} k = record { unordered = or-none order.unordered ∙ sym k.unordered; next = sym k.next }
+all_passed : {least : ℕ} {all : List Defect} {order : Order} → Known least all [] order → Ordered least all order
+unfolding is_unordered
+all_passed {order = order} k = record { unordered = or-none order.unordered ∙ sym k.unordered; next = sym k.next }
 
 abbrev invariant-loop : tie.invariant-loop
 invariant-loop least defects at count order₀ from₀ left₀ order from left = Passing least (list_from defects at count) defects order from left
@@ -69,7 +69,7 @@ address-of-requires c κs =
     let turn : tie.In-loop invariant-loop decreases-loop = search in
     let start : tie.Start invariant-loop decreases-loop = search in
     let l = turn.before.loop in
-    let near = rw (listed-first start.args.defects.now l.from l.left turn.loop-test.taken) at l.inv.near in
+    let near = rw (listed_first start.args.defects.now l.from l.left turn.loop-test.taken) at l.inv.near in
     rw c.defect-at.ensures near.0
 
 order-with-requires : tie.Need-order-with-requires invariant-loop decreases-loop
@@ -90,7 +90,7 @@ loop-again c =
     let start : tie.Start invariant-loop decreases-loop = search in
     let l = turn.before.loop in
     let octets = start.args.defects.now in
-    let split = listed-first octets l.from l.left turn.loop-test.taken in
+    let split = listed_first octets l.from l.left turn.loop-test.taken in
     let told = c.before.address-of.ensures.0 ∙ ap address c.before.before.defect-at.ensures in
     record {
       within = omega arith;
@@ -103,7 +103,7 @@ unfolding list_from
 returns c =
     let end : tie.At-loop invariant-loop decreases-loop = search in
     let none : end.loop.left ≡ 0 = omega arith in
-    all-passed (rw none at end.loop.inv.known)
+    all_passed (rw none at end.loop.inv.known)
 
 pub order-of-spec : {M : Type 1} → statement M
 order-of-spec =

@@ -4,13 +4,13 @@ use Prim.Native.Nat.{◌*◌, ◌/◌, ◌≤◌}
 use mathlib.Core.Path.{◌≡◌, ap, ◌∙◌}
 use native.Mathlib.Omega.{arith}
 use Rattle.defects.specs.Field.{slots}
-use Rattle.defects.specs.Place.{fieldOctets}
+use Rattle.defects.specs.Place.{field_octets}
 use borrow.Author.Rules.{rules}
 use Rattle.defects.proofs.body.run_of.Statement.{statement}
 use Rattle.defects.proofs.body.run_of.Tie as tie
 
-each : (c : tie.After-slots-of) → c.slots-of.result ≡ slots (fieldOctets c.before.before.args.setup)
-each c = c.slots-of.ensures ∙ ap slots c.before.field-octets.ensures
+each : (c : tie.After-slots-of) → c.slots-of.result ≡ slots (field_octets c.before.before.args.setup)
+each c = c.slots-of.ensures ∙ ap slots c.before.field_octets_lem.ensures
 
 first : (c : tie.After-slots-of) → c.before.before.args.set * c.slots-of.result ≤ c.before.before.args.size / 12
 first c = rw (each c) c.before.before.requires.1

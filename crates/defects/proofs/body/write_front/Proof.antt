@@ -7,8 +7,8 @@ use native.Mathlib.Omega.{arith}
 use lib.ListN.{length-set}
 use lib.Seq.{sets}
 use Rattle.laws.proofs.Lists.{stored}
-use Rattle.defects.specs.EncodeSteps.{octetsInFront}
-use Rattle.defects.proofs.HighOctets.{long-octets, word-octets}
+use Rattle.defects.specs.EncodeSteps.{octets_in_front}
+use Rattle.defects.proofs.HighOctets.{long_octets, word_octets_lem}
 use borrow.Author.Rules.{rules}
 use Rattle.defects.proofs.body.write_front.Statement.{statement}
 use Rattle.defects.proofs.body.write_front.Tie as tie
@@ -95,15 +95,15 @@ same_length : tie.Need-same-length
 same_length c = simp length-set
 
 returns : tie.Need-returns
-unfolding octetsInFront
+unfolding octets_in_front
 returns c =
     let start : tie.Start = search in
     let front = start.args.front in
     let fits = c.struct-known12.given in
-    let opening = ap (λ (count : List ℕ). count ++ (front.flags ∷ front.copy ∷ [])) (word-octets front.count (omega arith)) in
-    let numbers = ap₂ ◌++◌ (ap₂ ◌++◌ opening (word-octets front.sets (omega arith))) (word-octets front.set (omega arith)) in
-    let track = ap₂ ◌++◌ (ap₂ ◌++◌ numbers (long-octets front.cylinder (omega arith))) (word-octets front.head (omega arith)) in
-    ap (sets start.args.field.now 0) track ∙ stored start.args.field.now (octetsInFront front) start.pre
+    let opening = ap (λ (count : List ℕ). count ++ (front.flags ∷ front.copy ∷ [])) (word_octets_lem front.count (omega arith)) in
+    let numbers = ap₂ ◌++◌ (ap₂ ◌++◌ opening (word_octets_lem front.sets (omega arith))) (word_octets_lem front.set (omega arith)) in
+    let track = ap₂ ◌++◌ (ap₂ ◌++◌ numbers (long_octets front.cylinder (omega arith))) (word_octets_lem front.head (omega arith)) in
+    ap (sets start.args.field.now 0) track ∙ stored start.args.field.now (octets_in_front front) start.pre
 
 pub write-front-spec : {M : Type 1} → statement M
 write-front-spec =

@@ -9,13 +9,13 @@ use borrow.Author.Rules.{rules}
 use lib.ListN.{length, take}
 use lib.Seq.{take-suc, take_all}
 use Rattle.laws.specs.Pick.{pick}
-use Rattle.defects.specs.Crc.{crcOf, remainderAfter}
+use Rattle.defects.specs.Crc.{crc_of, remainder_after}
 use Rattle.defects.proofs.crc.crc.Statement.{statement}
 use Rattle.defects.proofs.crc.crc.Tie as tie
 
 record ReadSoFar (octets : List ℕ) (register i : ℕ) : Type 0 where
   within : i ≤ length octets
-  is-crc : register ≡ crcOf (take i octets)
+  is-crc : register ≡ crc_of (take i octets)
 
 abbrev invariant-loop : tie.invariant-loop
 invariant-loop octets table register₀ i₀ register i = ReadSoFar octets register i
@@ -27,7 +27,7 @@ crc-table-requires : tie.Need-crc-table-requires invariant-loop decreases-loop
 crc-table-requires c κs = search rules
 
 loop-holds : tie.Need-loop-init invariant-loop decreases-loop
-unfolding crcOf remainderAfter pick
+unfolding crc_of remainder_after pick
 loop-holds c = record { within = search rules; is-crc = refl }
 
 shared-slice-read-one-more : tie.Need-shared-slice-read-one-more invariant-loop decreases-loop

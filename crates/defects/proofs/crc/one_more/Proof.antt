@@ -3,7 +3,7 @@
 use mathlib.Core.Path.{sym}
 use native.Mathlib.Omega.{arith}
 use borrow.Author.Rules.{rules}
-use Rattle.defects.proofs.CrcLaws.{in_table, looked-up}
+use Rattle.defects.proofs.CrcLaws.{in_table, looked_up}
 use Rattle.defects.proofs.crc.one_more.Statement.{statement}
 use Rattle.defects.proofs.crc.one_more.Tie as tie
 
@@ -20,7 +20,7 @@ mul-result-2 : tie.Need-overflow-mul-result-2
 mul-result-2 c = search rules
 
 returns : tie.Need-returns
-returns c read e = rw (c.before.requires, e) (sym (looked-up read c.before.args.octet (search rules)))
+returns c read e = rw (c.before.requires, e) (sym (looked_up read c.before.args.octet (search rules)))
 
 pub one-more-spec : {M : Type 1} → statement M
 one-more-spec = tie.close (tie.spec cast-at mul-result element-copy-out-result mul-result-2 returns)

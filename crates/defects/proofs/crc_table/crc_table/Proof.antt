@@ -2,13 +2,13 @@
 -- Assumes nothing.
 use mathlib.Core.Path.{refl}
 use Rattle.laws.specs.Pick.{pick}
-use Rattle.defects.specs.Crc.{crcOf, remainderAfter}
-use Rattle.defects.specs.CrcTable.{crcTable}
+use Rattle.defects.specs.Crc.{crc_of, remainder_after}
+use Rattle.defects.specs.CrcTable.{crc_table}
 use Rattle.defects.proofs.crc_table.crc_table.Statement.{statement}
 use Rattle.defects.proofs.crc_table.crc_table.Tie as tie
 
 returns : tie.Need-returns
-unfolding crcTable crcOf remainderAfter pick
+unfolding crc_table crc_of remainder_after pick
 returns c = refl
 
 pub crc-table-spec : {M : Type 1} → statement M

@@ -5,11 +5,11 @@ use mathlib.Core.Path.{sym, ap, ◌∙◌}
 use mathlib.Core.Bool.{not}
 use native.Mathlib.Omega.{arith}
 use Rattle.parts.proofs.Bounds.{limits}
-use Rattle.defects.specs.Steps.{stringIn}
+use Rattle.defects.specs.Steps.{string_in}
 use Rattle.defects.specs.declared.offence.Offence.{Offence}
-use Rattle.defects.proofs.Answers.{refused-map, told-map}
-use Rattle.defects.proofs.Decoded.{storage-inside}
-use Rattle.defects.proofs.Thirds.{third-enough}
+use Rattle.defects.proofs.Answers.{refused_map, told_map}
+use Rattle.defects.proofs.Decoded.{storage_inside}
+use Rattle.defects.proofs.Thirds.{third_enough}
 use borrow.Author.Rules.{rules}
 use Rattle.defects.proofs.decoding.decode.Statement.{statement}
 use Rattle.defects.proofs.decoding.decode.Tie as tie
@@ -30,7 +30,7 @@ judge-requires : tie.Need-judge-requires
 judge-requires c κs = search rules
 
 returns : tie.Need-returns
-returns c = refused-map _ _ _ _ _ c.before.before.before.before.judge.ensures.offence c.if1.true
+returns c = refused_map _ _ _ _ _ c.before.before.before.before.judge.ensures.offence c.if1.true
 
 slice-aggregate-gather : tie.Need-slice-aggregate-gather
 slice-aggregate-gather c = search rules
@@ -42,7 +42,7 @@ gather-requires c κs =
     let start = judged.before.before.before.before.before.before.before.before in
     let pre = start.requires.0 in
     let ends = judged.judge.ensures.ends passed.if1.false in
-    let third = third-enough _ _ _ _ ends in
+    let third = third_enough _ _ _ _ ends in
     (record { limits = pre.limits; room = pre.room; within = ends.within; whole = ends.whole; going = ends.going; held = omega (arith, pre.sized, start.requires.1) }, omega arith)
 
 -- the storage track's cylinder is one of the drive's
@@ -52,7 +52,7 @@ small-cylinder c =
     let start = judged.before.before.before.before.before.before.before.before in
     let a = start.args in
     let none = ap (λ (o : Offence). o.found) (sym judged.judge.ensures.offence) ∙ c.if1.false in
-    let inside = storage-inside (not a.in-sectors) a.setup (stringIn a.setup a.in-sectors a.octets.now a.sectors.now) none in
+    let inside = storage_inside (not a.in-sectors) a.setup (string_in a.setup a.in-sectors a.octets.now a.sectors.now) none in
     let few = limits a.setup start.requires.0.limits in
     rw (judged.judge.ensures.ends c.if1.false).walk (omega (arith, inside.0))
 
@@ -67,7 +67,7 @@ returns-2 c =
     let gathered = c.before.before.before.before in
     let passed = gathered.before.before.before.before in
     let judged = passed.before.before.before.before in
-    told-map _ _ _ _ _ judged.judge.ensures.offence _ _ _ judged.judge.result.walk passed.if1.false (judged.judge.ensures.ends passed.if1.false) gathered.gather.ensures.0 gathered.gather.ensures.1
+    told_map _ _ _ _ _ judged.judge.ensures.offence _ _ _ judged.judge.result.walk passed.if1.false (judged.judge.ensures.ends passed.if1.false) gathered.gather.ensures.0 gathered.gather.ensures.1
 
 pub decode-spec : {M : Type 1} → statement M
 decode-spec =

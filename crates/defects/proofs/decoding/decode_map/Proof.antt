@@ -1,12 +1,12 @@
 -- `defects::decoding::decode_map` meets its contract: what the walk found is the answer, on either side of the refusals.
 -- Assumes nothing.
-use Rattle.defects.proofs.Promised.{map-decoded}
+use Rattle.defects.proofs.Promised.{map_decoded}
 use mathlib.Core.Path.{◌≡◌, refl, sym, ◌∙◌}
 use mathlib.Core.Bool.{true, false≢true}
 use borrow.Author.Tests.{lt-ltb, le-ltb, not-true, not-false}
 use Rattle.laws.specs.Pick.{pick}
 use Rattle.defects.specs.Offence.{first_of}
-use Rattle.parts.specs.Setup.{withinLimits}
+use Rattle.parts.specs.Setup.{within_limits}
 use borrow.Author.Rules.{rules}
 use Rattle.defects.proofs.decoding.decode_map.Statement.{statement}
 use Rattle.defects.proofs.decoding.decode_map.Tie as tie
@@ -15,20 +15,20 @@ within-limits-requires : tie.Need-within-limits-requires
 within-limits-requires c κs = search rules
 
 -- the set-up is within its limits
-small : (c : tie.Else1) → withinLimits c.before.before.before.before.args.setup ≡ true
-small c = sym c.before.within-limits.ensures ∙ not-false _ c.if1.false
+small : (c : tie.Else1) → within_limits c.before.before.before.before.args.setup ≡ true
+small c = sym c.before.within_limits_lem.ensures ∙ not-false _ c.if1.false
 
 returns : tie.Need-returns
 unfolding first_of pick
 returns c =
-    let limited = sym c.before.within-limits.ensures ∙ not-true _ c.if1.true in
-    map-decoded (rw limited) (rw limited)
+    let limited = sym c.before.within_limits_lem.ensures ∙ not-true _ c.if1.true in
+    map_decoded (rw limited) (rw limited)
 
 returns-2 : tie.Need-returns-2
 unfolding first_of pick
 returns-2 c =
     let limited = small c.before in
-    map-decoded (rw (limited, lt-ltb _ _ c.if2.true)) (rw (limited, lt-ltb _ _ c.if2.true))
+    map_decoded (rw (limited, lt-ltb _ _ c.if2.true)) (rw (limited, lt-ltb _ _ c.if2.true))
 
 slice-aggregate-decode : tie.Need-slice-aggregate-decode
 slice-aggregate-decode c = search rules
@@ -48,7 +48,7 @@ returns-3 c =
     let done = c.before.before in
     let passed = done.before.before.before in
     let limited = small passed.before in
-    map-decoded (rw (limited, le-ltb _ _ passed.if2.false) done.decode.ensures.answer) (rw (limited, le-ltb _ _ passed.if2.false) done.decode.ensures.slice)
+    map_decoded (rw (limited, le-ltb _ _ passed.if2.false) done.decode.ensures.answer) (rw (limited, le-ltb _ _ passed.if2.false) done.decode.ensures.slice)
 
 pub decode-map-spec : {M : Type 1} → statement M
 decode-map-spec =

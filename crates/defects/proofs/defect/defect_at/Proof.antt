@@ -29,7 +29,7 @@ returns : tie.Need-returns
 returns c =
     λ i. record {
       cylinder = c.before.before.before.long-at.ensures i;
-      head = c.before.before.word-at.ensures i;
+      head = c.before.before.word_at_lem.ensures i;
       offset = c.before.long-at2.ensures i;
       length = c.word-at2.ensures i;
     }

@@ -3,7 +3,7 @@
 use Prim.Native.Nat.{◌+◌}
 use native.Mathlib.Numerals.{towards_suc}
 use native.Mathlib.Omega.{arith}
-use Rattle.laws.proofs.Runs.{run-read}
+use Rattle.laws.proofs.Runs.{run_read}
 use Rattle.defects.specs.Defect.{number_at}
 use borrow.Author.Rules.{rules}
 use Rattle.defects.proofs.defect.long_at.Statement.{statement}
@@ -36,9 +36,9 @@ returns c =
     let b = c.before.before.before in
     let octets = b.args.octets.now in
     let at = b.args.at in
-    let high = rw (run-read octets at 2 (omega arith)) at c.before.word-at.ensures in
-    let low = simp towards_suc at (rw (run-read octets (at + 2) 2 (omega arith)) at c.word-at2.ensures) in
-    rw (run-read octets at 4 b.requires) (omega arith)
+    let high = rw (run_read octets at 2 (omega arith)) at c.before.word_at_lem.ensures in
+    let low = simp towards_suc at (rw (run_read octets (at + 2) 2 (omega arith)) at c.word-at2.ensures) in
+    rw (run_read octets at 4 b.requires) (omega arith)
 
 pub long-at-spec : {M : Type 1} → statement M
 long-at-spec =

@@ -2,7 +2,7 @@
 -- Assumes nothing.
 use native.Mathlib.Numerals.{add-one}
 use native.Mathlib.Omega.{arith}
-use Rattle.laws.proofs.Runs.{run-read}
+use Rattle.laws.proofs.Runs.{run_read}
 use Rattle.defects.specs.Defect.{number_at}
 use borrow.Author.Rules.{rules}
 use Rattle.defects.proofs.defect.word_at.Statement.{statement}
@@ -33,7 +33,7 @@ returns : tie.Need-returns
 unfolding number_at
 returns c =
     let b = c.before.before.before.before.before in
-    rw (run-read b.args.octets.now b.args.at 2 b.requires, ← (add-one b.args.at)) (omega arith)
+    rw (run_read b.args.octets.now b.args.at 2 b.requires, ← (add-one b.args.at)) (omega arith)
 
 pub word-at-spec : {M : Type 1} → statement M
 word-at-spec =

@@ -6,8 +6,8 @@ use native.Mathlib.Omega.{arith}
 use lib.ListN.{length-set}
 use lib.Seq.{sets}
 use Rattle.laws.proofs.Lists.{stored}
-use Rattle.defects.specs.Defect.{defectOctets}
-use Rattle.defects.proofs.HighOctets.{long-octets, word-octets}
+use Rattle.defects.specs.Defect.{defect_octets}
+use Rattle.defects.proofs.HighOctets.{long_octets, word_octets_lem}
 use borrow.Author.Rules.{rules}
 use Rattle.defects.proofs.defect.write_defect.Statement.{statement}
 use Rattle.defects.proofs.defect.write_defect.Tie as tie
@@ -88,14 +88,14 @@ same_length : tie.Need-same-length
 same_length c = simp length-set
 
 returns : tie.Need-returns
-unfolding defectOctets
+unfolding defect_octets
 returns c =
     let start : tie.Start = search in
     let d = start.args.defect in
     let fits = c.struct-known12.given in
-    let front = ap₂ ◌++◌ (long-octets d.cylinder (omega arith)) (word-octets d.head (omega arith)) in
-    let back = ap₂ ◌++◌ (ap₂ ◌++◌ front (long-octets d.offset (omega arith))) (word-octets d.length (omega arith)) in
-    ap (sets start.args.octets.now 0) back ∙ stored start.args.octets.now (defectOctets d) start.pre
+    let front = ap₂ ◌++◌ (long_octets d.cylinder (omega arith)) (word_octets_lem d.head (omega arith)) in
+    let back = ap₂ ◌++◌ (ap₂ ◌++◌ front (long_octets d.offset (omega arith))) (word_octets_lem d.length (omega arith)) in
+    ap (sets start.args.octets.now 0) back ∙ stored start.args.octets.now (defect_octets d) start.pre
 
 pub write-defect-spec : {M : Type 1} → statement M
 write-defect-spec =

@@ -12,11 +12,11 @@ use Rattle.defects.proofs.encodable.has_fields.Statement.{statement}
 use Rattle.defects.proofs.encodable.has_fields.Tie as tie
 
 by-thirds : (a b : ℕ) → leb a (b / 3) ≡ leb (3 * a) b
-by-thirds a b = by-test (leb a (b / 3)) refl
+by-thirds a b = by_test (leb a (b / 3)) refl
   where
-    by-test : (test : Bool) → leb a (b / 3) ≡ test → test ≡ leb (3 * a) b
-    by-test true e = let h = leb-true a (b / 3) e in sym (le-leb (3 * a) b (omega arith))
-    by-test false e = let h = leb-false a (b / 3) e in sym (lt-leb (3 * a) b (omega arith))
+    by_test : (test : Bool) → leb a (b / 3) ≡ test → test ≡ leb (3 * a) b
+    by_test true e = let h = leb-true a (b / 3) e in sym (le-leb (3 * a) b (omega arith))
+    by_test false e = let h = leb-false a (b / 3) e in sym (lt-leb (3 * a) b (omega arith))
 
 data-fields-requires : tie.Need-data-fields-requires
 data-fields-requires c κs = search rules

@@ -9,13 +9,13 @@ use borrow.Author.Tests.{not-true, not-false}
 use lib.Dec.{ltb}
 use lib.ListN.{length}
 use Rattle.laws.specs.Pick.{pick}
-use Rattle.parts.specs.Setup.{withinLimits}
-use Rattle.defects.specs.Encoding.{mapLength}
+use Rattle.parts.specs.Setup.{within_limits}
+use Rattle.defects.specs.Encoding.{map_length}
 use Rattle.defects.specs.EncodeSteps.{Planned}
 use Rattle.defects.specs.declared.encoding.MapEncoded.TheVariants.{Written}
 use Rattle.defects.proofs.Plans.{plan}
-use Rattle.defects.proofs.Promised.{map-encoded}
-use Rattle.defects.proofs.EncodeRows.{Told, some-octets, length-told, lacks-octets, has-octets, planned, room-in-octets, whole-map}
+use Rattle.defects.proofs.Promised.{map_encoded}
+use Rattle.defects.proofs.EncodeRows.{Told, some_octets, length_told, lacks_octets, has_octets, planned, room_in_octets, whole_map}
 use borrow.Author.Rules.{rules}
 use Rattle.defects.proofs.encoding.encode_map.Statement.{statement}
 use Rattle.defects.proofs.encoding.encode_map.Tie as tie
@@ -23,12 +23,12 @@ use Rattle.defects.proofs.encoding.encode_map.Tie as tie
 within-limits-requires : tie.Need-within-limits-requires
 within-limits-requires c κs = search rules
 
-within : (c : tie.Else1) → withinLimits c.before.before.before.before.args.setup ≡ true
-within c = sym c.before.within-limits.ensures ∙ not-false _ c.if1.false
+within : (c : tie.Else1) → within_limits c.before.before.before.before.args.setup ≡ true
+within c = sym c.before.within_limits_lem.ensures ∙ not-false _ c.if1.false
 
 returns : tie.Need-returns
 unfolding pick
-returns c = let outside = sym c.before.within-limits.ensures ∙ not-true _ c.if1.true in map-encoded (rw outside) (rw outside)
+returns c = let outside = sym c.before.within_limits_lem.ensures ∙ not-true _ c.if1.true in map_encoded (rw outside) (rw outside)
 
 sets-for-requires : tie.Need-sets-for-requires
 sets-for-requires c κs = search rules
@@ -41,27 +41,27 @@ mul-size c = search rules
 
 told : (c : tie.After-field-octets)
     → let a = c.before.before.before.before.before.before.args in
-    Told a.setup (length a.defects.now / 12) c.field-octets.result c.before.sets-for.result
-told c = record { limits = within c.before.before; sized = c.field-octets.ensures; counted = c.before.sets-for.ensures }
+    Told a.setup (length a.defects.now / 12) c.field_octets_lem.result c.before.sets-for.result
+told c = record { limits = within c.before.before; sized = c.field_octets_lem.ensures; counted = c.before.sets-for.ensures }
 
 div-if2 : tie.Need-nonzero-div-if2
-div-if2 c = some-octets (told c)
+div-if2 c = some_octets (told c)
 
 returns-2 : tie.Need-returns-2
 unfolding pick
 returns-2 c =
     let t = told c.before in
     let small = t.limits in
-    let short = lacks-octets t _ c.if2.true in
-    map-encoded (rw (small, short)) (rw (small, short))
+    let short = lacks_octets t _ c.if2.true in
+    map_encoded (rw (small, short)) (rw (small, short))
 
 is-encodable-requires : tie.Need-is-encodable-requires
 is-encodable-requires c κs = search rules
 
 has_room : (c : tie.Else2)
     → let a = c.before.before.before.before.before.before.before.args in
-    ltb (length a.out.now) (mapLength a.setup (length a.defects.now / 12)) ≡ false
-has_room c = has-octets (told c.before) _ c.if2.false
+    ltb (length a.out.now) (map_length a.setup (length a.defects.now / 12)) ≡ false
+has_room c = has_octets (told c.before) _ c.if2.false
 
 returns-3 : tie.Need-returns-3
 unfolding pick
@@ -69,7 +69,7 @@ returns-3 c =
     let room = c.before.before in
     let small = (told room.before).limits in
     let wrong = rw c.before.is-encodable.ensures at c.if3.true in
-    map-encoded (rw (small, has_room room, wrong)) (rw (small, has_room room, wrong))
+    map_encoded (rw (small, has_room room, wrong)) (rw (small, has_room room, wrong))
 
 ready : (c : tie.Else3)
     → let sets = c.before.before.before.before in
@@ -90,12 +90,12 @@ slice-aggregate-put-sets c = search rules
 put-sets-requires : tie.Need-put-sets-requires
 put-sets-requires c κs =
     let fit = c.before.before in
-    (ready fit, room-in-octets (ready fit) refl (has_room fit.before.before))
+    (ready fit, room_in_octets (ready fit) refl (has_room fit.before.before))
 
 mul-t13 : tie.Need-overflow-mul-t13
 mul-t13 c =
     let room : tie.Else2 = search in
-    omega (arith, (le-div_iff_mul-le (some-octets (told room.before))).0 room.if2.left)
+    omega (arith, (le-div_iff_mul-le (some_octets (told room.before))).0 room.if2.left)
 
 same_length : tie.Need-same-length
 same_length c = search rules
@@ -109,7 +109,7 @@ returns-4 c =
     let t = told room.before in
     let small = t.limits in
     let right = rw fit.before.is-encodable.ensures at fit.if3.left in
-    map-encoded (rw (small, has_room room, right) (ap Written (length-told t))) (rw (small, has_room room, right) (whole-map (ready fit) put.put-sets.ensures))
+    map_encoded (rw (small, has_room room, right) (ap Written (length_told t))) (rw (small, has_room room, right) (whole_map (ready fit) put.put-sets.ensures))
 
 pub encode-map-spec : {M : Type 1} → statement M
 encode-map-spec =

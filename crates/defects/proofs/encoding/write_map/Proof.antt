@@ -1,6 +1,6 @@
 -- `defects::encoding::write_map` meets its contract: at each `return` the tests that led there say which row holds first, or that none does.
 -- Assumes nothing.
-use Rattle.defects.proofs.Promised.{map-wrote}
+use Rattle.defects.proofs.Promised.{map_wrote}
 use mathlib.Core.Path.{◌≡◌, refl, sym, ◌∙◌}
 use mathlib.Core.Bool.{true, false}
 use native.Mathlib.Omega.{arith}
@@ -8,11 +8,11 @@ use borrow.Author.Tests.{not-true, not-false}
 use lib.Dec.{ltb}
 use lib.ListN.{length}
 use Rattle.laws.specs.Pick.{pick}
-use Rattle.parts.specs.Setup.{withinLimits, allWords}
+use Rattle.parts.specs.Setup.{within_limits, all_words}
 use Rattle.defects.specs.EncodeSteps.{Planned}
 use Rattle.defects.proofs.Plans.{plan}
-use Rattle.defects.proofs.SectorFields.{lacks-words}
-use Rattle.defects.proofs.EncodeRows.{planned, room-in-words}
+use Rattle.defects.proofs.SectorFields.{lacks_words}
+use Rattle.defects.proofs.EncodeRows.{planned, room_in_words}
 use borrow.Author.Rules.{rules}
 use Rattle.defects.proofs.encoding.write_map.Statement.{statement}
 use Rattle.defects.proofs.encoding.write_map.Tie as tie
@@ -20,12 +20,12 @@ use Rattle.defects.proofs.encoding.write_map.Tie as tie
 within-limits-requires : tie.Need-within-limits-requires
 within-limits-requires c κs = search rules
 
-within : (c : tie.Else1) → withinLimits c.before.before.before.before.args.setup ≡ true
-within c = sym c.before.within-limits.ensures ∙ not-false _ c.if1.false
+within : (c : tie.Else1) → within_limits c.before.before.before.before.args.setup ≡ true
+within c = sym c.before.within_limits_lem.ensures ∙ not-false _ c.if1.false
 
 returns : tie.Need-returns
 unfolding pick
-returns c = let outside = sym c.before.within-limits.ensures ∙ not-true _ c.if1.true in map-wrote (rw outside) (rw outside)
+returns c = let outside = sym c.before.within_limits_lem.ensures ∙ not-true _ c.if1.true in map_wrote (rw outside) (rw outside)
 
 sector-words-requires : tie.Need-sector-words-requires
 sector-words-requires c κs = search rules
@@ -35,8 +35,8 @@ lacks-room-requires c κs = search rules
 
 told : (c : tie.After-lacks-room)
     → let a = c.before.before.before.before.before.before.args in
-    c.lacks-room.result ≡ ltb (length a.sectors.now) (allWords a.setup)
-told c = c.lacks-room.ensures ∙ lacks-words _ _ _ (within c.before.before) c.before.sector-words.ensures
+    c.lacks-room.result ≡ ltb (length a.sectors.now) (all_words a.setup)
+told c = c.lacks-room.ensures ∙ lacks_words _ _ _ (within c.before.before) c.before.sector-words.ensures
 
 returns-2 : tie.Need-returns-2
 unfolding pick
@@ -44,7 +44,7 @@ returns-2 c =
     let lacks = c.before in
     let small = within lacks.before.before in
     let short = sym (told lacks) ∙ c.if2.true in
-    map-wrote (rw (small, short)) (rw (small, short))
+    map_wrote (rw (small, short)) (rw (small, short))
 
 sets-for-requires : tie.Need-sets-for-requires
 sets-for-requires c κs = search rules
@@ -54,7 +54,7 @@ is-encodable-requires c κs = search rules
 
 has_room : (c : tie.Else2)
     → let a = c.before.before.before.before.before.before.before.args in
-    ltb (length a.sectors.now) (allWords a.setup) ≡ false
+    ltb (length a.sectors.now) (all_words a.setup) ≡ false
 has_room c = sym (told c.before) ∙ c.if2.false
 
 returns-3 : tie.Need-returns-3
@@ -63,7 +63,7 @@ returns-3 c =
     let room = c.before.before.before in
     let small = within room.before.before.before in
     let wrong = rw c.before.is-encodable.ensures at c.if3.true in
-    map-wrote (rw (small, has_room room, wrong)) (rw (small, has_room room, wrong))
+    map_wrote (rw (small, has_room room, wrong)) (rw (small, has_room room, wrong))
 
 ready : (c : tie.Else3)
     → let sets = c.before.before in
@@ -84,7 +84,7 @@ slice-aggregate-put-sets c = search rules
 put-sets-requires : tie.Need-put-sets-requires
 put-sets-requires c κs =
     let fit : tie.Else3 = search in
-    (ready fit, room-in-words refl (has_room fit.before.before.before))
+    (ready fit, room_in_words refl (has_room fit.before.before.before))
 
 same_length : tie.Need-same-length
 same_length c = search rules
@@ -97,7 +97,7 @@ returns-4 c =
     let room = fit.before.before.before in
     let small = within room.before.before.before in
     let right = rw fit.before.is-encodable.ensures at fit.if3.left in
-    map-wrote (rw (small, has_room room, right)) (rw (small, has_room room, right, ← fit.before.before.sets-for.ensures) (put.put-sets.ensures.words refl))
+    map_wrote (rw (small, has_room room, right)) (rw (small, has_room room, right, ← fit.before.before.sets-for.ensures) (put.put-sets.ensures.words refl))
 
 pub write-map-spec : {M : Type 1} → statement M
 write-map-spec =

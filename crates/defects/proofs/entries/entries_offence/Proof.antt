@@ -4,12 +4,12 @@ use Prim.Native.Nat.{◌<◌}
 use mathlib.Core.Path.{◌≡◌, ap}
 use lib.ListN.{length}
 use Rattle.defects.specs.Field.{slots}
-use Rattle.defects.specs.Defect.{defectAt, isBlank}
+use Rattle.defects.specs.Defect.{defect_at, is_blank}
 use Prim.Native.Nat.{◌-◌}
 use native.Mathlib.Omega.{arith}
 use borrow.Author.Rules.{rules}
 use mathlib.Core.Path.{refl, sym, ◌∙◌}
-use Rattle.defects.proofs.EntriesLeft.{Left, left-start, left-none, left-stop, left-next, blank-left, none_left}
+use Rattle.defects.proofs.EntriesLeft.{Left, left_start, left_none, left_stop, left_next, blank_left, none_left}
 use Rattle.defects.proofs.entries.entries_offence.Statement.{statement}
 use Rattle.defects.proofs.entries.entries_offence.Tie as tie
 
@@ -23,7 +23,7 @@ slots-of-requires : tie.Need-slots-of-requires invariant-loop decreases-loop
 slots-of-requires c κs = search rules
 
 loop-holds : tie.Need-loop-init invariant-loop decreases-loop
-loop-holds c = left-start _ _ _ _ _
+loop-holds c = left_start _ _ _ _ _
 
 defect-at-requires : tie.Need-defect-at-requires invariant-loop decreases-loop
 defect-at-requires c κs = search rules
@@ -40,14 +40,14 @@ in-slot c = omega (arith, c.before.before.slots-of.ensures)
 
 blank-told : (c : tie.After-is-blank invariant-loop decreases-loop)
     → let loop = c.before.before.before in
-    isBlank (defectAt loop.loop.at loop.before.before.before.args.field.now) ≡ c.is-blank.result
-blank-told c = sym (c.is-blank.ensures ∙ ap isBlank c.before.defect-at.ensures)
+    is_blank (defect_at loop.loop.at loop.before.before.before.args.field.now) ≡ c.is-blank.result
+blank-told c = sym (c.is-blank.ensures ∙ ap is_blank c.before.defect-at.ensures)
 
 returns : tie.Need-returns invariant-loop decreases-loop
 returns c =
     let blank = c.before.before in
     let turn = blank.before.before in
-    left-none _ _ _ _ _ _ _ _ _ turn.before.loop.invariant (blank-left _ _ _ (in-slot turn) (blank-told blank ∙ c.before.if1.true)) c.none_after.ensures
+    left_none _ _ _ _ _ _ _ _ _ turn.before.loop.invariant (blank_left _ _ _ (in-slot turn) (blank-told blank ∙ c.before.if1.true)) c.none_after.ensures
 
 add-judge-entry : tie.Need-overflow-add-judge-entry invariant-loop decreases-loop
 add-judge-entry c = search rules
@@ -60,7 +60,7 @@ returns-2 c =
     let entry = c.before.before in
     let blank = entry.before.before in
     let turn = blank.before.before in
-    left-stop _ _ _ _ _ _ _ _ _ _ turn.before.loop.invariant (in-slot turn) (blank-told blank ∙ entry.before.if1.false)
+    left_stop _ _ _ _ _ _ _ _ _ _ turn.before.loop.invariant (in-slot turn) (blank-told blank ∙ entry.before.if1.false)
     (entry.judge-entry.ensures.offence ∙ rw blank.before.defect-at.ensures) c.if2.true refl
 
 add_at : tie.Need-overflow-add-at invariant-loop decreases-loop
@@ -77,7 +77,7 @@ loop-again c =
     let entry = c.before.before in
     let blank = entry.before.before in
     let turn = blank.before.before in
-    left-next _ _ _ _ _ _ _ _ _ _ turn.before.loop.invariant (in-slot turn) (blank-told blank ∙ entry.before.if1.false)
+    left_next _ _ _ _ _ _ _ _ _ _ turn.before.loop.invariant (in-slot turn) (blank-told blank ∙ entry.before.if1.false)
     (entry.judge-entry.ensures.offence ∙ rw blank.before.defect-at.ensures) c.if2.false (entry.judge-entry.ensures.next c.if2.false ∙ rw blank.before.defect-at.ensures)
 
 none-after-requires-2 : tie.Need-none-after-requires-2 invariant-loop decreases-loop
@@ -86,7 +86,7 @@ none-after-requires-2 c κs = search rules
 returns-3 : tie.Need-returns-3 invariant-loop decreases-loop
 returns-3 c =
     let loop : tie.At-loop invariant-loop decreases-loop = search in
-    left-none _ _ _ _ _ _ _ _ _ loop.loop.inv (none_left _ _ _ (search rules)) c.none-after2.ensures
+    left_none _ _ _ _ _ _ _ _ _ loop.loop.inv (none_left _ _ _ (search rules)) c.none-after2.ensures
 
 pub entries-offence-spec : {M : Type 1} → statement M
 entries-offence-spec =

@@ -3,7 +3,7 @@
 use native.Mathlib.Omega.{arith}
 use mathlib.Core.Logic.{⊎_elim}
 use Rattle.parts.proofs.Bounds.{limits}
-use Rattle.defects.specs.Judging.{entryTests}
+use Rattle.defects.specs.Judging.{entry_tests}
 use Rattle.defects.proofs.Offences.{judged, found}
 use borrow.Author.Rules.{rules}
 use Rattle.defects.proofs.entries.judge_entry.Statement.{statement}
@@ -16,7 +16,7 @@ offence-at-requires : tie.Need-offence-at-requires
 offence-at-requires c κs = search rules
 
 returns : tie.Need-returns
-unfolding entryTests
+unfolding entry_tests
 returns c = record { offence = search judged; next = found c.offence-at.ensures }
 
 address-of-requires : tie.Need-address-of-requires
@@ -29,7 +29,7 @@ offence-at-requires-2 : tie.Need-offence-at-requires-2
 offence-at-requires-2 c κs = search rules
 
 returns-2 : tie.Need-returns-2
-unfolding entryTests
+unfolding entry_tests
 returns-2 c = record { offence = rw (← c.before.before.address-of.ensures.0) (search judged); next = found c.offence-at2.ensures }
 
 add-offence-at : tie.Need-overflow-add-offence-at
@@ -39,7 +39,7 @@ offence-at-requires-3 : tie.Need-offence-at-requires-3
 offence-at-requires-3 c κs = search rules
 
 returns-3 : tie.Need-returns-3
-unfolding entryTests
+unfolding entry_tests
 returns-3 c = record { offence = rw (← c.before.before.before.before.before.address-of.ensures.0) (search judged depth 9); next = found c.offence-at3.ensures }
 
 add-next : tie.Need-overflow-add-next
@@ -49,7 +49,7 @@ no-offence-requires : tie.Need-no-offence-requires
 no-offence-requires c κs = search rules
 
 returns-4 : tie.Need-returns-4
-unfolding entryTests
+unfolding entry_tests
 returns-4 c =
     let told = c.before.before.before.before.before.before.address-of.ensures.0 in
     record { offence = rw (← told) (search judged depth 9); next = λ none. rw (← told) (⊎_elim (λ w. omega arith) (λ w. omega arith) c.before.if4.branch) }

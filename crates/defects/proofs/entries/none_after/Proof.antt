@@ -1,4 +1,4 @@
--- `defects::entries::none_after` meets its contract.
+-- `defects::entries::none_after_lem` meets its contract.
 -- Assumes nothing.
 use borrow.Author.Rules.{rules}
 use Rattle.defects.proofs.entries.none_after.Statement.{statement}

@@ -3,7 +3,7 @@
 use Prim.Native.Nat.{ℕ}
 use mathlib.Core.List.{List}
 use lib.ListN.{get_or}
-use Rattle.defects.specs.Field.{frontOf}
+use Rattle.defects.specs.Field.{front_of}
 use borrow.Author.Rules.{rules}
 use Rattle.defects.proofs.front.front_of.Statement.{statement}
 use Rattle.defects.proofs.front.front_of.Tie as tie
@@ -30,13 +30,13 @@ word-at-requires-4 : tie.Need-word-at-requires-4
 word-at-requires-4 c κs = search rules
 
 returns : tie.Need-returns
-unfolding frontOf
+unfolding front_of
 returns c =
     let copy = c.before.before.before.before in
     let count = copy.before.before in
     let field : List ℕ = count.before.before.args.field.now in
     λ i. record {
-      count = count.word-at.ensures i;
+      count = count.word_at_lem.ensures i;
       flags = get_or field 2 0;
       copy = get_or field 3 0;
       sets = c.before.before.before.word-at2.ensures i;

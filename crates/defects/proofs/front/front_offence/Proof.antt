@@ -2,10 +2,10 @@
 -- Assumes nothing.
 use borrow.Author.Tests.{eq-eqb, ne_eqb}
 use Rattle.laws.proofs.Pick.{not_f}
-use Rattle.defects.proofs.Offences.{first-miss}
+use Rattle.defects.proofs.Offences.{first_miss}
 use Rattle.defects.proofs.Offences.{judged}
 use Rattle.laws.specs.Pick.{pick}
-use Rattle.defects.specs.Judging.{frontTests}
+use Rattle.defects.specs.Judging.{front_tests}
 use borrow.Author.Rules.{rules}
 use Rattle.defects.proofs.front.front_offence.Statement.{statement}
 use Rattle.defects.proofs.front.front_offence.Tie as tie
@@ -20,22 +20,22 @@ offence-at-requires : tie.Need-offence-at-requires
 offence-at-requires c κs = search rules
 
 returns : tie.Need-returns
-unfolding frontTests
+unfolding front_tests
 returns c = search judged
 
 opening-offence-requires : tie.Need-opening-offence-requires
 opening-offence-requires c κs = search rules
 
 returns-2 : tie.Need-returns-2
-unfolding frontTests pick
-returns-2 c = first-miss _ _ _ (not_f _ (eq-eqb _ _ c.before.before.before.if1.false)) (rw (eq-eqb _ _ c.before.if2.true) c.opening-offence.ensures)
+unfolding front_tests pick
+returns-2 c = first_miss _ _ _ (not_f _ (eq-eqb _ _ c.before.before.before.if1.false)) (rw (eq-eqb _ _ c.before.if2.true) c.opening-offence.ensures)
 
 later-offence-requires : tie.Need-later-offence-requires
 later-offence-requires c κs = search rules
 
 returns-3 : tie.Need-returns-3
-unfolding frontTests pick
-returns-3 c = first-miss _ _ _ (not_f _ (eq-eqb _ _ c.before.before.before.if1.false)) (rw (ne_eqb _ _ c.before.if2.false) c.later-offence.ensures)
+unfolding front_tests pick
+returns-3 c = first_miss _ _ _ (not_f _ (eq-eqb _ _ c.before.before.before.if1.false)) (rw (ne_eqb _ _ c.before.if2.false) c.later-offence.ensures)
 
 pub front-offence-spec : {M : Type 1} → statement M
 front-offence-spec =

@@ -11,7 +11,7 @@ use Rattle.defects.specs.Offence.{◌at◌when◌, first_of}
 use native.Mathlib.Omega.{arith}
 use Rattle.defects.proofs.Offences.{judged}
 use Rattle.laws.proofs.Pick.{told}
-use Rattle.defects.specs.Judging.{laterTests}
+use Rattle.defects.specs.Judging.{later_tests}
 use borrow.Author.Rules.{rules}
 use Rattle.defects.proofs.front.later_offence.Statement.{statement}
 use Rattle.defects.proofs.front.later_offence.Tie as tie
@@ -32,7 +32,7 @@ offence-at-requires : tie.Need-offence-at-requires
 offence-at-requires c κs = search rules
 
 returns : tie.Need-returns
-unfolding laterTests
+unfolding later_tests
 returns c = search (judged, told) depth 20 fits 4000
 
 add-offence-at-2 : tie.Need-overflow-add-offence-at-2
@@ -42,7 +42,7 @@ offence-at-requires-2 : tie.Need-offence-at-requires-2
 offence-at-requires-2 c κs = search rules
 
 returns-2 : tie.Need-returns-2
-unfolding laterTests
+unfolding later_tests
 returns-2 c = search (judged, told) depth 20 fits 4000
 
 add-offence-at-3 : tie.Need-overflow-add-offence-at-3
@@ -52,7 +52,7 @@ offence-at-requires-3 : tie.Need-offence-at-requires-3
 offence-at-requires-3 c κs = search rules
 
 returns-3 : tie.Need-returns-3
-unfolding laterTests
+unfolding later_tests
 returns-3 c = search (judged, told) depth 20 fits 4000
 
 cast-if4 : tie.Need-overflow-cast-if4
@@ -65,7 +65,7 @@ offence-at-requires-4 : tie.Need-offence-at-requires-4
 offence-at-requires-4 c κs = search rules
 
 returns-4 : tie.Need-returns-4
-unfolding laterTests
+unfolding later_tests
 returns-4 c = search (judged, told) depth 20 fits 4000
 
 add-offence-at-5 : tie.Need-overflow-add-offence-at-5
@@ -75,14 +75,14 @@ offence-at-requires-5 : tie.Need-offence-at-requires-5
 offence-at-requires-5 c κs = search rules
 
 returns-5 : tie.Need-returns-5
-unfolding laterTests
+unfolding later_tests
 returns-5 c = search (judged, told) depth 20 fits 4000
 
 -- all tests but the last were passed
 passed : (c : tie.Else5)
     → let a = c.before.before.before.before.before.before.before.before.before.before.before.before.before.before.before.args in
-    first_of (laterTests a.walk a.start a.front) ≡ first_of (21 at a.start + 12 when not (eqb a.front.head a.walk.head) ∷ [])
-unfolding laterTests first_of pick
+    first_of (later_tests a.walk a.start a.front) ≡ first_of (21 at a.start + 12 when not (eqb a.front.head a.walk.head) ∷ [])
+unfolding later_tests first_of pick
 passed c =
     let third = c.before.before.before.before.before.before in
     let second = third.before.before.before in

@@ -2,7 +2,7 @@
 -- Assumes nothing.
 use Rattle.defects.proofs.Offences.{judged}
 use Rattle.laws.proofs.Pick.{told}
-use Rattle.defects.specs.Judging.{openingTests}
+use Rattle.defects.specs.Judging.{opening_tests}
 use borrow.Author.Rules.{rules}
 use Rattle.defects.proofs.front.opening_offence.Statement.{statement}
 use Rattle.defects.proofs.front.opening_offence.Tie as tie
@@ -17,7 +17,7 @@ offence-at-requires : tie.Need-offence-at-requires
 offence-at-requires c κs = search rules
 
 returns : tie.Need-returns
-unfolding openingTests
+unfolding opening_tests
 returns c = search (judged, told) depth 20 fits 4000
 
 add-offence-at-2 : tie.Need-overflow-add-offence-at-2
@@ -27,7 +27,7 @@ offence-at-requires-2 : tie.Need-offence-at-requires-2
 offence-at-requires-2 c κs = search rules
 
 returns-2 : tie.Need-returns-2
-unfolding openingTests
+unfolding opening_tests
 returns-2 c = search (judged, told) depth 20 fits 4000
 
 add-offence-at-3 : tie.Need-overflow-add-offence-at-3
@@ -37,7 +37,7 @@ offence-at-requires-3 : tie.Need-offence-at-requires-3
 offence-at-requires-3 c κs = search rules
 
 returns-3 : tie.Need-returns-3
-unfolding openingTests
+unfolding opening_tests
 returns-3 c = search (judged, told) depth 20 fits 4000
 
 add-offence-at-4 : tie.Need-overflow-add-offence-at-4
@@ -47,7 +47,7 @@ offence-at-requires-4 : tie.Need-offence-at-requires-4
 offence-at-requires-4 c κs = search rules
 
 returns-4 : tie.Need-returns-4
-unfolding openingTests
+unfolding opening_tests
 returns-4 c = search (judged, told) depth 20 fits 4000
 
 cast-if5 : tie.Need-overflow-cast-if5
@@ -60,7 +60,7 @@ offence-at-requires-5 : tie.Need-offence-at-requires-5
 offence-at-requires-5 c κs = search rules
 
 returns-5 : tie.Need-returns-5
-unfolding openingTests
+unfolding opening_tests
 returns-5 c = search (judged, told) depth 20 fits 4000
 
 add-offence-at-6 : tie.Need-overflow-add-offence-at-6
@@ -70,14 +70,14 @@ offence-at-requires-6 : tie.Need-offence-at-requires-6
 offence-at-requires-6 c κs = search rules
 
 returns-6 : tie.Need-returns-6
-unfolding openingTests
+unfolding opening_tests
 returns-6 c = search (judged, told) depth 20 fits 4000
 
 no-offence-requires : tie.Need-no-offence-requires
 no-offence-requires c κs = search rules
 
 returns-7 : tie.Need-returns-7
-unfolding openingTests
+unfolding opening_tests
 returns-7 c = search (judged, told) depth 20 fits 4000
 
 pub opening-offence-spec : {M : Type 1} → statement M

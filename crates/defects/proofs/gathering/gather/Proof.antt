@@ -11,19 +11,19 @@ use lib.ListN.{length, take}
 use lib.Seq.{length-take-le}
 use Rattle.parts.specs.declared.setup.Setup.{Setup}
 use Rattle.parts.proofs.Bounds.{limits}
-use Rattle.defects.specs.Place.{fieldOctets}
+use Rattle.defects.specs.Place.{field_octets}
 use Rattle.defects.specs.Walk.{field_at}
-use Rattle.defects.specs.Steps.{stringIn, ownDefects, Loadable}
-use Rattle.defects.proofs.Fields.{some-field}
-use Rattle.defects.proofs.Loadables.{length-loaded}
-use Rattle.defects.proofs.Gathers.{Gathering, gathering-start, gathering-next, own_room}
+use Rattle.defects.specs.Steps.{string_in, own_defects, Loadable}
+use Rattle.defects.proofs.Fields.{some_field}
+use Rattle.defects.proofs.Loadables.{length_loaded}
+use Rattle.defects.proofs.Gathers.{Gathering, gathering_start, gathering_next, own_room}
 use Rattle.defects.proofs.gathering.gather.Statement.{statement}
 use Rattle.defects.proofs.gathering.gather.Tie as tie
 
 -- the data fields before k are listed
 record Gathered (setup : Setup) (inSectors : Bool) (octets sectors : List ℕ) (fields : ℕ) (field₀ defects₀ field defects : List ℕ) (count copy k : ℕ) : Type 0 where
   within : k ≤ fields
-  gathered : Gathering setup (stringIn setup inSectors octets sectors) defects₀ defects count copy k
+  gathered : Gathering setup (string_in setup inSectors octets sectors) defects₀ defects count copy k
   fields' : length field ≡ length field₀
 
 abbrev invariant-loop : tie.invariant-loop
@@ -34,7 +34,7 @@ abbrev decreases-loop : tie.decreases-loop
 decreases-loop setup in-sectors octets sectors fields field₀ defects₀ count₀ copy₀ k₀ field defects count copy k = fields - k
 
 loop-holds : tie.Need-loop-init invariant-loop decreases-loop
-loop-holds c = record { within = search rules; gathered = gathering-start _ _ _; fields' = refl }
+loop-holds c = record { within = search rules; gathered = gathering_start _ _ _; fields' = refl }
 
 -- the data field is there, whole
 loadable : (c : tie.In-loop invariant-loop decreases-loop)
@@ -44,14 +44,14 @@ loadable c =
     let start = c.before.before.before.before.before.before in
     let pre = start.requires.0 in
     let k = c.before.loop.k in
-    let each = fieldOctets start.args.setup in
+    let each = field_octets start.args.setup in
     let more : (k + 1) * each ≤ start.args.fields * each = mul-le-mul_right each (omega arith) in
     record { limits = pre.limits; room = pre.room; inside = omega (arith, pre.within); whole = omega (arith, more, pre.whole, add-mul k 1 each, one-mul each) }
 
 -- the next defects have room
 next-room : (c : tie.In-loop invariant-loop decreases-loop)
     → let a = c.before.before.before.before.before.before.args in
-    12 * (c.before.loop.count + length (ownDefects c.before.loop.copy (field_at a.setup (stringIn a.setup a.in-sectors a.octets.now a.sectors.now) c.before.loop.k))) ≤ length c.before.loop.defects
+    12 * (c.before.loop.count + length (own_defects c.before.loop.copy (field_at a.setup (string_in a.setup a.in-sectors a.octets.now a.sectors.now) c.before.loop.k))) ≤ length c.before.loop.defects
 next-room c =
     let start = c.before.before.before.before.before.before in
     own_room _ _ _ _ _ _ _ _ c.before.loop.invariant.gathered (start.requires.0.going c.before.loop.k c.loop-test.true) c.loop-test.true start.requires.0.held
@@ -77,7 +77,7 @@ loop-again c =
     let pre = start.requires.0 in
     record {
       within = omega (arith, turn.loop-test.true);
-      gathered = gathering-next _ _ _ _ _ _ _ _ loop.loop.invariant.gathered (pre.going loop.loop.k turn.loop-test.true) turn.loop-test.true pre.held _ _ listed.list_at.ensures;
+      gathered = gathering_next _ _ _ _ _ _ _ _ loop.loop.invariant.gathered (pre.going loop.loop.k turn.loop-test.true) turn.loop-test.true pre.held _ _ listed.list_at.ensures;
       fields' = omega (arith, listed.list_at.auto, loop.loop.invariant.fields');
     }
 

@@ -6,8 +6,8 @@ use native.Mathlib.Omega.{arith}
 use lib.ListN.{length, take}
 use lib.Seq.{length-take-le}
 use Rattle.parts.proofs.Bounds.{limits}
-use Rattle.defects.proofs.Fields.{some-field}
-use Rattle.defects.proofs.Loadables.{start-few, length-loaded, off-the-cylinder, window, window-inside}
+use Rattle.defects.proofs.Fields.{some_field}
+use Rattle.defects.proofs.Loadables.{start_few, length_loaded, off_the_cylinder, window, window_inside}
 use borrow.Author.Rules.{rules}
 use Rattle.defects.proofs.gathering.list_at.Statement.{statement}
 use Rattle.defects.proofs.gathering.list_at.Tie as tie
@@ -28,7 +28,7 @@ slice-reshare-prefix-list-field c =
     let told : tie.After-field-octets = search in
     let loaded : tie.After-load = search in
     let few = limits _ start.pre.0.limits in
-    omega (arith, told.field-octets.ensures, loaded.load.kept, start.pre.2)
+    omega (arith, told.field_octets_lem.ensures, loaded.load.kept, start.pre.2)
 
 slice-aggregate-list-field : tie.Need-slice-aggregate-list-field
 slice-aggregate-list-field c = sym (length-take-le _ _ (slice-reshare-prefix-list-field c.before))
@@ -40,9 +40,9 @@ list-field-requires c κs =
     let sectors : tie.Then1 = search in
     let loaded : tie.After-load = search in
     let l = start.pre.0 in
-    let some = some-field start.args.setup start.args.k l.inside in
-    let there = off-the-cylinder l (take told.field-octets.result loaded.load.last.1.1.1.0) sectors.if1.taken (rw told.field-octets.ensures loaded.load.ensures) in
-    (rw (there, length-loaded l) (omega arith), rw there start.pre.1)
+    let some = some_field start.args.setup start.args.k l.inside in
+    let there = off_the_cylinder l (take told.field_octets_lem.result loaded.load.last.1.1.1.0) sectors.if1.taken (rw told.field_octets_lem.ensures loaded.load.ensures) in
+    (rw (there, length_loaded l) (omega arith), rw there start.pre.1)
 
 same_length : tie.Need-same-length
 same_length c = search rules
@@ -57,21 +57,21 @@ returns c =
     let sectors : tie.Then1 = search in
     let loaded : tie.After-load = search in
     let listed : tie.After-list-field = search in
-    let there = off-the-cylinder start.pre.0 (take told.field-octets.result loaded.load.last.1.1.1.0) sectors.if1.taken (rw told.field-octets.ensures loaded.load.ensures) in
+    let there = off_the_cylinder start.pre.0 (take told.field_octets_lem.result loaded.load.last.1.1.1.0) sectors.if1.taken (rw told.field_octets_lem.ensures loaded.load.ensures) in
     rw (← there) listed.list-field.ensures
 
 mul_at : tie.Need-overflow-mul-at
 mul_at c =
     let start : tie.Start = search in
     let told : tie.After-field-octets = search in
-    let few = start-few start.args.setup start.args.k start.pre.0.limits (omega (arith, start.pre.0.inside)) in
-    rw told.field-octets.ensures (omega arith)
+    let few = start_few start.args.setup start.args.k start.pre.0.limits (omega (arith, start.pre.0.inside)) in
+    rw told.field_octets_lem.ensures (omega arith)
 
 add-list-field : tie.Need-overflow-add-list-field
 add-list-field c =
     let start : tie.Start = search in
     let told : tie.After-field-octets = search in
-    omega (arith, window-inside start.pre.0 (start.args.k * told.field-octets.result) told.field-octets.result c.if1.false (rw told.field-octets.ensures) told.field-octets.ensures)
+    omega (arith, window_inside start.pre.0 (start.args.k * told.field_octets_lem.result) told.field_octets_lem.result c.if1.false (rw told.field_octets_lem.ensures) told.field_octets_lem.ensures)
 
 sub-list-field : tie.Need-overflow-sub-list-field
 sub-list-field c = search rules
@@ -83,7 +83,7 @@ part-list-field-end : tie.Need-slice-bounds-list-field-end
 part-list-field-end c =
     let start : tie.Start = search in
     let told : tie.After-field-octets = search in
-    window-inside start.pre.0 (start.args.k * told.field-octets.result) told.field-octets.result c.if1.false (rw told.field-octets.ensures) told.field-octets.ensures
+    window_inside start.pre.0 (start.args.k * told.field_octets_lem.result) told.field_octets_lem.result c.if1.false (rw told.field_octets_lem.ensures) told.field_octets_lem.ensures
 
 list-field-requires-2 : tie.Need-list-field-requires-2
 list-field-requires-2 c κs =
@@ -91,9 +91,9 @@ list-field-requires-2 c κs =
     let told : tie.After-field-octets = search in
     let octets : tie.Else1 = search in
     let l = start.pre.0 in
-    let some = some-field start.args.setup start.args.k l.inside in
-    let there = window l (start.args.k * told.field-octets.result) told.field-octets.result octets.if1.left (rw told.field-octets.ensures) told.field-octets.ensures in
-    (rw (there, length-loaded l) (omega arith), rw there start.pre.1)
+    let some = some_field start.args.setup start.args.k l.inside in
+    let there = window l (start.args.k * told.field_octets_lem.result) told.field_octets_lem.result octets.if1.left (rw told.field_octets_lem.ensures) told.field_octets_lem.ensures in
+    (rw (there, length_loaded l) (omega arith), rw there start.pre.1)
 
 same-length-3 : tie.Need-same-length-3
 same-length-3 c = search rules
@@ -104,7 +104,7 @@ returns-2 c =
     let told : tie.After-field-octets = search in
     let octets : tie.Else1 = search in
     let listed : tie.After-list-field2 = search in
-    let there = window start.pre.0 (start.args.k * told.field-octets.result) told.field-octets.result octets.if1.left (rw told.field-octets.ensures) told.field-octets.ensures in
+    let there = window start.pre.0 (start.args.k * told.field_octets_lem.result) told.field_octets_lem.result octets.if1.left (rw told.field_octets_lem.ensures) told.field_octets_lem.ensures in
     rw (← there) listed.list-field2.ensures
 
 pub list-at-spec : {M : Type 1} → statement M

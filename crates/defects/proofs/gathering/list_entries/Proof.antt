@@ -1,17 +1,17 @@
 -- `defects::gathering::list_entries` meets its contract: the defects listed so far, before those of the entries left, are all of them.
 -- Assumes nothing.
-use Rattle.laws.proofs.Runs.{rest-whole}
+use Rattle.laws.proofs.Runs.{rest_whole}
 use lib.ListN.{length-drop}
 use Rattle.defects.specs.Field.{slots}
-use Rattle.defects.specs.Defect.{defectAt, defectOctets, isBlank}
-use Rattle.defects.proofs.EntriesLeft.{blank-left, none_left}
-use Rattle.laws.proofs.Windows.{part-back}
+use Rattle.defects.specs.Defect.{defect_at, defect_octets, is_blank}
+use Rattle.defects.proofs.EntriesLeft.{blank_left, none_left}
+use Rattle.laws.proofs.Windows.{part_back}
 use Prim.Native.Nat.{◌+◌, ◌-◌, ◌*◌, ◌≤◌, ◌<◌}
 use mathlib.Core.Path.{◌≡◌, sym, ap, ◌∙◌}
 use native.Mathlib.Omega.{arith}
 use borrow.Author.Rules.{rules}
 use lib.ListN.{length}
-use Rattle.defects.proofs.Listing.{Listing, listing_start, listing_none, listing-next}
+use Rattle.defects.proofs.Listing.{Listing, listing_start, listing_none, listing_next}
 use Rattle.defects.proofs.gathering.list_entries.Statement.{statement}
 use Rattle.defects.proofs.gathering.list_entries.Tie as tie
 
@@ -51,15 +51,15 @@ in-slot c = omega (arith, c.before.loop.invariant.counted)
 
 blank-told : (c : tie.After-is-blank invariant-loop decreases-loop)
     → let loop = c.before.before.before in
-    isBlank (defectAt (14 + 12 * loop.loop.i) loop.before.before.before.before.args.field.now) ≡ c.is-blank.result
-blank-told c = sym (c.is-blank.ensures ∙ ap isBlank c.before.defect-at.ensures)
+    is_blank (defect_at (14 + 12 * loop.loop.i) loop.before.before.before.before.args.field.now) ≡ c.is-blank.result
+blank-told c = sym (c.is-blank.ensures ∙ ap is_blank c.before.defect-at.ensures)
 
 returns : tie.Need-returns invariant-loop decreases-loop
 returns c =
     let blank = c.before in
     let turn = blank.before.before in
     let loop = turn.before in
-    listing_none _ _ _ _ _ _ loop.loop.invariant (blank-left _ _ _ (in-slot turn) (blank-told blank ∙ c.if1.true))
+    listing_none _ _ _ _ _ _ loop.loop.invariant (blank_left _ _ _ (in-slot turn) (blank-told blank ∙ c.if1.true))
 
 add_at : tie.Need-overflow-add-at invariant-loop decreases-loop
 add_at c = search rules
@@ -85,14 +85,14 @@ has_room c =
     let turn = blank.before.before in
     let loop = turn.before in
     let start = loop.before.before.before.before in
-    let next = listing-next _ _ _ _ _ _ loop.loop.invariant (in-slot turn) (blank-told blank ∙ c.if1.false) start.requires.1 in
+    let next = listing_next _ _ _ _ _ _ loop.loop.invariant (in-slot turn) (blank-told blank ∙ c.if1.false) start.requires.1 in
     omega (arith, next.many, loop.loop.invariant.kept, start.requires.1)
 
 write-defect-requires : tie.Need-write-defect-requires invariant-loop decreases-loop
 write-defect-requires c κs =
     let loop = c.before.before.before.before.before in
     let at = 12 * (loop.before.before.before.before.args.count + loop.loop.i) in
-    rw (rest-whole loop.loop.defects at) (simp length-drop (omega (arith, has_room c.before)))
+    rw (rest_whole loop.loop.defects at) (simp length-drop (omega (arith, has_room c.before)))
 
 add-i : tie.Need-overflow-add-i invariant-loop decreases-loop
 add-i c = search rules
@@ -109,8 +109,8 @@ loop-again c =
     let loop = turn.before in
     let start = loop.before.before.before.before in
     let at = 12 * (start.args.count + loop.loop.i) in
-    let written = part-back loop.loop.defects at wrote.write-defect.new.1.0 (defectOctets (defectAt (14 + 12 * loop.loop.i) start.args.field.now)) (wrote.write-defect.ensures ∙ rw blank.before.defect-at.ensures) in
-    rw written (listing-next _ _ _ _ _ _ loop.loop.invariant (in-slot turn) (blank-told blank ∙ passed.if1.false) start.requires.1)
+    let written = part_back loop.loop.defects at wrote.write-defect.new.1.0 (defect_octets (defect_at (14 + 12 * loop.loop.i) start.args.field.now)) (wrote.write-defect.ensures ∙ rw blank.before.defect-at.ensures) in
+    rw written (listing_next _ _ _ _ _ _ loop.loop.invariant (in-slot turn) (blank-told blank ∙ passed.if1.false) start.requires.1)
 
 add-result-2 : tie.Need-overflow-add-result-2 invariant-loop decreases-loop
 add-result-2 c = search rules

@@ -30,7 +30,7 @@ returns-2 c =
     let copied = c.before in
     let judged = ne_eqb _ _ copied.before.if1.false in
     let copy = ne_eqb _ _ copied.if2.true in
-    record { count' = rw (judged, copy, add-zero); copy' = rw (judged, copy) c.next-copy.ensures; slice = rw (judged, copy) (sym (written_none start.args.defects.now (12 * start.args.count))) }
+    record { count' = rw (judged, copy, add-zero); copy' = rw (judged, copy) c.next_copy_lem.ensures; slice = rw (judged, copy) (sym (written_none start.args.defects.now (12 * start.args.count))) }
 
 list-entries-requires : tie.Need-list-entries-requires
 unfolding pick

@@ -9,10 +9,10 @@ use lib.Dec.{eqb}
 use mathlib.Core.Bool.{not}
 use mathlib.Core.List.{◌∷◌, ◌++◌}
 use Rattle.laws.proofs.Pick.{not_t, not_f}
-use Rattle.defects.specs.Offence.{◌at◌when◌, first_of, testsOver}
-use Rattle.defects.specs.Judging.{sameTest}
+use Rattle.defects.specs.Offence.{◌at◌when◌, first_of, tests_over}
+use Rattle.defects.specs.Judging.{same_test}
 use Rattle.defects.specs.declared.offence.Offence.{Offence}
-use Rattle.defects.proofs.Offences.{first-hit, first-miss, stops, goes_on}
+use Rattle.defects.proofs.Offences.{first_hit, first_miss, stops, goes_on}
 use borrow.Author.Rules.{rules}
 use Rattle.defects.proofs.judging.copy_offence.Statement.{statement}
 use Rattle.defects.proofs.judging.copy_offence.Tie as tie
@@ -38,7 +38,7 @@ returns-2 : tie.Need-returns-2
 returns-2 c =
     let passed = c.before.before.before.before in
     let offence = c.offence-at in
-    stops _ _ _ (goes_on _ _ _ _ passed.before.same-offence.ensures passed.if1.false (first-hit _ _ _ (not_t _ (ne_eqb _ _ c.before.if2.true)) offence.ensures))
+    stops _ _ _ (goes_on _ _ _ _ passed.before.same-offence.ensures passed.if1.false (first_hit _ _ _ (not_t _ (ne_eqb _ _ c.before.if2.true)) offence.ensures))
     (ap (λ (o : Offence). o.found) offence.ensures)
 
 add-same-offence : tie.Need-overflow-add-same-offence
@@ -59,13 +59,13 @@ same-offence-requires-2 c κs = search rules
 -- up to the CRC, where octet 3 is right
 up-to-crc : (c : tie.After-same-offence2)
     → let a = c.before.before.before.before.before.before.before.before.args in
-    c.same-offence2.result ≡ first_of (testsOver (sameTest a.start a.field.now a.original.now) 0 3 ++ (20 at a.start + 3 when not (eqb (get_or a.field.now 3 0) a.walk.copy) ∷ testsOver (sameTest a.start a.field.now a.original.now) 4 (length a.field.now - 6)))
+    c.same-offence2.result ≡ first_of (tests_over (same_test a.start a.field.now a.original.now) 0 3 ++ (20 at a.start + 3 when not (eqb (get_or a.field.now 3 0) a.walk.copy) ∷ tests_over (same_test a.start a.field.now a.original.now) 4 (length a.field.now - 6)))
 up-to-crc c =
     let passed = c.before.before.before.before in
     let a = passed.before.before.before.before.args in
     let left : length a.field.now - 3 - 1 - 2 ≡ length a.field.now - 6 = omega arith in
     goes_on _ _ _ _ passed.before.same-offence.ensures passed.if1.false
-    (first-miss _ _ _ (not_f _ (eq-eqb _ _ c.before.if2.false)) (c.same-offence2.ensures ∙ ap (λ (n : ℕ). first_of (testsOver (sameTest a.start a.field.now a.original.now) 4 n)) left))
+    (first_miss _ _ _ (not_f _ (eq-eqb _ _ c.before.if2.false)) (c.same-offence2.ensures ∙ ap (λ (n : ℕ). first_of (tests_over (same_test a.start a.field.now a.original.now) 4 n)) left))
 
 returns-3 : tie.Need-returns-3
 returns-3 c = stops _ _ _ (up-to-crc c.before) c.if3.true

@@ -4,7 +4,7 @@ use mathlib.Core.Path.{sym, ◌∙◌}
 use borrow.Author.Tests.{eq-eqb, ne_eqb}
 use lib.Seq.{length-take-le}
 use Rattle.laws.proofs.Pick.{not_t, not_f}
-use Rattle.defects.proofs.Offences.{first-hit, first-miss, first-none}
+use Rattle.defects.proofs.Offences.{first_hit, first_miss, first_none}
 use borrow.Author.Rules.{rules}
 use Rattle.defects.proofs.judging.crc_offence.Statement.{statement}
 use Rattle.defects.proofs.judging.crc_offence.Tie as tie
@@ -30,8 +30,8 @@ offence-at-requires c κs = search rules
 returns : tie.Need-returns
 returns c =
     let crc = c.before.before in
-    let told = crc.before.before.word-at.ensures in
-    first-hit _ _ _ (not_t _ (ne_eqb _ _ (λ e. c.before.if1.true (told ∙ e ∙ sym crc.crc.ensures)))) c.offence-at.ensures
+    let told = crc.before.before.word_at_lem.ensures in
+    first_hit _ _ _ (not_t _ (ne_eqb _ _ (λ e. c.before.if1.true (told ∙ e ∙ sym crc.crc.ensures)))) c.offence-at.ensures
 
 no-offence-requires : tie.Need-no-offence-requires
 no-offence-requires c κs = search rules
@@ -39,8 +39,8 @@ no-offence-requires c κs = search rules
 returns-2 : tie.Need-returns-2
 returns-2 c =
     let crc = c.before.before in
-    let told = crc.before.before.word-at.ensures in
-    first-miss _ _ _ (not_f _ (eq-eqb _ _ (sym told ∙ c.before.if1.false ∙ crc.crc.ensures))) (first-none _ c.no-offence.ensures)
+    let told = crc.before.before.word_at_lem.ensures in
+    first_miss _ _ _ (not_f _ (eq-eqb _ _ (sym told ∙ c.before.if1.false ∙ crc.crc.ensures))) (first_none _ c.no-offence.ensures)
 
 pub crc-offence-spec : {M : Type 1} → statement M
 crc-offence-spec =

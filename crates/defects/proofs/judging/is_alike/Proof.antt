@@ -9,9 +9,9 @@ use lib.Dec.{eqb}
 use lib.ListN.{get_or}
 use Rattle.laws.proofs.Pick.{not_f}
 use Rattle.laws.proofs.Tests.{and_l, and_r}
-use Rattle.defects.specs.Offence.{first_of, testsOver}
-use Rattle.defects.specs.Judging.{sameTest}
-use Rattle.defects.proofs.Offences.{over-next, over-end}
+use Rattle.defects.specs.Offence.{first_of, tests_over}
+use Rattle.defects.specs.Judging.{same_test}
+use Rattle.defects.proofs.Offences.{over_next, over_end}
 use Rattle.defects.proofs.judging.is_alike.Statement.{statement}
 use Rattle.defects.proofs.judging.is_alike.Tie as tie
 
@@ -20,7 +20,7 @@ invariant-loop field original from count end alike₀ i₀ alike i =
     (from ≤ i)
     × (i ≤ end)
     × (end ≡ from + count)
-    × ((start : ℕ) → alike ≡ true → first_of (testsOver (sameTest start field original) from count) ≡ first_of (testsOver (sameTest start field original) i (end - i)))
+    × ((start : ℕ) → alike ≡ true → first_of (tests_over (same_test start field original) from count) ≡ first_of (tests_over (same_test start field original) i (end - i)))
 
 abbrev decreases-loop : tie.decreases-loop
 decreases-loop field original from count end alike₀ i₀ alike i = end - i
@@ -33,7 +33,7 @@ loop-holds c =
     let start : tie.Start invariant-loop decreases-loop = search in
     let a = start.args in
     let all : a.count ≡ a.from + a.count - a.from = omega arith in
-    (search rules, search rules, refl, λ begin h. ap (λ (n : ℕ). first_of (testsOver (sameTest begin a.field.now a.original.now) a.from n)) all)
+    (search rules, search rules, refl, λ begin h. ap (λ (n : ℕ). first_of (tests_over (same_test begin a.field.now a.original.now) a.from n)) all)
 
 shared-slice-read-alike : tie.Need-shared-slice-read-alike invariant-loop decreases-loop
 shared-slice-read-alike c = search rules
@@ -57,13 +57,13 @@ loop-again c =
       search rules,
       search rules,
       search rules,
-      λ begin h. over-next _ i _ _ turn.loop-test.taken (not_f same (and_r loop.loop.alike same h)) (loop.loop.inv.3 begin (and_l loop.loop.alike same h)),
+      λ begin h. over_next _ i _ _ turn.loop-test.taken (not_f same (and_r loop.loop.alike same h)) (loop.loop.inv.3 begin (and_l loop.loop.alike same h)),
     )
 
 returns : tie.Need-returns invariant-loop decreases-loop
 returns c =
     let loop : tie.At-loop invariant-loop decreases-loop = search in
-    λ begin h. sym (over-end _ loop.loop.i _ _ _ (search rules) refl (loop.loop.inv.3 begin h))
+    λ begin h. sym (over_end _ loop.loop.i _ _ _ (search rules) refl (loop.loop.inv.3 begin h))
 
 pub is-alike-spec : {M : Type 1} → statement M
 is-alike-spec =

@@ -4,13 +4,13 @@ use Prim.Native.Nat.{◌≤◌}
 use native.Mathlib.Nat.{mul-le-mul}
 use native.Mathlib.Omega.{arith}
 use Rattle.laws.proofs.Pick.{steps}
-use Rattle.defects.specs.Place.{dataFields}
+use Rattle.defects.specs.Place.{data_fields}
 use borrow.Author.Rules.{rules}
 use Rattle.defects.proofs.place.data_fields.Statement.{statement}
 use Rattle.defects.proofs.place.data_fields.Tie as tie
 
 returns : tie.Need-returns
-unfolding dataFields
+unfolding data_fields
 returns c = search steps
 
 cast-result : tie.Need-overflow-cast-result
@@ -27,7 +27,7 @@ mul-result c =
     omega (arith, mul-le-mul heads sectors)
 
 returns-2 : tie.Need-returns-2
-unfolding dataFields
+unfolding data_fields
 returns-2 c = search steps
 
 pub data-fields-spec : {M : Type 1} → statement M

@@ -4,21 +4,21 @@ use mathlib.Core.Path.{◌≡◌, sym, ◌∙◌}
 use mathlib.Core.Bool.{true}
 use borrow.Author.Tests.{le-leb, lt-leb, not-true, not-false}
 use Rattle.laws.specs.Pick.{pick}
-use Rattle.parts.specs.Setup.{withinLimits}
+use Rattle.parts.specs.Setup.{within_limits}
 use Rattle.defects.proofs.Promised.{placed}
 use borrow.Author.Rules.{rules}
 use Rattle.defects.proofs.place.map_place.Statement.{statement}
 use Rattle.defects.proofs.place.map_place.Tie as tie
 
-within : (c : tie.Else1) → withinLimits c.before.before.args.setup ≡ true
-within c = sym c.before.within-limits.ensures ∙ not-false _ c.if1.false
+within : (c : tie.Else1) → within_limits c.before.before.args.setup ≡ true
+within c = sym c.before.within_limits_lem.ensures ∙ not-false _ c.if1.false
 
 within-limits-requires : tie.Need-within-limits-requires
 within-limits-requires c κs = search rules
 
 returns : tie.Need-returns
 unfolding pick
-returns c = let outside = sym c.before.within-limits.ensures ∙ not-true _ c.if1.true in placed (rw outside)
+returns c = let outside = sym c.before.within_limits_lem.ensures ∙ not-true _ c.if1.true in placed (rw outside)
 
 data-fields-requires : tie.Need-data-fields-requires
 data-fields-requires c κs = search rules

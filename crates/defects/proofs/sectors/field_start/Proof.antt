@@ -1,6 +1,6 @@
 -- `defects::sectors::field_start` meets its contract: the place of a data field is one of the drive.
 -- Assumes nothing.
-use Rattle.defects.specs.Sectors.{fieldStart}
+use Rattle.defects.specs.Sectors.{field_start}
 use Rattle.defects.proofs.Places.{places}
 use borrow.Author.Rules.{rules}
 use Rattle.defects.proofs.sectors.field_start.Statement.{statement}
@@ -21,7 +21,7 @@ add-result : tie.Need-overflow-add-result
 add-result c = search rules
 
 returns : tie.Need-returns
-unfolding fieldStart
+unfolding field_start
 returns c = rw (c.before.sector-start.ensures.0, c.before.before.place_of.ensures)
 
 pub field-start-spec : {M : Type 1} → statement M

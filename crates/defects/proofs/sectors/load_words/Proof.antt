@@ -1,17 +1,17 @@
 -- `defects::sectors::load_words` meets its contract: after i turns, the words of i more octets are loaded.
 -- Assumes nothing.
-use Rattle.defects.proofs.Loading.{word-loaded}
+use Rattle.defects.proofs.Loading.{word_loaded}
 use Prim.Native.Nat.{◌+◌, ◌-◌, ◌*◌, ◌≤◌}
 use mathlib.Core.Path.{◌≡◌, refl}
 use native.Mathlib.Omega.{arith}
 use borrow.Author.Rules.{rules}
 use lib.ListN.{length, take, drop, length-set}
-use Rattle.defects.specs.Sectors.{wordOctets}
+use Rattle.defects.specs.Sectors.{word_octets}
 use Rattle.defects.proofs.sectors.load_words.Statement.{statement}
 use Rattle.defects.proofs.sectors.load_words.Tie as tie
 
 abbrev invariant-loop : tie.invariant-loop
-invariant-loop sectors start count field₀ i₀ field i = (i ≤ count) × (length field ≡ length field₀) × (take (2 * i) field ≡ wordOctets (take i (drop start sectors)))
+invariant-loop sectors start count field₀ i₀ field i = (i ≤ count) × (length field ≡ length field₀) × (take (2 * i) field ≡ word_octets (take i (drop start sectors)))
 
 abbrev decreases-loop : tie.decreases-loop
 decreases-loop sectors start count field₀ i₀ field i = count - i
@@ -61,7 +61,7 @@ loop-again : tie.Need-loop-preserved invariant-loop decreases-loop
 loop-again c =
     let loop : tie.At-loop invariant-loop decreases-loop = search in
     let a = loop.before.args in
-    (search rules, simp length-set (search rules), word-loaded loop.loop.field a.sectors.now a.start loop.loop.i (omega arith) (omega arith) loop.loop.inv.2)
+    (search rules, simp length-set (search rules), word_loaded loop.loop.field a.sectors.now a.start loop.loop.i (omega arith) (omega arith) loop.loop.inv.2)
 
 same_length : tie.Need-same-length invariant-loop decreases-loop
 same_length c = search rules

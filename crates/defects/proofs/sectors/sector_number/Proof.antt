@@ -2,8 +2,8 @@
 -- Assumes nothing.
 use mathlib.Core.Path.{refl}
 use native.Mathlib.Omega.{arith}
-use Rattle.parts.specs.Setup.{sectorNumber}
-use Rattle.parts.proofs.Bounds.{few_words, in-range, inside, limits}
+use Rattle.parts.specs.Setup.{sector_number}
+use Rattle.parts.proofs.Bounds.{few_words, in_range, inside, limits}
 use borrow.Author.Rules.{rules}
 use Rattle.defects.proofs.sectors.sector_number.Statement.{statement}
 use Rattle.defects.proofs.sectors.sector_number.Tie as tie
@@ -18,7 +18,7 @@ mul-track : tie.Need-overflow-mul-track
 mul-track c =
     let start : tie.Start = search in
     let f = few_words _ (limits _ start.pre.0) in
-    let r = in-range _ _ (inside _ _ start.pre.1) in
+    let r = in_range _ _ (inside _ _ start.pre.1) in
     omega arith
 
 cast-track-3 : tie.Need-overflow-cast-track-3
@@ -28,7 +28,7 @@ add-track : tie.Need-overflow-add-track
 add-track c =
     let start : tie.Start = search in
     let f = few_words _ (limits _ start.pre.0) in
-    let r = in-range _ _ (inside _ _ start.pre.1) in
+    let r = in_range _ _ (inside _ _ start.pre.1) in
     omega arith
 
 cast-result : tie.Need-overflow-cast-result
@@ -38,7 +38,7 @@ mul-result : tie.Need-overflow-mul-result
 mul-result c =
     let start : tie.Start = search in
     let f = few_words _ (limits _ start.pre.0) in
-    let r = in-range _ _ (inside _ _ start.pre.1) in
+    let r = in_range _ _ (inside _ _ start.pre.1) in
     omega arith
 
 cast-result-2 : tie.Need-overflow-cast-result-2
@@ -48,11 +48,11 @@ add-result : tie.Need-overflow-add-result
 add-result c =
     let start : tie.Start = search in
     let f = few_words _ (limits _ start.pre.0) in
-    let r = in-range _ _ (inside _ _ start.pre.1) in
+    let r = in_range _ _ (inside _ _ start.pre.1) in
     omega arith
 
 returns : tie.Need-returns
-unfolding sectorNumber
+unfolding sector_number
 returns c = refl
 
 pub sector-number-spec : {M : Type 1} → statement M

@@ -2,7 +2,7 @@
 -- Assumes nothing.
 use Prim.Native.Nat.{◌*◌, ◌<◌, ◌^◌}
 use native.Mathlib.Omega.{arith}
-use Rattle.parts.specs.Setup.{sectorStart}
+use Rattle.parts.specs.Setup.{sector_start}
 use Rattle.parts.proofs.Bounds.{inside, limits, start_small}
 use borrow.Author.Rules.{rules}
 use Rattle.defects.proofs.sectors.sector_start.Statement.{statement}
@@ -24,7 +24,7 @@ mul-result : tie.Need-overflow-mul-result
 mul-result c = omega (arith, small c)
 
 returns : tie.Need-returns
-unfolding sectorStart
+unfolding sector_start
 returns c = (rw (c.sector-words.ensures, c.before.sector-number.ensures), small c)
 
 pub sector-start-spec : {M : Type 1} → statement M

@@ -7,13 +7,13 @@ use native.Mathlib.Omega.{arith}
 use lib.ListN.{length, take, drop}
 use lib.Seq.{length-take-le, length_front, take_at}
 use Rattle.parts.specs.declared.setup.Setup.{Setup}
-use Rattle.defects.specs.Place.{fieldOctets}
-use Rattle.defects.specs.Encoding.{dataField, mapOctets}
-use Rattle.defects.specs.EncodeSteps.{valueIn, FieldsPut}
+use Rattle.defects.specs.Place.{field_octets}
+use Rattle.defects.specs.Encoding.{data_field, map_octets}
+use Rattle.defects.specs.EncodeSteps.{value_in, FieldsPut}
 use Rattle.defects.specs.declared.body.Job.{Job}
-use Rattle.defects.proofs.Plans.{plan, before-field, copy-there, has-place}
+use Rattle.defects.proofs.Plans.{plan, before_field, copy_there, has_place}
 use Rattle.defects.proofs.Bodies.{IsOf, body_of, finished_as, field_of}
-use Rattle.defects.proofs.Stored.{one-more-put}
+use Rattle.defects.proofs.Stored.{one_more_put}
 use borrow.Author.Rules.{rules}
 use Rattle.defects.proofs.sets.put_set.Statement.{statement}
 use Rattle.defects.proofs.sets.put_set.Tie as tie
@@ -22,11 +22,11 @@ record Copying (s : Setup) (job : Job) (octets : List ℕ) (set size : ℕ) (out
   copies : copy ≤ 3
   here : k ≡ 3 * set + copy
   array : length field ≡ 2048
-  body : IsOf s (valueIn job octets) set (take size field)
+  body : IsOf s (value_in job octets) set (take size field)
   same_out : length out ≡ length out₀
-  same-sectors : length sectors ≡ length sectors₀
-  put : (first words : List ℕ) → FieldsPut s job.stored (mapOctets s (valueIn job octets)) (3 * set) first out₀ words sectors₀
-      → FieldsPut s job.stored (mapOctets s (valueIn job octets)) k first out words sectors
+  same_sectors : length sectors ≡ length sectors₀
+  put : (first words : List ℕ) → FieldsPut s job.stored (map_octets s (value_in job octets)) (3 * set) first out₀ words sectors₀
+      → FieldsPut s job.stored (map_octets s (value_in job octets)) k first out words sectors
 
 abbrev invariant-loop : tie.invariant-loop
 invariant-loop setup job set least defects out₀ sectors₀ size field₀ next k₀ copy₀ out sectors field k copy = Copying setup job defects set size out₀ sectors₀ out sectors field k copy
@@ -42,24 +42,24 @@ room-requires c κs = search rules
 
 -- the size of a data field
 record Size (size : ℕ) (s : Setup) : Type 0 where
-  is : size ≡ fieldOctets s
+  is : size ≡ field_octets s
   least : 16 ≤ size
   most : size ≤ 2048
 
 abbrev start : tie.After-field-octets invariant-loop decreases-loop → tie.Start invariant-loop decreases-loop
 start c = c.before.before.before.before
 
-sized : (c : tie.After-field-octets invariant-loop decreases-loop) → Size c.field-octets.result (start c).args.setup
+sized : (c : tie.After-field-octets invariant-loop decreases-loop) → Size c.field_octets_lem.result (start c).args.setup
 sized c =
     let p = plan (start c).requires.0.planned in
-    let is = c.field-octets.ensures in
+    let is = c.field_octets_lem.ensures in
     let l = p.limits in
     record { is = is; least = omega (arith, is, p.field1); most = omega (arith, is, l.field1) }
 
 room-octets : (c : tie.After-room invariant-loop decreases-loop) → length c.room.result ≡ 2048
 room-octets c = search rules
 
-within-room : (c : tie.After-room invariant-loop decreases-loop) → c.before.field-octets.result ≤ length c.room.result
+within-room : (c : tie.After-room invariant-loop decreases-loop) → c.before.field_octets_lem.result ≤ length c.room.result
 within-room c = rw (room-octets c) (sized c.before).most
 
 array-borrow-prefix-field : tie.Need-array-borrow-prefix-field invariant-loop decreases-loop
@@ -82,7 +82,7 @@ loop-holds c =
     let octets : tie.After-field-octets invariant-loop decreases-loop = search in
     let filled = c.before in
     let made = filled.before.before in
-    let size = octets.field-octets.result in
+    let size = octets.field_octets_lem.result in
     let kept = filled.fill.auto.1.1.1.1.1.0 in
     let part = take_at filled.fill.new.1.1.1.1.1.0 (drop size made.room.result) size (kept ∙ length-take-le _ _ (within-room made)) in
     record {
@@ -91,7 +91,7 @@ loop-holds c =
       array = length_front made.room.result filled.fill.new.1.1.1.1.1.0 size kept ∙ room-octets made;
       body = rw part (body_of _ _ _ 0 (0 ∷ 0 ∷ []) _ refl filled.fill.ensures.body);
       same_out = refl;
-      same-sectors = refl;
+      same_sectors = refl;
       put = λ first words p. p;
     }
 
@@ -102,37 +102,37 @@ cast-loop c = search rules
 abbrev sizes : tie.At-loop invariant-loop decreases-loop → tie.After-field-octets invariant-loop decreases-loop
 sizes c = c.before.before.before.before.before
 
-within-array : (c : tie.At-loop invariant-loop decreases-loop) → (sizes c).field-octets.result ≤ length c.loop.field
+within-array : (c : tie.At-loop invariant-loop decreases-loop) → (sizes c).field_octets_lem.result ≤ length c.loop.field
 within-array c = rw c.loop.invariant.array (sized (sizes c)).most
 
-part-size : (c : tie.At-loop invariant-loop decreases-loop) → length (take (sizes c).field-octets.result c.loop.field) ≡ (sizes c).field-octets.result
-part-size c = length-take-le _ _ (within-array c)
+part_size : (c : tie.At-loop invariant-loop decreases-loop) → length (take (sizes c).field_octets_lem.result c.loop.field) ≡ (sizes c).field_octets_lem.result
+part_size c = length-take-le _ _ (within-array c)
 
 abbrev turn : tie.After-finish invariant-loop decreases-loop → tie.At-loop invariant-loop decreases-loop
 turn c = c.before.before.before
 
 abbrev size : tie.After-finish invariant-loop decreases-loop → ℕ
-size c = (sizes (turn c)).field-octets.result
+size c = (sizes (turn c)).field_octets_lem.result
 
 field-made : (c : tie.After-finish invariant-loop decreases-loop)
     → let a = (start (sizes (turn c))).args in
-    c.finish.new.0 ≡ dataField a.setup (valueIn a.job a.defects.now) a.set (turn c).loop.copy
+    c.finish.new.0 ≡ data_field a.setup (value_in a.job a.defects.now) a.set (turn c).loop.copy
 field-made c = c.finish.ensures ∙ finished_as _ _ _ _ _ (turn c).loop.invariant.body
 
 same-array : (c : tie.After-finish invariant-loop decreases-loop) → length (c.finish.new.0 ++ drop (size c) (turn c).loop.field) ≡ 2048
 same-array c = length_front (turn c).loop.field c.finish.new.0 (size c) c.finish.auto.0 ∙ (turn c).loop.invariant.array
 
-part-back : (c : tie.After-finish invariant-loop decreases-loop) → take (size c) (c.finish.new.0 ++ drop (size c) (turn c).loop.field) ≡ c.finish.new.0
-part-back c = take_at c.finish.new.0 _ (size c) (c.finish.auto.0 ∙ part-size (turn c))
+part_back : (c : tie.After-finish invariant-loop decreases-loop) → take (size c) (c.finish.new.0 ++ drop (size c) (turn c).loop.field) ≡ c.finish.new.0
+part_back c = take_at c.finish.new.0 _ (size c) (c.finish.auto.0 ∙ part_size (turn c))
 
 array-borrow-prefix-field-2 : tie.Need-array-borrow-prefix-field-2 invariant-loop decreases-loop
 array-borrow-prefix-field-2 c = within-array c.before
 
 slice-aggregate-finish : tie.Need-slice-aggregate-finish invariant-loop decreases-loop
-slice-aggregate-finish c = sym (part-size c.before.before)
+slice-aggregate-finish c = sym (part_size c.before.before)
 
 finish-requires : tie.Need-finish-requires invariant-loop decreases-loop
-finish-requires c κs = rw (part-size c.before.before) (sized (sizes c.before.before)).least
+finish-requires c κs = rw (part_size c.before.before) (sized (sizes c.before.before)).least
 
 array-share-prefix-field : tie.Need-array-share-prefix-field invariant-loop decreases-loop
 array-share-prefix-field c = rw (same-array c.before) (sized (sizes (turn c.before))).most
@@ -149,7 +149,7 @@ put-field-requires c κs =
     let sizes-known = sized (sizes (turn made)) in
     let due = (start (sizes (turn made))).pre in
     let below : l.k < 3 * (start (sizes (turn made))).args.job.sets = omega (arith, l.inv.here, due.0.within, made.before.before.loop-test.true) in
-    has-place (plan due.0.planned) due.0.planned.limits due.1 below (rw (part-back made) (made.finish.auto.0 ∙ part-size (turn made) ∙ sizes-known.is)) l.inv.same_out l.inv.same-sectors
+    has_place (plan due.0.planned) due.0.planned.limits due.1 below (rw (part_back made) (made.finish.auto.0 ∙ part_size (turn made) ∙ sizes-known.is)) l.inv.same_out l.inv.same_sectors
 
 add-k : tie.Need-overflow-add-k invariant-loop decreases-loop
 add-k c = search rules
@@ -167,16 +167,16 @@ loop-again c =
     let l = (turn made).loop in
     let due = (start (sizes (turn made))).pre.0 in
     let p = plan due.planned in
-    let field = part-back made ∙ field-made made in
-    let there = field ∙ sym (copy-there p _ l.copy l.inv.here due.within made.before.before.loop-test.true) in
+    let field = part_back made ∙ field-made made in
+    let there = field ∙ sym (copy_there p _ l.copy l.inv.here due.within made.before.before.loop-test.true) in
     record {
       copies = search rules;
       here = omega (arith, l.inv.here);
       array = same-array made;
       body = field_of _ _ _ l.copy _ field;
       same_out = put.put-field.auto.1.1.1.1.0 ∙ l.inv.same_out;
-      same-sectors = put.put-field.auto.1.1.1.1.1.0 ∙ l.inv.same-sectors;
-      put = λ first words q. one-more-put (l.inv.put first words q) there (before-field p l.k (omega (arith, l.inv.here, due.within, made.before.before.loop-test.true))) put.put-field.ensures;
+      same_sectors = put.put-field.auto.1.1.1.1.1.0 ∙ l.inv.same_sectors;
+      put = λ first words q. one_more_put (l.inv.put first words q) there (before_field p l.k (omega (arith, l.inv.here, due.within, made.before.before.loop-test.true))) put.put-field.ensures;
     }
 
 same_length : tie.Need-same-length invariant-loop decreases-loop

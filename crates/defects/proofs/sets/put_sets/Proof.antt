@@ -6,23 +6,23 @@ use mathlib.Core.List.{List}
 use native.Mathlib.Omega.{arith}
 use lib.ListN.{length}
 use Rattle.parts.specs.declared.setup.Setup.{Setup}
-use Rattle.defects.specs.Defect.{behindAll}
+use Rattle.defects.specs.Defect.{behind_all}
 use Rattle.defects.specs.Field.{slots}
-use Rattle.defects.specs.Place.{fieldOctets}
-use Rattle.defects.specs.Encoding.{mapOctets, defectsBeforeSet}
-use Rattle.defects.specs.EncodeSteps.{valueIn, FieldsPut}
+use Rattle.defects.specs.Place.{field_octets}
+use Rattle.defects.specs.Encoding.{map_octets, defects_before_set}
+use Rattle.defects.specs.EncodeSteps.{value_in, FieldsPut}
 use Rattle.defects.specs.declared.body.Job.{Job}
-use Rattle.defects.proofs.Stored.{none-put}
+use Rattle.defects.proofs.Stored.{none_put}
 use borrow.Author.Rules.{rules}
 use Rattle.defects.proofs.sets.put_sets.Statement.{statement}
 use Rattle.defects.proofs.sets.put_sets.Tie as tie
 
 record Walked (s : Setup) (job : Job) (octets out₀ sectors₀ out sectors : List ℕ) (set least : ℕ) : Type 0 where
   within : set ≤ job.sets
-  above : least ≡ behindAll 0 (defectsBeforeSet s (valueIn job octets) set)
+  above : least ≡ behind_all 0 (defects_before_set s (value_in job octets) set)
   same_out : length out ≡ length out₀
-  same-sectors : length sectors ≡ length sectors₀
-  put : FieldsPut s job.stored (mapOctets s (valueIn job octets)) (3 * set) out₀ out sectors₀ sectors
+  same_sectors : length sectors ≡ length sectors₀
+  put : FieldsPut s job.stored (map_octets s (value_in job octets)) (3 * set) out₀ out sectors₀ sectors
 
 abbrev invariant-loop : tie.invariant-loop
 invariant-loop setup job defects out₀ sectors₀ set₀ least₀ out sectors set least = Walked setup job defects out₀ sectors₀ out sectors set least
@@ -33,8 +33,8 @@ decreases-loop setup job defects out₀ sectors₀ set₀ least₀ out sectors s
 loop-holds : tie.Need-loop-init invariant-loop decreases-loop
 loop-holds c =
     let start : tie.Start invariant-loop decreases-loop = search in
-    let none : 0 * slots (fieldOctets start.args.setup) ≡ 0 = omega arith in
-    record { within = search rules; above = rw none; same_out = refl; same-sectors = refl; put = none-put _ _ _ _ _ }
+    let none : 0 * slots (field_octets start.args.setup) ≡ 0 = omega arith in
+    record { within = search rules; above = rw none; same_out = refl; same_sectors = refl; put = none_put _ _ _ _ _ }
 
 put-set-requires : tie.Need-put-set-requires invariant-loop decreases-loop
 put-set-requires c κs =
@@ -43,7 +43,7 @@ put-set-requires c κs =
     let inv = turn.before.before.loop.inv in
     let room = start.pre.1 in (
       record { planned = start.pre.0; within = turn.if1.taken; above = inv.above },
-      record { octets = λ e. omega (arith, room.octets e, inv.same_out); words = λ e. omega (arith, room.words e, inv.same-sectors) },
+      record { octets = λ e. omega (arith, room.octets e, inv.same_out); words = λ e. omega (arith, room.words e, inv.same_sectors) },
     )
 
 add-set : tie.Need-overflow-add-set invariant-loop decreases-loop
@@ -63,7 +63,7 @@ loop-again c =
       within = search rules;
       above = done.next;
       same_out = put.put-set.kept.1.1.1.1.1.0 ∙ inv.same_out;
-      same-sectors = put.put-set.kept.1.1.1.1.1.1.0 ∙ inv.same-sectors;
+      same_sectors = put.put-set.kept.1.1.1.1.1.1.0 ∙ inv.same_sectors;
       put = rw more (done.put _ _ inv.put);
     }
 

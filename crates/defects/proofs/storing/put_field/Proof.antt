@@ -5,8 +5,8 @@ use mathlib.Core.Path.{sym, ◌∙◌}
 use mathlib.Core.Bool.{true≢false, false≢true}
 use native.Mathlib.Omega.{arith}
 use lib.ListN.{length}
-use Rattle.defects.proofs.WordOctets.{length-words}
-use Rattle.defects.proofs.SectorFields.{field-in-room}
+use Rattle.defects.proofs.WordOctets.{length_words}
+use Rattle.defects.proofs.SectorFields.{field_in_room}
 use borrow.Author.Rules.{rules}
 use Rattle.defects.proofs.storing.put_field.Statement.{statement}
 use Rattle.defects.proofs.storing.put_field.Tie as tie
@@ -24,13 +24,13 @@ store-requires c κs =
     let words : tie.Then1 = search in
     let has = start.pre in
     let there = has.in_words words.if1.taken in
-    let room = field-in-room _ _ has.limits there.0 in
-    rw (c.field-start.ensures, length-words start.args.field.now) (omega arith)
+    let room = field_in_room _ _ has.limits there.0 in
+    rw (c.field-start.ensures, length_words start.args.field.now) (omega arith)
 
 room : (c : tie.Else1)
     → let a = c.before.before.before.before.args in
     a.k * length a.field.now + length a.field.now ≤ length a.out.now
-room c = let has = c.before.before.before.before.requires in rw has.size (has.in-octets c.if1.false)
+room c = let has = c.before.before.before.before.requires in rw has.size (has.in_octets c.if1.false)
 
 mul-put : tie.Need-overflow-mul-put
 mul-put c =

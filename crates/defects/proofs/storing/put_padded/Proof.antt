@@ -85,9 +85,9 @@ returns c =
     let end : tie.At-loop invariant-loop decreases-loop = search in
     let start : tie.Start invariant-loop decreases-loop = search in
     let a = start.args in
-    let all-octets = padded a.octets.now (length a.out.now - a.at) in
-    let all : end.loop.i ≡ length all-octets = omega (arith, length-padded a.octets.now (length a.out.now - a.at) (omega arith)) in
-    rw (end.loop.inv.3, all, take-length all-octets)
+    let all_octets = padded a.octets.now (length a.out.now - a.at) in
+    let all : end.loop.i ≡ length all_octets = omega (arith, length-padded a.octets.now (length a.out.now - a.at) (omega arith)) in
+    rw (end.loop.inv.3, all, take-length all_octets)
 
 pub put-padded-spec : {M : Type 1} → statement M
 put-padded-spec =

@@ -6,14 +6,14 @@ use native.Mathlib.Numerals.{add-one}
 use native.Mathlib.Omega.{arith}
 use lib.ListN.{length, length-set}
 use lib.Seq.{paste, paste-zero, paste-suc, take-length}
-use Rattle.defects.specs.Sectors.{octetWords}
-use Rattle.defects.proofs.WordOctets.{length-words, word-there}
+use Rattle.defects.specs.Sectors.{octet_words}
+use Rattle.defects.proofs.WordOctets.{length_words, word_there}
 use borrow.Author.Rules.{rules}
 use Rattle.defects.proofs.storing.store.Statement.{statement}
 use Rattle.defects.proofs.storing.store.Tie as tie
 
 abbrev invariant-loop : tie.invariant-loop
-invariant-loop words₀ at octets count i₀ words i = (i ≤ count) × (count ≡ length (octetWords octets)) × (length words ≡ length words₀) × (words ≡ paste words₀ at (octetWords octets) i)
+invariant-loop words₀ at octets count i₀ words i = (i ≤ count) × (count ≡ length (octet_words octets)) × (length words ≡ length words₀) × (words ≡ paste words₀ at (octet_words octets) i)
 
 abbrev decreases-loop : tie.decreases-loop
 decreases-loop words₀ at octets count i₀ words i = count - i
@@ -22,7 +22,7 @@ loop-holds : tie.Need-loop-init invariant-loop decreases-loop
 loop-holds c =
     let start : tie.Start invariant-loop decreases-loop = search in
     let a = start.args in
-    (search rules, sym (length-words a.octets.now), refl, paste-zero a.words.now a.at (octetWords a.octets.now))
+    (search rules, sym (length_words a.octets.now), refl, paste-zero a.words.now a.at (octet_words a.octets.now))
 
 mul-word-at : tie.Need-overflow-mul-word-at invariant-loop decreases-loop
 mul-word-at c = search rules
@@ -52,11 +52,11 @@ loop-again c =
     let a = start.args in
     let l = turn.loop in
     let inside : a.at + l.i < length a.words.now = omega arith in
-    let word = c.word-at.ensures ∙ sym (word-there a.octets.now l.i (omega arith)) in (
+    let word = c.word_at_lem.ensures ∙ sym (word_there a.octets.now l.i (omega arith)) in (
       search rules,
       search rules,
       simp length-set l.inv.2,
-      rw (l.inv.3, word, add-one, paste-suc a.words.now a.at (octetWords a.octets.now) l.i 0 inside (omega arith)),
+      rw (l.inv.3, word, add-one, paste-suc a.words.now a.at (octet_words a.octets.now) l.i 0 inside (omega arith)),
     )
 
 same_length : tie.Need-same-length invariant-loop decreases-loop
@@ -66,7 +66,7 @@ returns : tie.Need-returns invariant-loop decreases-loop
 returns c =
     let end : tie.At-loop invariant-loop decreases-loop = search in
     let start : tie.Start invariant-loop decreases-loop = search in
-    let words = octetWords start.args.octets.now in
+    let words = octet_words start.args.octets.now in
     let all : end.loop.i ≡ length words = omega arith in
     rw (end.loop.inv.3, all, take-length words)
 

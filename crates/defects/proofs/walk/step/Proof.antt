@@ -57,7 +57,7 @@ returns-3 c =
     let copy = eq-eqb _ _ first.if2.false in
     record {
       offence = rw (judged, copy) found.judge-original.ensures.offence;
-      walk = λ f. rw (judged, copy) (c.after-original.ensures ∙ rw found.before.front_of.ensures);
+      walk = λ f. rw (judged, copy) (c.after_original_lem.ensures ∙ rw found.before.front_of.ensures);
       least' = λ f. rw (judged, copy) (found.judge-original.ensures.next f);
     }
 

@@ -11,23 +11,23 @@ use borrow.Author.Rules.{rules}
 use lib.ListN.{length}
 use Rattle.laws.proofs.Pick.{told}
 use Rattle.parts.specs.declared.setup.Setup.{Setup}
-use Rattle.defects.specs.Place.{fieldOctets, dataFields}
-use Rattle.defects.specs.Steps.{stringIn}
-use Rattle.defects.specs.Walk.{isEnded}
+use Rattle.defects.specs.Place.{field_octets, data_fields}
+use Rattle.defects.specs.Steps.{string_in}
+use Rattle.defects.specs.Walk.{is_ended}
 use Rattle.defects.specs.declared.walk.Walk.{Walk}
 use Rattle.defects.proofs.Thirds.{counted}
-use Rattle.defects.proofs.Fields.{few-fields}
-use Rattle.defects.proofs.Loadables.{start-few}
-use Rattle.defects.proofs.Reaching.{Reached, reached-outset, reached-next}
-use Rattle.defects.proofs.Judgements.{judged-end, judged-short, judged-stop, judged-last}
+use Rattle.defects.proofs.Fields.{few_fields}
+use Rattle.defects.proofs.Loadables.{start_few}
+use Rattle.defects.proofs.Reaching.{Reached, reached_outset, reached_next}
+use Rattle.defects.proofs.Judgements.{judged_end, judged_short, judged_stop, judged_last}
 use Rattle.defects.proofs.walking.judge.Statement.{statement}
 use Rattle.defects.proofs.walking.judge.Tie as tie
 
 -- no test before data field k holds
 record Judging (setup : Setup) (inSectors : Bool) (octets sectors original₀ field₀ : List ℕ) (count each : ℕ) (original field : List ℕ) (walk : Walk) (least k : ℕ) : Type 0 where
-  counted : count ≡ dataFields setup
-  sized : each ≡ fieldOctets setup
-  reached : Reached (not inSectors) setup (stringIn setup inSectors octets sectors) k walk least
+  counted : count ≡ data_fields setup
+  sized : each ≡ field_octets setup
+  reached : Reached (not inSectors) setup (string_in setup inSectors octets sectors) k walk least
   originals : length original ≡ length original₀
   fields : length field ≡ length field₀
 
@@ -53,17 +53,17 @@ loop-holds c =
     let a = start.args in
     record {
       counted = c.before.before.data-fields.ensures;
-      sized = c.before.field-octets.ensures;
-      reached = rw c.outset-of-map.ensures (reached-outset (not a.in-sectors) a.setup (stringIn a.setup a.in-sectors a.octets.now a.sectors.now));
+      sized = c.before.field_octets_lem.ensures;
+      reached = rw c.outset-of-map.ensures (reached_outset (not a.in-sectors) a.setup (string_in a.setup a.in-sectors a.octets.now a.sectors.now));
       originals = refl;
       fields = refl;
     }
 
 -- offsets are small
-start_small : (c : tie.At-loop invariant-loop decreases-loop) → c.loop.k * c.before.before.field-octets.result ≤ 2 ^ 24
+start_small : (c : tie.At-loop invariant-loop decreases-loop) → c.loop.k * c.before.before.field_octets_lem.result ≤ 2 ^ 24
 start_small c =
     let start : tie.Start invariant-loop decreases-loop = search in
-    rw c.loop.invariant.sized (start-few start.args.setup c.loop.k start.pre.0.limits c.loop.invariant.reached.within)
+    rw c.loop.invariant.sized (start_few start.args.setup c.loop.k start.pre.0.limits c.loop.invariant.reached.within)
 
 mul-start : tie.Need-overflow-mul-start invariant-loop decreases-loop
 mul-start c = omega (arith, start_small c.before)
@@ -85,7 +85,7 @@ returns c =
     let ended = c.before.before in
     let loop = ended.before.before in
     let start : tie.Start invariant-loop decreases-loop = search in
-    judged-end _ _ _ _ _ start.pre.0.sized loop.loop.invariant.sized _ _ _ loop.loop.invariant.reached _ (told _ _ _ ended.is-ended.ensures c.before.if1.true) c.end-offence.ensures
+    judged_end _ _ _ _ _ start.pre.0.sized loop.loop.invariant.sized _ _ _ loop.loop.invariant.reached _ (told _ _ _ ended.is_ended_lem.ensures c.before.if1.true) c.end-offence.ensures
 
 add-if2 : tie.Need-overflow-add-if2 invariant-loop decreases-loop
 add-if2 c =
@@ -104,11 +104,11 @@ same-length-4 : tie.Need-same-length-4 invariant-loop decreases-loop
 same-length-4 c = search rules
 
 -- the map has not ended, and there is a data field more
-going : (c : tie.Else1 invariant-loop decreases-loop) → isEnded c.before.before.before.loop.walk ≡ false
-going c = told _ _ _ c.before.is-ended.ensures c.if1.false
+going : (c : tie.Else1 invariant-loop decreases-loop) → is_ended c.before.before.before.loop.walk ≡ false
+going c = told _ _ _ c.before.is_ended_lem.ensures c.if1.false
 
 one_more : (c : tie.In-loop invariant-loop decreases-loop)
-    → c.before.loop.k < dataFields c.before.before.before.before.before.before.before.before.before.args.setup
+    → c.before.loop.k < data_fields c.before.before.before.before.before.before.before.before.before.args.setup
 one_more c = rw (← c.before.loop.invariant.counted) c.loop-test.true
 
 returns-2 : tie.Need-returns-2 invariant-loop decreases-loop
@@ -117,13 +117,13 @@ returns-2 c =
     let turn = passed.before.before in
     let loop = turn.before in
     let start : tie.Start invariant-loop decreases-loop = search in
-    judged-short _ _ _ _ _ start.pre.0.sized loop.loop.invariant.sized _ _ _ loop.loop.invariant.reached _ (one_more turn) (going passed) c.before.if2.true c.offence-at.ensures
+    judged_short _ _ _ _ _ start.pre.0.sized loop.loop.invariant.sized _ _ _ loop.loop.invariant.reached _ (one_more turn) (going passed) c.before.if2.true c.offence-at.ensures
 
 -- the data field is there, whole
 is_whole : (c : tie.Else2 invariant-loop decreases-loop)
     → let a = c.before.before.before.before.before.before.before.before.before.before.before.before.args in
     let k = c.before.before.before.before.loop.k in
-    k * fieldOctets a.setup + fieldOctets a.setup ≤ length (stringIn a.setup a.in-sectors a.octets.now a.sectors.now)
+    k * field_octets a.setup + field_octets a.setup ≤ length (string_in a.setup a.in-sectors a.octets.now a.sectors.now)
 is_whole c =
     let loop = c.before.before.before.before in
     let start = loop.before.before.before.before.before.before.before.before in
@@ -136,10 +136,10 @@ turn-requires c κs =
     let loop = turn.before in
     let start : tie.Start invariant-loop decreases-loop = search in
     let a = start.args in
-    let octets = stringIn a.setup a.in-sectors a.octets.now a.sectors.now in
+    let octets = string_in a.setup a.in-sectors a.octets.now a.sectors.now in
     let c = counted a.setup octets loop.loop.k in
     let at = loop.loop.invariant.reached in
-    let many = few-fields a.setup (limits a.setup start.pre.0.limits) in (
+    let many = few_fields a.setup (limits a.setup start.pre.0.limits) in (
       record { limits = start.pre.0.limits; room = start.pre.0.room; inside = one_more turn; whole = is_whole passed },
       rw at.walk (omega (arith, c.fields, at.within, many)),
       rw at.walk c.original,
@@ -160,7 +160,7 @@ returns-3 c =
     let turn = passed.before.before.before in
     let loop = turn.before in
     let start = loop.before.before.before.before.before.before.before.before in
-    judged-stop _ _ _ _ _ start.requires.0.sized loop.loop.invariant.sized _ _ _ loop.loop.invariant.reached _ (one_more turn) (going passed.before) passed.if2.false turned.turn.ensures c.if3.true
+    judged_stop _ _ _ _ _ start.requires.0.sized loop.loop.invariant.sized _ _ _ loop.loop.invariant.reached _ (one_more turn) (going passed.before) passed.if2.false turned.turn.ensures c.if3.true
 
 add-k : tie.Need-overflow-add-k invariant-loop decreases-loop
 add-k c = search rules
@@ -177,7 +177,7 @@ loop-again c =
     record {
       counted = loop.loop.invariant.counted;
       sized = loop.loop.invariant.sized;
-      reached = reached-next _ _ _ _ _ _ loop.loop.invariant.reached _ (one_more turn) (going passed.before) (is_whole passed) turned.turn.ensures c.before.if3.false;
+      reached = reached_next _ _ _ _ _ _ loop.loop.invariant.reached _ (one_more turn) (going passed.before) (is_whole passed) turned.turn.ensures c.before.if3.false;
       originals = turned.turn.auto.1.1.1.1.1.1.1.0 ∙ loop.loop.invariant.originals;
       fields = turned.turn.auto.1.1.1.1.1.1.1.1.0 ∙ loop.loop.invariant.fields;
     }
@@ -198,7 +198,7 @@ returns-4 : tie.Need-returns-4 invariant-loop decreases-loop
 returns-4 c =
     let loop = c.before.before in
     let start : tie.Start invariant-loop decreases-loop = search in
-    judged-last _ _ _ _ _ start.pre.0.sized loop.loop.invariant.sized _ _ _ loop.loop.invariant.reached _ (rw (← loop.loop.invariant.counted) c.before.loop-test.false) c.last-offence.ensures
+    judged_last _ _ _ _ _ start.pre.0.sized loop.loop.invariant.sized _ _ _ loop.loop.invariant.reached _ (rw (← loop.loop.invariant.counted) c.before.loop-test.false) c.last-offence.ensures
 
 pub judge-spec : {M : Type 1} → statement M
 judge-spec =

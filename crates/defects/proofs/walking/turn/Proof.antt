@@ -7,8 +7,8 @@ use lib.ListN.{length, take, drop}
 use lib.Seq.{length-take-le}
 use Rattle.parts.proofs.Bounds.{limits}
 use Rattle.defects.specs.Walk.{field_at}
-use Rattle.defects.specs.Steps.{stringIn}
-use Rattle.defects.proofs.Loadables.{start-few, loadable-before, off-the-cylinder, window, window-inside, judgeable}
+use Rattle.defects.specs.Steps.{string_in}
+use Rattle.defects.proofs.Loadables.{start_few, loadable_before, off_the_cylinder, window, window_inside, judgeable}
 use borrow.Author.Rules.{rules}
 use Rattle.defects.proofs.walking.turn.Statement.{statement}
 use Rattle.defects.proofs.walking.turn.Tie as tie
@@ -20,8 +20,8 @@ mul_at : tie.Need-overflow-mul-at
 mul_at c =
     let start : tie.Start = search in
     let told : tie.After-field-octets = search in
-    let few = start-few start.args.setup start.args.k start.pre.0.limits (omega (arith, start.pre.0.inside)) in
-    rw told.field-octets.ensures (omega arith)
+    let few = start_few start.args.setup start.args.k start.pre.0.limits (omega (arith, start.pre.0.inside)) in
+    rw told.field_octets_lem.ensures (omega arith)
 
 load-requires : tie.Need-load-requires
 load-requires c κs =
@@ -38,11 +38,11 @@ load-requires-2 c κs =
     (l.limits, l.room sectors.if1.taken, l.inside, start.pre.4)
 
 -- a data field fits the lent slices
-fits : (c : tie.After-field-octets) → c.field-octets.result ≤ 2048
+fits : (c : tie.After-field-octets) → c.field_octets_lem.result ≤ 2048
 fits c =
     let start : tie.Start = search in
     let few = limits _ start.pre.0.limits in
-    omega (arith, c.field-octets.ensures)
+    omega (arith, c.field_octets_lem.ensures)
 
 slice-reshare-prefix-step : tie.Need-slice-reshare-prefix-step
 slice-reshare-prefix-step c =
@@ -69,16 +69,16 @@ loaded : (c : tie.After-load2)
     → let first = c.before.before.before.before in
     let told = first.before.before.before in
     let a = told.before.before.before.before.before.args in
-    let string = stringIn a.setup a.in-sectors a.octets.now a.sectors.now in
-    let each = told.field-octets.result in
+    let string = string_in a.setup a.in-sectors a.octets.now a.sectors.now in
+    let each = told.field_octets_lem.result in
     (take each first.load.new.1.1.1.0 ≡ field_at a.setup string a.walk.original) × (take each c.load2.new.1.1.1.0 ≡ field_at a.setup string a.k)
 loaded c =
     let first = c.before.before.before.before in
     let sectors = first.before.before in
     let told = sectors.before in
     let pre = told.before.before.before.before.before.requires in (
-      off-the-cylinder (loadable-before _ pre.0 pre.2) _ sectors.if1.true (rw told.field-octets.ensures first.load.ensures),
-      off-the-cylinder pre.0 _ sectors.if1.true (rw told.field-octets.ensures c.load2.ensures),
+      off_the_cylinder (loadable_before _ pre.0 pre.2) _ sectors.if1.true (rw told.field_octets_lem.ensures first.load.ensures),
+      off_the_cylinder pre.0 _ sectors.if1.true (rw told.field_octets_lem.ensures c.load2.ensures),
     )
 
 step-requires : tie.Need-step-requires
@@ -86,7 +86,7 @@ step-requires c κs =
     let this = c.before.before.before.before in
     let told = this.before.before.before.before.before.before.before in
     let pre = told.before.before.before.before.before.requires in
-    judgeable _ _ _ _ pre.0 pre.1 pre.2 (rw told.field-octets.ensures) (loaded this).0 (loaded this).1
+    judgeable _ _ _ _ pre.0 pre.1 pre.2 (rw told.field_octets_lem.ensures) (loaded this).0 (loaded this).1
 
 same_length : tie.Need-same-length
 same_length c = search rules
@@ -98,36 +98,36 @@ returns : tie.Need-returns
 returns c =
     let this = c.before.before.before.before.before in
     let told = this.before.before.before.before.before.before.before in
-    rw (← (loaded this).0, ← (loaded this).1, ← told.field-octets.ensures) c.step.ensures
+    rw (← (loaded this).0, ← (loaded this).1, ← told.field_octets_lem.ensures) c.step.ensures
 
 mul-first : tie.Need-overflow-mul-first
 mul-first c =
     let start : tie.Start = search in
     let told : tie.After-field-octets = search in
-    let l = loadable-before _ start.pre.0 start.pre.2 in
-    let few = start-few start.args.setup start.args.walk.original l.limits (omega (arith, l.inside)) in
-    rw told.field-octets.ensures (omega arith)
+    let l = loadable_before _ start.pre.0 start.pre.2 in
+    let few = start_few start.args.setup start.args.walk.original l.limits (omega (arith, l.inside)) in
+    rw told.field_octets_lem.ensures (omega arith)
 
 -- where copy 0 of the set and the data field are in the octets
 record Windows (start : tie.Start) (each : ℕ) : Type 0 where
-  begun : take (start.args.walk.original * each + each - start.args.walk.original * each) (drop (start.args.walk.original * each) start.args.octets.now) ≡ field_at start.args.setup (stringIn start.args.setup start.args.in-sectors start.args.octets.now start.args.sectors.now) start.args.walk.original
+  begun : take (start.args.walk.original * each + each - start.args.walk.original * each) (drop (start.args.walk.original * each) start.args.octets.now) ≡ field_at start.args.setup (string_in start.args.setup start.args.in-sectors start.args.octets.now start.args.sectors.now) start.args.walk.original
   begun-inside : start.args.walk.original * each + each ≤ length start.args.octets.now
-  this : take (start.args.k * each + each - start.args.k * each) (drop (start.args.k * each) start.args.octets.now) ≡ field_at start.args.setup (stringIn start.args.setup start.args.in-sectors start.args.octets.now start.args.sectors.now) start.args.k
+  this : take (start.args.k * each + each - start.args.k * each) (drop (start.args.k * each) start.args.octets.now) ≡ field_at start.args.setup (string_in start.args.setup start.args.in-sectors start.args.octets.now start.args.sectors.now) start.args.k
   this-inside : start.args.k * each + each ≤ length start.args.octets.now
 
-windows : (c : tie.Else1) → Windows c.before.before.before.before.before.before c.before.field-octets.result
+windows : (c : tie.Else1) → Windows c.before.before.before.before.before.before c.before.field_octets_lem.result
 windows c =
     let told = c.before in
     let start = told.before.before.before.before.before in
     let l = start.requires.0 in
-    let first = loadable-before start.args.walk.original l start.requires.2 in
-    let each = told.field-octets.result in
-    let size = told.field-octets.ensures in
+    let first = loadable_before start.args.walk.original l start.requires.2 in
+    let each = told.field_octets_lem.result in
+    let size = told.field_octets_lem.ensures in
     record {
       begun = window first (start.args.walk.original * each) each c.if1.false (rw size) size;
-      begun-inside = window-inside first (start.args.walk.original * each) each c.if1.false (rw size) size;
+      begun-inside = window_inside first (start.args.walk.original * each) each c.if1.false (rw size) size;
       this = window l (start.args.k * each) each c.if1.false (rw size) size;
-      this-inside = window-inside l (start.args.k * each) each c.if1.false (rw size) size;
+      this-inside = window_inside l (start.args.k * each) each c.if1.false (rw size) size;
     }
 
 add-begun : tie.Need-overflow-add-begun
@@ -167,12 +167,12 @@ step-requires-2 c κs =
     let octets = c.before.before.before in
     let told = octets.before in
     let pre = told.before.before.before.before.before.requires in
-    judgeable _ _ _ _ pre.0 pre.1 pre.2 (rw told.field-octets.ensures) (windows octets).begun (windows octets).this
+    judgeable _ _ _ _ pre.0 pre.1 pre.2 (rw told.field_octets_lem.ensures) (windows octets).begun (windows octets).this
 
 returns-2 : tie.Need-returns-2
 returns-2 c =
     let octets = c.before.before.before.before in
-    rw (← (windows octets).begun, ← (windows octets).this, ← octets.before.field-octets.ensures) c.step2.ensures
+    rw (← (windows octets).begun, ← (windows octets).this, ← octets.before.field_octets_lem.ensures) c.step2.ensures
 
 pub turn_spec : {M : Type 1} → statement M
 turn_spec =

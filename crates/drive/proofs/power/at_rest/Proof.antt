@@ -1,4 +1,4 @@
--- `at_rest` meets its contract.
+-- `at_rest_lem` meets its contract.
 -- Assumes nothing.
 use borrow.Author.Rules.{rules}
 use Rattle.drive.proofs.power.at_rest.Statement.{statement}

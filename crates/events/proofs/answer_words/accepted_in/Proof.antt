@@ -23,7 +23,7 @@ response-in-requires c κs = search rules
 
 returns : tie.Need-returns
 unfolding pick
-returns c = let told : tie.Then1 = search in rw (eq-eqb _ 1 told.if1.taken) c.response-in.ensures
+returns c = let told : tie.Then1 = search in rw (eq-eqb _ 1 told.if1.taken) c.response_in_lem.ensures
 
 shared-slice-read-if2 : tie.Need-shared-slice-read-if2
 shared-slice-read-if2 c = search rules

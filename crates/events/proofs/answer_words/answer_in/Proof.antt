@@ -1,13 +1,13 @@
 -- `answer_in` meets its contract.
 -- Assumes nothing.
 use Rattle.drive.specs.AnswerWords.{answer_in}
-use Rattle.events.proofs.ToldWords.{refused-in}
+use Rattle.events.proofs.ToldWords.{refused_in}
 use Rattle.std.proofs.Common.{rules}
 use Rattle.events.proofs.answer_words.answer_in.Statement.{statement}
 use Rattle.events.proofs.answer_words.answer_in.Tie as tie
 
 returns : tie.Need-returns
-returns c = refused-in _ _ c.if1.true
+returns c = refused_in _ _ c.if1.true
 
 accepted-in-requires : tie.Need-accepted-in-requires
 accepted-in-requires c κs = search rules

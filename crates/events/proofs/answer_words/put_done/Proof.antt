@@ -3,7 +3,7 @@
 use Rattle.std.proofs.Common.{arith, length-set, rules}
 use Rattle.laws.proofs.Lists.{stored}
 use Rattle.drive.specs.Answer.{paper}
-use Rattle.drive.specs.AnswerWords.{answerWords}
+use Rattle.drive.specs.AnswerWords.{answer_words}
 use Rattle.drive.specs.declared.answer.Answer.TheVariants.{Done}
 use Rattle.events.proofs.answer_words.put_done.Statement.{statement}
 use Rattle.events.proofs.answer_words.put_done.Tie as tie
@@ -51,8 +51,8 @@ same_length : tie.Need-same-length
 same_length c = search rules
 
 returns : tie.Need-returns
-unfolding answerWords paper
-returns c = stored c.args.out.now (answerWords Done) (search rules)
+unfolding answer_words paper
+returns c = stored c.args.out.now (answer_words Done) (search rules)
 
 pub put-done-spec : {M : Type 1} → statement M
 put-done-spec =

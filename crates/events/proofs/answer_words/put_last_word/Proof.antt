@@ -1,7 +1,7 @@
 -- `put_last_word` meets its contract.
 -- Assumes nothing.
 use Rattle.std.proofs.Common.{arith, length-set, rules}
-use Rattle.events.proofs.ToldWords.{last-word-over}
+use Rattle.events.proofs.ToldWords.{last_word_over}
 use Rattle.events.proofs.answer_words.put_last_word.Statement.{statement}
 use Rattle.events.proofs.answer_words.put_last_word.Tie as tie
 
@@ -24,7 +24,7 @@ same_length : tie.Need-same-length
 same_length c = search rules
 
 returns : tie.Need-returns
-returns c = last-word-over _ _ _ (c.before.before.put-done.ensures)
+returns c = last_word_over _ _ _ (c.before.before.put-done.ensures)
 
 pub put-last-word-spec : {M : Type 1} → statement M
 put-last-word-spec =

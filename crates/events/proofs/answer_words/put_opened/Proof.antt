@@ -1,7 +1,7 @@
 -- `put_opened` meets its contract.
 -- Assumes nothing.
 use Rattle.std.proofs.Common.{arith, length-set, rules}
-use Rattle.events.proofs.ToldWords.{opened-over}
+use Rattle.events.proofs.ToldWords.{opened_over}
 use Rattle.events.proofs.answer_words.put_opened.Statement.{statement}
 use Rattle.events.proofs.answer_words.put_opened.Tie as tie
 
@@ -24,7 +24,7 @@ same_length : tie.Need-same-length
 same_length c = search rules
 
 returns : tie.Need-returns
-returns c = opened-over _ _ _ _ (c.before.before.put-done.ensures)
+returns c = opened_over _ _ _ _ (c.before.before.put-done.ensures)
 
 pub put-opened-spec : {M : Type 1} → statement M
 put-opened-spec =

@@ -1,7 +1,7 @@
 -- `put_response` meets its contract.
 -- Assumes nothing.
 use Rattle.std.proofs.Common.{arith, length-set, rules}
-use Rattle.events.proofs.ToldWords.{response-over}
+use Rattle.events.proofs.ToldWords.{response_over}
 use Rattle.events.proofs.answer_words.put_response.Statement.{statement}
 use Rattle.events.proofs.answer_words.put_response.Tie as tie
 
@@ -36,7 +36,7 @@ same_length : tie.Need-same-length
 same_length c = search rules
 
 returns : tie.Need-returns
-returns c = response-over _ _ _ _ _ (c.before.before.put-done.ensures)
+returns c = response_over _ _ _ _ _ (c.before.before.put-done.ensures)
 
 pub put-response-spec : {M : Type 1} → statement M
 put-response-spec =

@@ -2,7 +2,7 @@
 -- Assumes nothing.
 use Rattle.std.proofs.Common.{◌≡◌, ℕ, ◌+◌, ◌-◌, ◌*◌, ◌<◌, ◌≤◌, Bool, List, length, sym, refl, arith, rules}
 use Rattle.drive.proofs.Turns.{passable}
-use Rattle.events.proofs.Batches.{Going, going_start, going_next, going-stopped, going-ended}
+use Rattle.events.proofs.Batches.{Going, going_start, going_next, going_stopped, going_ended}
 use Rattle.events.proofs.batch.each.Statement.{statement}
 use Rattle.events.proofs.batch.each.Tie as tie
 
@@ -13,7 +13,7 @@ record Left (telling : Bool) (count : ℕ) (records state₀ sectors₀ staging�
   read : from ≡ 8 * (count - left)
   told : at ≡ 13 * (count - left)
   same-state : length state ≡ length state₀
-  same-sectors : length sectors ≡ length sectors₀
+  same_sectors : length sectors ≡ length sectors₀
   same-staging : length staging ≡ length staging₀
   same_out : length out ≡ length out₀
   going : Going telling count records state₀ sectors₀ staging₀ out₀ state sectors staging out (count - left)
@@ -35,7 +35,7 @@ loop-holds c =
       read = search rules;
       told = search rules;
       same-state = refl;
-      same-sectors = refl;
+      same_sectors = refl;
       same-staging = refl;
       same_out = refl;
       going = rw none (going_start _ _ _ _ _ _ _ start.pre.0.long start.pre.1);
@@ -91,7 +91,7 @@ returns c =
     let start : tie.Start invariant-loop decreases-loop = search in
     let inv = here.loop.inv in
     let turn = rw (read.event-at.ensures, inv.read, inv.told) at stepped.step.ensures in
-    rw inv.told (going-stopped _ _ _ _ _ _ _ _ _ _ _ _ _ _ _ _ _ (search rules) start.pre.0.quiet c.if1.true inv.going turn)
+    rw inv.told (going_stopped _ _ _ _ _ _ _ _ _ _ _ _ _ _ _ _ _ (search rules) start.pre.0.quiet c.if1.true inv.going turn)
 
 sub-left : tie.Need-overflow-sub-left invariant-loop decreases-loop
 sub-left c = search rules
@@ -118,7 +118,7 @@ returns-2 c =
     let inv = here.loop.inv in
     let turn = rw (read.event-at.ensures, inv.read, inv.told) at stepped.step.ensures in
     let next = going_next _ _ _ _ _ _ _ _ _ _ _ _ _ _ _ _ _ (search rules) (omega (arith, inv.same_out, start.pre.0.room)) told.if1.left inv.going turn in
-    going-ended _ _ _ _ _ _ _ _ _ _ _ (start.args.count - here.loop.left + 1) (search rules) (search rules) start.pre.0.quiet (rw inv.told next)
+    going_ended _ _ _ _ _ _ _ _ _ _ _ (start.args.count - here.loop.left + 1) (search rules) (search rules) start.pre.0.quiet (rw inv.told next)
 
 add-from : tie.Need-overflow-add-from invariant-loop decreases-loop
 add-from c = search rules
@@ -146,7 +146,7 @@ loop-again c =
       read = search rules;
       told = search rules;
       same-state = search rules;
-      same-sectors = search rules;
+      same_sectors = search rules;
       same-staging = search rules;
       same_out = search rules;
       going = rw (more, inv.told) next;

@@ -1,6 +1,6 @@
 -- `event_at` meets its contract.
 -- Assumes nothing.
-use Rattle.drive.specs.Batch.{eventOf}
+use Rattle.drive.specs.Batch.{event_of}
 use Rattle.std.proofs.Common.{rules}
 use Rattle.events.proofs.batch.event_at.Statement.{statement}
 use Rattle.events.proofs.batch.event_at.Tie as tie
@@ -24,7 +24,7 @@ shared-slice-read-t13 : tie.Need-shared-slice-read-t13
 shared-slice-read-t13 c = search rules
 
 returns : tie.Need-returns
-unfolding eventOf
+unfolding event_of
 returns c = search rules
 
 pub event-at-spec : {M : Type 1} → statement M

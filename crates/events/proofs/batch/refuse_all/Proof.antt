@@ -1,7 +1,7 @@
 -- `refuse_all` meets its contract.
 -- Assumes nothing.
 use Rattle.std.proofs.Common.{◌≡◌, ◌-◌, ◌≤◌, length, refl, arith, rules}
-use Rattle.events.proofs.Batches.{Refusing, refusing-start, refusing-next, refusing-ended}
+use Rattle.events.proofs.Batches.{Refusing, refusing_start, refusing_next, refusing_ended}
 use Rattle.events.proofs.batch.refuse_all.Statement.{statement}
 use Rattle.events.proofs.batch.refuse_all.Tie as tie
 
@@ -12,7 +12,7 @@ abbrev decreases-loop : tie.decreases-loop
 decreases-loop judged count out₀ i₀ out i = count - i
 
 loop-holds : tie.Need-loop-init invariant-loop decreases-loop
-loop-holds c = (search rules, refl, refusing-start _ _)
+loop-holds c = (search rules, refl, refusing_start _ _)
 
 mul_at : tie.Need-overflow-mul-at invariant-loop decreases-loop
 mul_at c = search rules
@@ -39,13 +39,13 @@ loop-less : tie.Need-loop-smaller invariant-loop decreases-loop
 loop-less c = search rules
 
 loop-again : tie.Need-loop-preserved invariant-loop decreases-loop
-loop-again c = (search rules, search rules, refusing-next _ _ _ _ _ (omega (arith, c.before.before.before.before.loop-test.true, c.before.before.before.before.before.loop.invariant.1, c.before.before.before.before.before.before.before.requires)) c.before.before.before.before.before.loop.invariant.2 c.before.before.Put-refused.ensures)
+loop-again c = (search rules, search rules, refusing_next _ _ _ _ _ (omega (arith, c.before.before.before.before.loop-test.true, c.before.before.before.before.before.loop.invariant.1, c.before.before.before.before.before.before.before.requires)) c.before.before.before.before.before.loop.invariant.2 c.before.before.Put-refused.ensures)
 
 same_length : tie.Need-same-length invariant-loop decreases-loop
 same_length c = search rules
 
 returns : tie.Need-returns invariant-loop decreases-loop
-returns c = refusing-ended _ _ _ _ _ (omega (arith, c.before.loop.invariant.0, c.loop-test.false)) (omega (arith, c.before.loop.invariant.1, c.before.before.before.requires)) c.before.loop.invariant.2
+returns c = refusing_ended _ _ _ _ _ (omega (arith, c.before.loop.invariant.0, c.loop-test.false)) (omega (arith, c.before.loop.invariant.1, c.before.before.before.requires)) c.before.loop.invariant.2
 
 pub refuse-all-spec : {M : Type 1} → statement M
 refuse-all-spec =

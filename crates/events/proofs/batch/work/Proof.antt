@@ -2,7 +2,7 @@
 -- Assumes nothing.
 use Rattle.std.proofs.Common.{sym, ◌∙◌, rules}
 use borrow.Author.Tests.{not-true, not-false}
-use Rattle.events.proofs.Batches.{refused_all, refused-quietly}
+use Rattle.events.proofs.Batches.{refused_all, refused_quietly}
 use Rattle.events.proofs.batch.work.Statement.{statement}
 use Rattle.events.proofs.batch.work.Tie as tie
 
@@ -46,7 +46,7 @@ returns-2 c =
     let after-judge : tie.After-judge = search in
     let start : tie.Start = search in
     let quiet = not-true _ c.if2.true in
-    rw (quiet, start.pre.quiet quiet) (refused-quietly _ _ _ _ _ _ start.pre.long after-judge.judge.ensures else1.if1.left)
+    rw (quiet, start.pre.quiet quiet) (refused_quietly _ _ _ _ _ _ start.pre.long after-judge.judge.ensures else1.if1.left)
 
 refuse-all-requires : tie.Need-refuse-all-requires
 refuse-all-requires c κs = search rules

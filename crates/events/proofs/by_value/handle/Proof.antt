@@ -3,9 +3,9 @@
 use Rattle.std.proofs.Common.{◌≡◌, ℕ, ◌≤◌, List, length, ap, ◌∙◌, arith, rules}
 use Rattle.drive.specs.Bounded.{AreOctets}
 use Rattle.drive.proofs.Posted.{OnBoth}
-use Rattle.events.specs.State.{driveIn, movingWords, stateWords}
+use Rattle.events.specs.State.{drive_in, moving_words, state_words}
 use Rattle.events.proofs.Back.{read_again}
-use Rattle.events.proofs.ByValue.{told_fit, octets-made, handled-by}
+use Rattle.events.proofs.ByValue.{told_fit, octets_made, handled_by}
 use Rattle.events.proofs.by_value.handle.Statement.{statement}
 use Rattle.events.proofs.by_value.handle.Tie as tie
 
@@ -17,14 +17,14 @@ abbrev words : tie.After-put-state → List ℕ
 words c = c.put-state.new.1.0
 
 long : (c : tie.After-put-state) → 21 ≤ length (words c)
-unfolding stateWords movingWords
+unfolding state_words moving_words
 long c = rw c.put-state.ensures (omega arith)
 
 octets : (c : tie.Start) → OnBoth AreOctets c.args.drive
 octets c = ((omega (arith, c.well-formed.0), omega (arith, c.well-formed.0)), (omega (arith, c.well-formed.0), omega (arith, c.well-formed.0)))
 
-same : (c : tie.After-put-state) → driveIn (words c) ≡ (start c).args.drive
-same c = let o = octets (start c) in ap driveIn c.put-state.ensures ∙ read_again _ _ (o.0.1, o.1.1)
+same : (c : tie.After-put-state) → drive_in (words c) ≡ (start c).args.drive
+same c = let o = octets (start c) in ap drive_in c.put-state.ensures ∙ read_again _ _ (o.0.1, o.1.1)
 
 slice-aggregate-put-state : tie.Need-slice-aggregate-put-state
 slice-aggregate-put-state c = search rules
@@ -48,7 +48,7 @@ answer-in-requires : tie.Need-answer-in-requires
 answer-in-requires c κs =
     let made : tie.After-put-state = search in
     let asked : tie.After-answer-event = search in
-    told_fit _ (omega arith) (omega arith) (octets-made _ _ (same made) (octets (start made))) asked.answer-event.ensures
+    told_fit _ (omega arith) (omega arith) (octets_made _ _ (same made) (octets (start made))) asked.answer-event.ensures
 
 slice-aggregate-drive-in : tie.Need-slice-aggregate-drive-in
 slice-aggregate-drive-in c = search rules
@@ -67,7 +67,7 @@ returns c =
     let read : tie.After-answer-in = c.before.before in
     let asked : tie.After-answer-event = read.before.before.before.before.before.before.before.before in
     let made : tie.After-put-state = asked.before.before.before.before.before.before in
-    handled-by _ (long made) (omega arith) (same made) (octets-made _ _ (same made) (octets (start made))) asked.answer-event.ensures read.answer-in.ensures c.drive-in.ensures
+    handled_by _ (long made) (omega arith) (same made) (octets_made _ _ (same made) (octets (start made))) asked.answer-event.ensures read.answer-in.ensures c.drive-in.ensures
 
 pub handle-spec : {M : Type 1} → statement M
 handle-spec =

@@ -1,8 +1,8 @@
 -- `data_words` meets its contract.
 -- Assumes nothing.
 use Rattle.std.proofs.Common.{arith, rules}
-use Rattle.parts.specs.Control.{dataWords}
-use Rattle.events.specs.State.{driveIn}
+use Rattle.parts.specs.Control.{data_words}
+use Rattle.events.specs.State.{drive_in}
 use Rattle.events.proofs.coming.data_words.Statement.{statement}
 use Rattle.events.proofs.coming.data_words.Tie as tie
 
@@ -19,7 +19,7 @@ add-result : tie.Need-overflow-add-result
 add-result c = search rules
 
 returns : tie.Need-returns
-unfolding dataWords driveIn
+unfolding data_words drive_in
 returns c = rw (c.before.words-at.ensures.0, c.before.before.header-passes.ensures, c.field-words.ensures.0) (omega arith)
 
 pub data-words-spec : {M : Type 1} → statement M

@@ -2,9 +2,9 @@
 -- Assumes nothing.
 use Rattle.std.proofs.Common.{refl, ◌∙◌, length-set, rules, eq-eqb, ne_eqb}
 use Rattle.laws.specs.Pick.{pick}
-use Rattle.drive.specs.Command.{statusCleared}
-use Rattle.events.specs.Open.{transferOn}
-use Rattle.events.proofs.Changes.{status-ended}
+use Rattle.drive.specs.Command.{status_cleared}
+use Rattle.events.specs.Open.{transfer_on}
+use Rattle.events.proofs.Changes.{status_ended}
 use Rattle.events.proofs.Done.{known}
 use Rattle.events.proofs.command.end_response.Statement.{statement}
 use Rattle.events.proofs.command.end_response.Tie as tie
@@ -22,18 +22,18 @@ put-transfer-requires : tie.Need-put-transfer-requires
 put-transfer-requires c κs = search rules
 
 same_length : tie.Need-same-length
-unfolding transferOn
+unfolding transfer_on
 same_length c =
     let put : tie.After-put-transfer = search in
     rw put.put-transfer.ensures (simp length-set refl)
 
 returns : tie.Need-returns
-unfolding statusCleared pick
+unfolding status_cleared pick
 returns c =
     let put : tie.After-put-transfer = search in
     let status : tie.Then1 = search in
     let start : tie.Start = search in
-    put.put-transfer.ensures ∙ rw (eq-eqb _ _ status.if1.taken) (status-ended _ _ start.pre.1 start.pre.0.long (known start.pre.0))
+    put.put-transfer.ensures ∙ rw (eq-eqb _ _ status.if1.taken) (status_ended _ _ start.pre.1 start.pre.0.long (known start.pre.0))
 
 close-requires : tie.Need-close-requires
 close-requires c κs = search rules
@@ -42,7 +42,7 @@ same-length-2 : tie.Need-same-length-2
 same-length-2 c = search rules
 
 returns-2 : tie.Need-returns-2
-unfolding statusCleared pick
+unfolding status_cleared pick
 returns-2 c =
     let close' : tie.After-close = search in
     let other : tie.Else1 = search in

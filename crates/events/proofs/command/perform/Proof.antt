@@ -2,9 +2,9 @@
 -- Assumes nothing.
 use Rattle.std.proofs.Common.{sym, refl, ◌∙◌, rules}
 use Rattle.parts.specs.declared.command.Function.TheVariants.{PriorityReserve, Reserve, Release, NoOperation, Recalibrate, ActsOnMore, NotListed}
-use Rattle.events.proofs.Changes.{cylinder-zeroed}
+use Rattle.events.proofs.Changes.{cylinder_zeroed}
 use Rattle.events.proofs.Done.{did_nothing, known}
-use Rattle.events.proofs.Exchanges.{did-bad, did-functioned}
+use Rattle.events.proofs.Exchanges.{did_bad, did_functioned}
 use Rattle.events.proofs.command.perform.Statement.{statement}
 use Rattle.events.proofs.command.perform.Tie as tie
 
@@ -89,7 +89,7 @@ returns c =
     let told : tie.After-enum-told = search in
     let asked : tie.After-function-of = search in
     let start : tie.Start = search in
-    did-functioned _ _ _ PriorityReserve (sym told.enum_told.given.1 ∙ asked.Function-of.ensures.answer)
+    did_functioned _ _ _ PriorityReserve (sym told.enum_told.given.1 ∙ asked.Function-of.ensures.answer)
     (record { answer = refl; state = put.put-moved.ensures ∙ rw (changed.priority-reserve.ensures, read.drive-in.ensures) })
 
 same-length-2 : tie.Need-same-length-2
@@ -103,7 +103,7 @@ returns-2 c =
     let told : tie.After-enum-told2 = search in
     let asked : tie.After-function-of = search in
     let start : tie.Start = search in
-    did-functioned _ _ _ Reserve (sym told.enum-told2.given.1 ∙ asked.Function-of.ensures.answer)
+    did_functioned _ _ _ Reserve (sym told.enum-told2.given.1 ∙ asked.Function-of.ensures.answer)
     (record { answer = refl; state = put.put-moved2.ensures ∙ rw (changed.reserve.ensures, read.drive-in2.ensures) })
 
 same-length-3 : tie.Need-same-length-3
@@ -117,7 +117,7 @@ returns-3 c =
     let told : tie.After-enum-told3 = search in
     let asked : tie.After-function-of = search in
     let start : tie.Start = search in
-    did-functioned _ _ _ Release (sym told.enum-told3.given.1 ∙ asked.Function-of.ensures.answer)
+    did_functioned _ _ _ Release (sym told.enum-told3.given.1 ∙ asked.Function-of.ensures.answer)
     (record { answer = refl; state = put.put-moved3.ensures ∙ rw (changed.release.ensures, read.drive-in3.ensures) })
 
 returns-4 : tie.Need-returns-4
@@ -125,7 +125,7 @@ returns-4 c =
     let told : tie.After-enum-told4 = search in
     let asked : tie.After-function-of = search in
     let start : tie.Start = search in
-    did-functioned _ _ _ NoOperation (sym told.enum-told4.given.1 ∙ asked.Function-of.ensures.answer)
+    did_functioned _ _ _ NoOperation (sym told.enum-told4.given.1 ∙ asked.Function-of.ensures.answer)
     (did_nothing _ start.pre.0)
 
 same-length-4 : tie.Need-same-length-4
@@ -136,8 +136,8 @@ returns-5 c =
     let told : tie.After-enum-told5 = search in
     let asked : tie.After-function-of = search in
     let start : tie.Start = search in
-    did-functioned _ _ _ Recalibrate (sym told.enum-told5.given.1 ∙ asked.Function-of.ensures.answer)
-    (record { answer = refl; state = cylinder-zeroed _ start.pre.0.long (known start.pre.0) })
+    did_functioned _ _ _ Recalibrate (sym told.enum-told5.given.1 ∙ asked.Function-of.ensures.answer)
+    (record { answer = refl; state = cylinder_zeroed _ start.pre.0.long (known start.pre.0) })
 
 same-length-5 : tie.Need-same-length-5
 same-length-5 c = search rules
@@ -148,8 +148,8 @@ returns-6 c =
     let told : tie.After-enum-told6 = search in
     let asked : tie.After-function-of = search in
     let start : tie.Start = search in
-    did-functioned _ _ _ ActsOnMore (sym told.enum-told6.given.1 ∙ asked.Function-of.ensures.answer)
-    (did-bad _ _ _ fault'.fault.ensures)
+    did_functioned _ _ _ ActsOnMore (sym told.enum-told6.given.1 ∙ asked.Function-of.ensures.answer)
+    (did_bad _ _ _ fault'.fault.ensures)
 
 same-length-6 : tie.Need-same-length-6
 same-length-6 c = search rules
@@ -160,8 +160,8 @@ returns-7 c =
     let told : tie.After-enum-told7 = search in
     let asked : tie.After-function-of = search in
     let start : tie.Start = search in
-    did-functioned _ _ _ NotListed (sym told.enum-told7.given.1 ∙ asked.Function-of.ensures.answer)
-    (did-bad _ _ _ fault'.fault2.ensures)
+    did_functioned _ _ _ NotListed (sym told.enum-told7.given.1 ∙ asked.Function-of.ensures.answer)
+    (did_bad _ _ _ fault'.fault2.ensures)
 
 pub perform-spec : {M : Type 1} → statement M
 perform-spec =

@@ -1,7 +1,7 @@
 -- `position_word` meets its contract.
 -- Assumes nothing.
 use Rattle.std.proofs.Common.{◌≡◌, arith, rules}
-use Rattle.events.specs.State.{driveIn}
+use Rattle.events.specs.State.{drive_in}
 use Rattle.events.proofs.command.position_word.Statement.{statement}
 use Rattle.events.proofs.command.position_word.Tie as tie
 
@@ -23,25 +23,25 @@ returns c =
     rw at.match.keys1
 
 returns-2 : tie.Need-returns-2
-unfolding driveIn
+unfolding drive_in
 returns-2 c =
     let at : tie.At-match-keys2 = search in
     rw at.match.keys2
 
 returns-3 : tie.Need-returns-3
-unfolding driveIn
+unfolding drive_in
 returns-3 c =
     let at : tie.At-match-keys3 = search in
     rw at.match.keys3
 
 returns-4 : tie.Need-returns-4
-unfolding driveIn
+unfolding drive_in
 returns-4 c =
     let at : tie.At-match-keys4 = search in
     rw at.match.keys4
 
 returns-5 : tie.Need-returns-5
-unfolding driveIn
+unfolding drive_in
 returns-5 c =
     let at : tie.At-match-rest = search in
     let start : tie.Start = search in

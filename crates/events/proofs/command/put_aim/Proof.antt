@@ -1,7 +1,7 @@
 -- `put_aim` meets its contract.
 -- Assumes nothing.
 use Rattle.std.proofs.Common.{arith, length-set, rules}
-use Rattle.events.proofs.Changes.{aim-put}
+use Rattle.events.proofs.Changes.{aim_put}
 use Rattle.events.proofs.Done.{known}
 use Rattle.events.proofs.command.put_aim.Statement.{statement}
 use Rattle.events.proofs.command.put_aim.Tie as tie
@@ -22,7 +22,7 @@ same_length : tie.Need-same-length
 same_length c = search rules
 
 returns : tie.Need-returns
-returns c = aim-put _ _ _ c.requires.long (known c.requires)
+returns c = aim_put _ _ _ c.requires.long (known c.requires)
 
 pub put-aim-spec : {M : Type 1} → statement M
 put-aim-spec =

@@ -3,9 +3,9 @@
 use Rattle.parts.proofs.Bounds.{limits}
 use Rattle.drive.proofs.Sound.{sound}
 use Rattle.drive.specs.Command.{seeking}
-use Rattle.events.specs.State.{driveIn}
-use Rattle.events.proofs.Done.{did-second}
-use Rattle.events.proofs.Exchanges.{sought-by, did-seek, did-bad}
+use Rattle.events.specs.State.{drive_in}
+use Rattle.events.proofs.Done.{did_second}
+use Rattle.events.proofs.Exchanges.{sought_by, did_seek, did_bad}
 use Rattle.std.proofs.Common.{rules}
 use Rattle.events.proofs.command.seek.Statement.{statement}
 use Rattle.events.proofs.command.seek.Tie as tie
@@ -29,7 +29,7 @@ same_length : tie.Need-same-length
 same_length c = search rules
 
 returns : tie.Need-returns
-unfolding driveIn
+unfolding drive_in
 returns c =
     let put : tie.After-put-aim = search in
     let inside : tie.Then1 = search in
@@ -37,7 +37,7 @@ returns c =
     let place : tie.After-is-place = search in
     let setup : tie.After-setup-in = search in
     let start : tie.Start = search in
-    did-seek _ _ start.args.high start.args.low _ _ start.pre.0 (rw (target.is-target.ensures, place.is-place.ensures, setup.setup-in.ensures)) inside.if1.taken put.put-aim.ensures
+    did_seek _ _ start.args.high start.args.low _ _ start.pre.0 (rw (target.is-target.ensures, place.is_place_lem.ensures, setup.setup-in.ensures)) inside.if1.taken put.put-aim.ensures
 
 fault-requires : tie.Need-fault-requires
 fault-requires c κs =
@@ -48,7 +48,7 @@ same-length-2 : tie.Need-same-length-2
 same-length-2 c = search rules
 
 returns-2 : tie.Need-returns-2
-unfolding seeking driveIn
+unfolding seeking drive_in
 returns-2 c =
     let bad : tie.After-fault = search in
     let outside : tie.Else1 = search in
@@ -56,8 +56,8 @@ returns-2 c =
     let place : tie.After-is-place = search in
     let setup : tie.After-setup-in = search in
     let start : tie.Start = search in
-    did-second _ _ _ _ (rw (target.is-target.ensures, place.is-place.ensures, setup.setup-in.ensures) (sought-by _ start.args.high start.args.low _ _ _ (limits _ (sound _ start.pre.0.sound).limits))) outside.if1.left
-    (did-bad _ _ _ bad.fault.ensures)
+    did_second _ _ _ _ (rw (target.is-target.ensures, place.is_place_lem.ensures, setup.setup-in.ensures) (sought_by _ start.args.high start.args.low _ _ _ (limits _ (sound _ start.pre.0.sound).limits))) outside.if1.left
+    (did_bad _ _ _ bad.fault.ensures)
 
 pub seek-spec : {M : Type 1} → statement M
 seek-spec =

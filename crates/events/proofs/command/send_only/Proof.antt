@@ -3,7 +3,7 @@
 use Rattle.parts.specs.Tests.{transferring}
 use Rattle.drive.specs.Command.{obeyed}
 use Rattle.drive.specs.declared.drive.Drive.{Drive}
-use Rattle.events.proofs.Asking.{closed-fit, did-closed}
+use Rattle.events.proofs.Asking.{closed_fit, did_closed}
 use Rattle.std.proofs.Common.{rules}
 use Rattle.events.proofs.command.send_only.Statement.{statement}
 use Rattle.events.proofs.command.send_only.Tie as tie
@@ -18,7 +18,7 @@ obey-requires : tie.Need-obey-requires
 obey-requires c κs =
     let closed' : tie.After-close = search in
     let start : tie.Start = search in
-    (closed-fit start.pre.0 closed'.close.ensures, start.pre.1)
+    (closed_fit start.pre.0 closed'.close.ensures, start.pre.1)
 
 same_length : tie.Need-same-length
 same_length c = search rules
@@ -29,7 +29,7 @@ returns c =
     let bare : tie.After-without-parameters = search in
     let closed' : tie.After-close = search in
     let start : tie.Start = search in
-    did-closed (λ (d : Drive). obeyed (transferring start.args.control 0) d start.args.port start.args.word) start.pre.0 closed'.close.ensures (rw bare.without-parameters.ensures at done.obey.ensures)
+    did_closed (λ (d : Drive). obeyed (transferring start.args.control 0) d start.args.port start.args.word) start.pre.0 closed'.close.ensures (rw bare.without-parameters.ensures at done.obey.ensures)
 
 pub send-only-spec : {M : Type 1} → statement M
 send-only-spec =

@@ -1,7 +1,7 @@
 -- `status_word` meets its contract.
 -- Assumes nothing.
-use Rattle.events.proofs.Changes.{pending-at}
-use Rattle.events.proofs.Exchanges.{zeros-later}
+use Rattle.events.proofs.Changes.{pending_at}
+use Rattle.events.proofs.Exchanges.{zeros_later}
 use Rattle.std.proofs.Common.{rules}
 use Rattle.events.proofs.command.status_word.Statement.{statement}
 use Rattle.events.proofs.command.status_word.Tie as tie
@@ -45,20 +45,20 @@ returns c =
     let read : tie.After-pending-in = search in
     let told : tie.After-octet0 = search in
     let start : tie.Start = search in
-    rw (at.match.keys1, told.octet0.ensures, read.pending-in.ensures, pending-at _ _ start.pre.1)
+    rw (at.match.keys1, told.octet0.ensures, read.pending-in.ensures, pending_at _ _ start.pre.1)
 
 returns-2 : tie.Need-returns-2
 returns-2 c =
     let at : tie.At-match-keys2 = search in
     let read : tie.After-pending-in = search in
     let start : tie.Start = search in
-    rw (at.match.keys2, read.pending-in.ensures, pending-at _ _ start.pre.1)
+    rw (at.match.keys2, read.pending-in.ensures, pending_at _ _ start.pre.1)
 
 returns-3 : tie.Need-returns-3
 returns-3 c =
     let at : tie.At-match-rest = search in
     let start : tie.Start = search in
-    zeros-later _ _ at.match.rest.0.1 at.match.rest.1 start.pre.2
+    zeros_later _ _ at.match.rest.0.1 at.match.rest.1 start.pre.2
 
 pub status-word-spec : {M : Type 1} → statement M
 status-word-spec =

@@ -2,15 +2,15 @@
 -- Assumes nothing.
 use Rattle.std.proofs.Common.{◌≡◌, ◌<◌, arith, rules, ne_eqb}
 use Rattle.laws.specs.Pick.{pick}
-use Rattle.parts.specs.Command.{parameterWords}
-use Rattle.parts.proofs.Bounds.{parameters-few}
-use Rattle.drive.specs.Command.{wordsTold}
-use Rattle.events.specs.State.{driveIn}
+use Rattle.parts.specs.Command.{parameter_words}
+use Rattle.parts.proofs.Bounds.{parameters_few}
+use Rattle.drive.specs.Command.{words_told}
+use Rattle.events.specs.State.{drive_in}
 use Rattle.events.proofs.command.word_told.Statement.{statement}
 use Rattle.events.proofs.command.word_told.Tie as tie
 
 status-word-requires : tie.Need-status-word-requires
-unfolding parameterWords pick
+unfolding parameter_words pick
 status-word-requires c κs =
     let at : tie.At-match-keys1 = search in
     let start : tie.Start = search in
@@ -22,17 +22,17 @@ shared-slice-read-result c = search rules
 position-word-requires : tie.Need-position-word-requires
 position-word-requires c κs =
     let start : tie.Start = search in
-    (start.pre.0, omega (arith, start.pre.2, parameters-few start.args.control))
+    (start.pre.0, omega (arith, start.pre.2, parameters_few start.args.control))
 
 returns : tie.Need-returns
-unfolding wordsTold pick
+unfolding words_told pick
 returns c =
     let at : tie.At-match-keys1 = search in
     let word : tie.After-status-word = search in
     rw at.match.keys1 word.status-word.ensures
 
 returns-2 : tie.Need-returns-2
-unfolding wordsTold parameterWords pick driveIn
+unfolding words_told parameter_words pick drive_in
 returns-2 c =
     let at : tie.At-match-keys2 = search in
     let start : tie.Start = search in
@@ -41,7 +41,7 @@ returns-2 c =
     rw (at.match.keys2, none)
 
 returns-3 : tie.Need-returns-3
-unfolding wordsTold pick
+unfolding words_told pick
 returns-3 c =
     let at : tie.At-match-rest = search in
     let word : tie.After-position-word = search in

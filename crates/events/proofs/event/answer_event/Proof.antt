@@ -1,13 +1,13 @@
 -- `answer_event` meets its contract.
 -- Assumes nothing.
-use Rattle.events.proofs.Promises.{no-state, no-room-for-answer, event-worked}
-use Rattle.drive.specs.Batch.{eventOf}
+use Rattle.events.proofs.Promises.{no_state, no_room_for_answer, event_worked}
+use Rattle.drive.specs.Batch.{event_of}
 use Rattle.std.proofs.Common.{refl, rules}
 use Rattle.events.proofs.event.answer_event.Statement.{statement}
 use Rattle.events.proofs.event.answer_event.Tie as tie
 
 returns : tie.Need-returns
-returns c = no-state _ _ _ _ _ c.if1.true
+returns c = no_state _ _ _ _ _ c.if1.true
 
 refuse-short-requires : tie.Need-refuse-short-requires
 refuse-short-requires c κs = search rules
@@ -23,7 +23,7 @@ returns-2 c =
     let after-refuse-short : tie.After-refuse-short = search in
     let then2 : tie.Then2 = search in
     let else1 : tie.Else1 = search in
-    no-room-for-answer else1.if1.left then2.if2.taken after-refuse-short.refuse-short.ensures
+    no_room_for_answer else1.if1.left then2.if2.taken after-refuse-short.refuse-short.ensures
 
 slice-aggregate-work : tie.Need-slice-aggregate-work
 slice-aggregate-work c = search rules
@@ -44,12 +44,12 @@ same-length-6 : tie.Need-same-length-6
 same-length-6 c = search rules
 
 returns-3 : tie.Need-returns-3
-unfolding eventOf
+unfolding event_of
 returns-3 c =
     let after-work : tie.After-work = search in
     let else2 : tie.Else2 = search in
     let else1 : tie.Else1 = search in
-    event-worked _ _ _ _ _ _ _ _ _ _ _ else1.if1.left else2.if2.left refl after-work.work.ensures
+    event_worked _ _ _ _ _ _ _ _ _ _ _ else1.if1.left else2.if2.left refl after-work.work.ensures
 
 pub answer-event-spec : {M : Type 1} → statement M
 answer-event-spec =

@@ -1,6 +1,6 @@
 -- `refuse_short` meets its contract: what an event with no staging words is refused with, and nothing changed.
 -- Assumes nothing.
-use Rattle.events.proofs.Batches.{refused-short}
+use Rattle.events.proofs.Batches.{refused_short}
 use Rattle.std.proofs.Common.{rules}
 use Rattle.events.proofs.event.refuse_short.Statement.{statement}
 use Rattle.events.proofs.event.refuse_short.Tie as tie
@@ -27,7 +27,7 @@ returns : tie.Need-returns
 returns c =
     let after-work : tie.After-work = search in
     let start : tie.Start = search in
-    refused-short start.pre after-work.work.ensures
+    refused_short start.pre after-work.work.ensures
 
 pub refuse-short-spec : {M : Type 1} → statement M
 refuse-short-spec =

@@ -1,7 +1,7 @@
 -- `run_records` meets its contract.
 -- Assumes nothing.
-use Rattle.events.proofs.Batches.{worked-none}
-use Rattle.events.proofs.Promises.{run-not-whole, run_room, run_short, run-worked}
+use Rattle.events.proofs.Batches.{worked_none}
+use Rattle.events.proofs.Promises.{run_not_whole, run_room, run_short, run_worked}
 use Rattle.std.proofs.Common.{true≢false, arith, rules}
 use Rattle.events.proofs.event.run_records.Statement.{statement}
 use Rattle.events.proofs.event.run_records.Tie as tie
@@ -12,7 +12,7 @@ returns c = run_short _ _ _ _ _ c.if1.true
 returns-2 : tie.Need-returns-2
 returns-2 c =
     let else1 : tie.Else1 = search in
-    run-not-whole _ _ _ _ _ else1.if1.left c.if2.true
+    run_not_whole _ _ _ _ _ else1.if1.left c.if2.true
 
 returns-3 : tie.Need-returns-3
 returns-3 c =
@@ -20,7 +20,7 @@ returns-3 c =
     let else1 : tie.Else1 = search in
     let start : tie.Start = search in
     let r = run_room start.args.state.now start.args.records.now start.args.out.now else1.if1.left in
-    run-worked _ _ _ _ _ _ _ _ _ _ else1.if1.left else2.if2.left (worked-none _ _ _ _ _ _ r.0 c.if3.true)
+    run_worked _ _ _ _ _ _ _ _ _ _ else1.if1.left else2.if2.left (worked_none _ _ _ _ _ _ r.0 c.if3.true)
 
 work-requires : tie.Need-work-requires
 work-requires c κs =
@@ -47,7 +47,7 @@ returns-4 c =
     let after-work : tie.After-work = search in
     let else2 : tie.Else2 = search in
     let else1 : tie.Else1 = search in
-    run-worked _ _ _ _ _ _ _ _ _ _ else1.if1.left else2.if2.left after-work.work.ensures
+    run_worked _ _ _ _ _ _ _ _ _ _ else1.if1.left else2.if2.left after-work.work.ensures
 
 pub run-records-spec : {M : Type 1} → statement M
 run-records-spec =

@@ -2,8 +2,8 @@
 -- Assumes nothing.
 use Rattle.std.proofs.Common.{◌≡◌, ◌||◌, rules}
 use Rattle.drive.specs.Refusal.{row11}
-use Rattle.events.specs.State.{driveIn}
-use Rattle.events.proofs.Unsoundness.{misopened, misheld, strays, misplaced, unsound-with}
+use Rattle.events.specs.State.{drive_in}
+use Rattle.events.proofs.Unsoundness.{misopened, misheld, strays, misplaced, unsound_with}
 use Rattle.events.proofs.judge.is_unsound.Statement.{statement}
 use Rattle.events.proofs.judge.is_unsound.Tie as tie
 
@@ -14,14 +14,14 @@ within-limits-requires : tie.Need-within-limits-requires
 within-limits-requires c κs = search rules
 
 returns : tie.Need-returns
-returns c = rw (unsound-with _ _ c.before.before.setup-in.ensures, ← c.before.within-limits.ensures, c.if1.true)
+returns c = rw (unsound_with _ _ c.before.before.setup-in.ensures, ← c.before.within_limits_lem.ensures, c.if1.true)
 
 -- what row 11 still asks where the set-up is within its limits
 limited : (c : tie.Else1)
     → let state = c.before.before.before.before.args.state.now in
     let setup = c.before.before.setup-in.result in
-    row11 (driveIn state) ≡ (misopened (driveIn state).setup state || misheld state || strays state || misplaced setup state)
-limited c = rw (unsound-with _ _ c.before.before.setup-in.ensures, ← c.before.within-limits.ensures, c.if1.false)
+    row11 (drive_in state) ≡ (misopened (drive_in state).setup state || misheld state || strays state || misplaced setup state)
+limited c = rw (unsound_with _ _ c.before.before.setup-in.ensures, ← c.before.within_limits_lem.ensures, c.if1.false)
 
 shared-slice-read-is-misopened : tie.Need-shared-slice-read-is-misopened
 shared-slice-read-is-misopened c = search rules
@@ -39,7 +39,7 @@ returns-2 c = rw (limited c.before.before.before.before, ← c.before.is-misopen
 opened : (c : tie.Else2)
     → let state = c.before.before.before.before.before.before.before.before.args.state.now in
     let setup = c.before.before.before.before.before.before.setup-in.result in
-    row11 (driveIn state) ≡ (misheld state || strays state || misplaced setup state)
+    row11 (drive_in state) ≡ (misheld state || strays state || misplaced setup state)
 opened c = rw (limited c.before.before.before.before, ← c.before.is-misopened.ensures, c.if2.false)
 
 shared-slice-read-is-misheld : tie.Need-shared-slice-read-is-misheld
@@ -64,7 +64,7 @@ returns-3 c = rw (opened c.before.before.before.before.before.before, ← c.befo
 held : (c : tie.Else3)
     → let state = c.before.before.before.before.before.before.before.before.before.before.before.before.before.before.args.state.now in
     let setup = c.before.before.before.before.before.before.before.before.before.before.before.before.setup-in.result in
-    row11 (driveIn state) ≡ (strays state || misplaced setup state)
+    row11 (drive_in state) ≡ (strays state || misplaced setup state)
 held c = rw (opened c.before.before.before.before.before.before, ← c.before.is-misheld.ensures, c.if3.false)
 
 shared-slice-read-has-stray : tie.Need-shared-slice-read-has-stray
@@ -97,7 +97,7 @@ is-target-requires c κs = search rules
 returns-5 : tie.Need-returns-5
 returns-5 c =
     let strays-left = c.before.before.before.before in
-    rw (held strays-left.before.before.before.before.before, ← strays-left.before.before.before.has-stray.ensures, ← strays-left.before.has-stray2.ensures, strays-left.if4.false, ← c.before.before.before.IsPlace-in.ensures, ← c.before.before.is-place.ensures, ← c.is-target.ensures)
+    rw (held strays-left.before.before.before.before.before, ← strays-left.before.before.before.has-stray.ensures, ← strays-left.before.has-stray2.ensures, strays-left.if4.false, ← c.before.before.before.IsPlace-in.ensures, ← c.before.before.is_place_lem.ensures, ← c.is-target.ensures)
 
 pub is-unsound-spec : {M : Type 1} → statement M
 is-unsound-spec =

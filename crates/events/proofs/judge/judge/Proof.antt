@@ -2,7 +2,7 @@
 -- Assumes nothing.
 use Rattle.std.proofs.Common.{sym, ◌∙◌, rules}
 use Rattle.laws.specs.Pick.{pick}
-use Rattle.parts.specs.Setup.{lacksRoom}
+use Rattle.parts.specs.Setup.{lacks_room}
 use Rattle.drive.specs.Refusal.{row10}
 use Rattle.drive.specs.Able.{judgement}
 use Rattle.drive.proofs.Sound.{sound}
@@ -23,14 +23,14 @@ lacks-room-requires : tie.Need-lacks-room-requires
 lacks-room-requires c κs = search rules
 
 returns-2 : tie.Need-returns-2
-unfolding judgement pick row10 lacksRoom
+unfolding judgement pick row10 lacks_room
 returns-2 c =
     let passes = sym c.before.before.before.before.is-unsound.ensures ∙ c.before.before.before.if1.false in
     let room = rw (c.before.before.setup-in.ensures, (sound _ passes).limits) at c.before.lacks-room.ensures in
     rw (passes, ← room, c.if2.true)
 
 returns-3 : tie.Need-returns-3
-unfolding judgement pick row10 lacksRoom
+unfolding judgement pick row10 lacks_room
 returns-3 c =
     let passes = sym c.before.before.before.before.is-unsound.ensures ∙ c.before.before.before.if1.false in
     let room = rw (c.before.before.setup-in.ensures, (sound _ passes).limits) at c.before.lacks-room.ensures in

@@ -1,7 +1,7 @@
 -- `on_data_control` meets its contract.
 -- Assumes nothing.
-use Rattle.events.proofs.Done.{did-accepted, did-refused}
-use Rattle.events.proofs.Timely.{number-as, timely-told}
+use Rattle.events.proofs.Done.{did_accepted, did_refused}
+use Rattle.events.proofs.Timely.{number_as, timely_told}
 use Rattle.parts.specs.Kind.{Use, DataControl}
 use Rattle.std.proofs.Common.{rules}
 use Rattle.events.proofs.kinds.on_data_control.Statement.{statement}
@@ -21,7 +21,7 @@ returns c =
     let after-refusal : tie.After-refusal = search in
     let after-none-after-1 : tie.After-none-after-1 = search in
     let start : tie.Start = search in
-    did-refused (Use DataControl) _ _ _ _ start.pre.0 (number-as _ after-refusal.refusal.ensures after-none-after-1.none-after-1.ensures (timely-told start.pre.0).one) c.if1.true
+    did_refused (Use DataControl) _ _ _ _ start.pre.0 (number_as _ after-refusal.refusal.ensures after-none-after-1.none-after-1.ensures (timely_told start.pre.0).one) c.if1.true
 
 cast-ask : tie.Need-overflow-cast-ask
 cast-ask c = search rules
@@ -39,7 +39,7 @@ returns-2 c =
     let after-refusal : tie.After-refusal = search in
     let after-none-after-1 : tie.After-none-after-1 = search in
     let start : tie.Start = search in
-    did-accepted (Use DataControl) _ _ _ _ (number-as _ after-refusal.refusal.ensures after-none-after-1.none-after-1.ensures (timely-told start.pre.0).one) else1.if1.left after-ask.ask.ensures
+    did_accepted (Use DataControl) _ _ _ _ (number_as _ after-refusal.refusal.ensures after-none-after-1.none-after-1.ensures (timely_told start.pre.0).one) else1.if1.left after-ask.ask.ensures
 
 pub on-data-control-spec : {M : Type 1} → statement M
 on-data-control-spec =

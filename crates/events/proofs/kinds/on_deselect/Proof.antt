@@ -1,8 +1,8 @@
 -- `on_deselect` meets its contract.
 -- Assumes nothing.
 use Rattle.std.proofs.Common.{refl, ◌∙◌, rules}
-use Rattle.events.proofs.Done.{did-accepted, did-refused}
-use Rattle.events.proofs.Timely.{number-as, timely-told}
+use Rattle.events.proofs.Done.{did_accepted, did_refused}
+use Rattle.events.proofs.Timely.{number_as, timely_told}
 use Rattle.parts.specs.Kind.{Deselect}
 use Rattle.events.proofs.kinds.on_deselect.Statement.{statement}
 use Rattle.events.proofs.kinds.on_deselect.Tie as tie
@@ -21,7 +21,7 @@ returns c =
     let after-refusal : tie.After-refusal = search in
     let after-none-at-all : tie.After-none-at-all = search in
     let start : tie.Start = search in
-    did-refused Deselect _ _ _ _ start.pre (number-as _ after-refusal.refusal.ensures after-none-at-all.none_at_all.ensures (timely-told start.pre).one) c.if1.true
+    did_refused Deselect _ _ _ _ start.pre (number_as _ after-refusal.refusal.ensures after-none-at-all.none_at_all.ensures (timely_told start.pre).one) c.if1.true
 
 drive-in-requires : tie.Need-drive-in-requires
 drive-in-requires c κs = search rules
@@ -46,7 +46,7 @@ returns-2 c =
     let after-refusal : tie.After-refusal = search in
     let after-none-at-all : tie.After-none-at-all = search in
     let start : tie.Start = search in
-    did-accepted Deselect _ _ _ _ (number-as _ after-refusal.refusal.ensures after-none-at-all.none_at_all.ensures (timely-told start.pre).one) else1.if1.left (record { answer = refl; state = after-put-moved.put-moved.ensures ∙ rw (after-deselect.deselect.ensures, after-drive-in.drive-in.ensures) })
+    did_accepted Deselect _ _ _ _ (number_as _ after-refusal.refusal.ensures after-none-at-all.none_at_all.ensures (timely_told start.pre).one) else1.if1.left (record { answer = refl; state = after-put-moved.put-moved.ensures ∙ rw (after-deselect.deselect.ensures, after-drive-in.drive-in.ensures) })
 
 pub on-deselect-spec : {M : Type 1} → statement M
 on-deselect-spec =

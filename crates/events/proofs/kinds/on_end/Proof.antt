@@ -2,9 +2,9 @@
 -- Assumes nothing.
 use Rattle.std.proofs.Common.{sym, ◌∙◌, rules}
 use Rattle.parts.specs.Kind.{End, Use}
-use Rattle.events.specs.State.{driveIn}
-use Rattle.events.proofs.Done.{did-accepted, did-refused}
-use Rattle.events.proofs.Exchanges.{did-ended, did-cut}
+use Rattle.events.specs.State.{drive_in}
+use Rattle.events.proofs.Done.{did_accepted, did_refused}
+use Rattle.events.proofs.Exchanges.{did_ended, did_cut}
 use Rattle.events.proofs.kinds.on_end.Statement.{statement}
 use Rattle.events.proofs.kinds.on_end.Tie as tie
 
@@ -30,7 +30,7 @@ returns c =
     let selected : tie.After-is-selected = search in
     let formed : tie.After-none-at-all = search in
     let start : tie.Start = search in
-    did-refused (Use End) _ _ _ _ start.pre (refused.inside-refusal.ensures ∙ rw (formed.none_at_all.ensures, selected.is-selected.ensures, one.is-one-open.ensures)) c.if1.true
+    did_refused (Use End) _ _ _ _ start.pre (refused.inside-refusal.ensures ∙ rw (formed.none_at_all.ensures, selected.is-selected.ensures, one.is-one-open.ensures)) c.if1.true
 
 slice-read-is-data : tie.Need-slice-read-is-data
 slice-read-is-data c = search rules
@@ -45,7 +45,7 @@ same-length-2 : tie.Need-same-length-2
 same-length-2 c = search rules
 
 returns-2 : tie.Need-returns-2
-unfolding driveIn
+unfolding drive_in
 returns-2 c =
     let ended : tie.After-end-transfer = search in
     let high : tie.Then2 = search in
@@ -55,8 +55,8 @@ returns-2 c =
     let one : tie.After-is-one-open = search in
     let selected : tie.After-is-selected = search in
     let formed : tie.After-none-at-all = search in
-    did-accepted (Use End) _ _ _ _ (refused.inside-refusal.ensures ∙ rw (formed.none_at_all.ensures, selected.is-selected.ensures, one.is-one-open.ensures)) passed.if1.left
-    (did-ended _ (sym data'.is-data.ensures ∙ high.if2.taken) ended.end-transfer.ensures)
+    did_accepted (Use End) _ _ _ _ (refused.inside-refusal.ensures ∙ rw (formed.none_at_all.ensures, selected.is-selected.ensures, one.is-one-open.ensures)) passed.if1.left
+    (did_ended _ (sym data'.is-data.ensures ∙ high.if2.taken) ended.end-transfer.ensures)
 
 close-requires : tie.Need-close-requires
 close-requires c κs = search rules
@@ -65,7 +65,7 @@ same-length-3 : tie.Need-same-length-3
 same-length-3 c = search rules
 
 returns-3 : tie.Need-returns-3
-unfolding driveIn
+unfolding drive_in
 returns-3 c =
     let cut : tie.After-close = search in
     let low : tie.Else2 = search in
@@ -75,8 +75,8 @@ returns-3 c =
     let one : tie.After-is-one-open = search in
     let selected : tie.After-is-selected = search in
     let formed : tie.After-none-at-all = search in
-    did-accepted (Use End) _ _ _ _ (refused.inside-refusal.ensures ∙ rw (formed.none_at_all.ensures, selected.is-selected.ensures, one.is-one-open.ensures)) passed.if1.left
-    (did-cut _ (sym data'.is-data.ensures ∙ low.if2.left) cut.close.ensures)
+    did_accepted (Use End) _ _ _ _ (refused.inside-refusal.ensures ∙ rw (formed.none_at_all.ensures, selected.is-selected.ensures, one.is-one-open.ensures)) passed.if1.left
+    (did_cut _ (sym data'.is-data.ensures ∙ low.if2.left) cut.close.ensures)
 
 pub on-end-spec : {M : Type 1} → statement M
 on-end-spec =

@@ -1,7 +1,7 @@
 -- `on_position` meets its contract.
 -- Assumes nothing.
-use Rattle.events.proofs.Done.{did-accepted, did-refused}
-use Rattle.events.proofs.Timely.{number-as, timely-told}
+use Rattle.events.proofs.Done.{did_accepted, did_refused}
+use Rattle.events.proofs.Timely.{number_as, timely_told}
 use Rattle.parts.specs.Kind.{Use, Position}
 use Rattle.std.proofs.Common.{true, refl, rules}
 use Rattle.events.proofs.kinds.on_position.Statement.{statement}
@@ -17,7 +17,7 @@ returns : tie.Need-returns
 returns c =
     let after-refusal : tie.After-refusal = search in
     let start : tie.Start = search in
-    did-refused (Use Position) _ _ _ _ start.pre.0 (number-as _ {formed = true} after-refusal.refusal.ensures refl (timely-told start.pre.0).one) c.if1.true
+    did_refused (Use Position) _ _ _ _ start.pre.0 (number_as _ {formed = true} after-refusal.refusal.ensures refl (timely_told start.pre.0).one) c.if1.true
 
 word-of-requires : tie.Need-word-of-requires
 word-of-requires c κs = search rules
@@ -41,7 +41,7 @@ returns-2 c =
     let else1 : tie.Else1 = search in
     let after-refusal : tie.After-refusal = search in
     let start : tie.Start = search in
-    did-accepted (Use Position) _ _ _ _ (number-as _ {formed = true} after-refusal.refusal.ensures refl (timely-told start.pre.0).one) else1.if1.left (rw after-word-of.word_of.ensures at after-move-to.move-to.ensures)
+    did_accepted (Use Position) _ _ _ _ (number_as _ {formed = true} after-refusal.refusal.ensures refl (timely_told start.pre.0).one) else1.if1.left (rw after-word-of.word_of.ensures at after-move-to.move-to.ensures)
 
 pub on-position-spec : {M : Type 1} → statement M
 on-position-spec =

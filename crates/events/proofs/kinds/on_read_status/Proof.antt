@@ -1,7 +1,7 @@
 -- `on_read_status` meets its contract.
 -- Assumes nothing.
-use Rattle.events.proofs.Done.{did-accepted, did-refused}
-use Rattle.events.proofs.Timely.{number-as, timely-told}
+use Rattle.events.proofs.Done.{did_accepted, did_refused}
+use Rattle.events.proofs.Timely.{number_as, timely_told}
 use Rattle.parts.specs.Kind.{Use, ReadStatus}
 use Rattle.std.proofs.Common.{rules}
 use Rattle.events.proofs.kinds.on_read_status.Statement.{statement}
@@ -21,7 +21,7 @@ returns c =
     let after-refusal : tie.After-refusal = search in
     let after-none-at-all : tie.After-none-at-all = search in
     let start : tie.Start = search in
-    did-refused (Use ReadStatus) _ _ _ _ start.pre.0 (number-as _ after-refusal.refusal.ensures after-none-at-all.none_at_all.ensures (timely-told start.pre.0).one) c.if1.true
+    did_refused (Use ReadStatus) _ _ _ _ start.pre.0 (number_as _ after-refusal.refusal.ensures after-none-at-all.none_at_all.ensures (timely_told start.pre.0).one) c.if1.true
 
 tell-status-requires : tie.Need-tell-status-requires
 tell-status-requires c κs = search rules
@@ -36,7 +36,7 @@ returns-2 c =
     let after-refusal : tie.After-refusal = search in
     let after-none-at-all : tie.After-none-at-all = search in
     let start : tie.Start = search in
-    did-accepted (Use ReadStatus) _ _ _ _ (number-as _ after-refusal.refusal.ensures after-none-at-all.none_at_all.ensures (timely-told start.pre.0).one) else1.if1.left after-tell-status.tell-status.ensures
+    did_accepted (Use ReadStatus) _ _ _ _ (number_as _ after-refusal.refusal.ensures after-none-at-all.none_at_all.ensures (timely_told start.pre.0).one) else1.if1.left after-tell-status.tell-status.ensures
 
 pub on-read-status-spec : {M : Type 1} → statement M
 on-read-status-spec =

@@ -1,7 +1,7 @@
 -- `on_reset` meets its contract.
 -- Assumes nothing.
 use Rattle.std.proofs.Common.{refl, ◌∙◌, arith, rules}
-use Rattle.events.proofs.Done.{did-refused, did-accepted}
+use Rattle.events.proofs.Done.{did_refused, did_accepted}
 use Rattle.parts.specs.Kind.{Reset}
 use Rattle.laws.specs.Pick.{pick}
 use Rattle.events.proofs.kinds.on_reset.Statement.{statement}
@@ -15,7 +15,7 @@ unfolding pick
 returns c =
     let after-none-at-all : tie.After-none-at-all = search in
     let start : tie.Start = search in
-    did-refused Reset _ _ _ 8 start.pre (rw (← after-none-at-all.none_at_all.ensures, c.if1.true)) (λ z. omega arith)
+    did_refused Reset _ _ _ 8 start.pre (rw (← after-none-at-all.none_at_all.ensures, c.if1.true)) (λ z. omega arith)
 
 drive-in-requires : tie.Need-drive-in-requires
 drive-in-requires c κs = search rules
@@ -37,7 +37,7 @@ returns-2 c =
     let after-drive-in : tie.After-drive-in = search in
     let else1 : tie.Else1 = search in
     let after-none-at-all : tie.After-none-at-all = search in
-    did-accepted Reset _ _ _ 0 (rw (← after-none-at-all.none_at_all.ensures, else1.if1.left)) refl (record { answer = refl; state = after-put-moved.put-moved.ensures ∙ rw (after-reset.reset.ensures, after-drive-in.drive-in.ensures) })
+    did_accepted Reset _ _ _ 0 (rw (← after-none-at-all.none_at_all.ensures, else1.if1.left)) refl (record { answer = refl; state = after-put-moved.put-moved.ensures ∙ rw (after-reset.reset.ensures, after-drive-in.drive-in.ensures) })
 
 pub on-reset-spec : {M : Type 1} → statement M
 on-reset-spec =

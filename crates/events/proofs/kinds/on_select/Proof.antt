@@ -1,6 +1,6 @@
 -- `on_select` meets its contract.
 -- Assumes nothing.
-use Rattle.events.proofs.Done.{did-refused, did-accepted}
+use Rattle.events.proofs.Done.{did_refused, did_accepted}
 use Rattle.parts.specs.Kind.{Select}
 use Rattle.std.proofs.Common.{refl, ◌∙◌, rules}
 use Rattle.events.proofs.kinds.on_select.Statement.{statement}
@@ -39,7 +39,7 @@ returns c =
     let after-is-misaddressed : tie.After-is-misaddressed = search in
     let after-drive-in : tie.After-drive-in = search in
     let start : tie.Start = search in
-    did-refused Select _ _ _ _ start.pre (after-select-refusal.select-refusal.ensures ∙ rw (after-none-after-1.none-after-1.ensures, after-is-busy.is-busy.ensures, after-changes-mode.changes-mode.ensures, after-is-misaddressed.is-misaddressed.ensures, after-drive-in.drive-in.ensures)) c.if1.true
+    did_refused Select _ _ _ _ start.pre (after-select-refusal.select-refusal.ensures ∙ rw (after-none-after-1.none-after-1.ensures, after-is-busy.is-busy.ensures, after-changes-mode.changes-mode.ensures, after-is-misaddressed.is-misaddressed.ensures, after-drive-in.drive-in.ensures)) c.if1.true
 
 select-requires : tie.Need-select-requires
 select-requires c κs = search rules
@@ -63,7 +63,7 @@ returns-2 c =
     let after-changes-mode : tie.After-changes-mode = search in
     let after-is-misaddressed : tie.After-is-misaddressed = search in
     let after-drive-in : tie.After-drive-in = search in
-    did-accepted Select _ _ _ _ (after-select-refusal.select-refusal.ensures ∙ rw (after-none-after-1.none-after-1.ensures, after-is-busy.is-busy.ensures, after-changes-mode.changes-mode.ensures, after-is-misaddressed.is-misaddressed.ensures, after-drive-in.drive-in.ensures)) else1.if1.left (record { answer = refl; state = after-put-moved.put-moved.ensures ∙ rw (after-select.select.ensures, after-drive-in.drive-in.ensures) })
+    did_accepted Select _ _ _ _ (after-select-refusal.select-refusal.ensures ∙ rw (after-none-after-1.none-after-1.ensures, after-is-busy.is-busy.ensures, after-changes-mode.changes-mode.ensures, after-is-misaddressed.is-misaddressed.ensures, after-drive-in.drive-in.ensures)) else1.if1.left (record { answer = refl; state = after-put-moved.put-moved.ensures ∙ rw (after-select.select.ensures, after-drive-in.drive-in.ensures) })
 
 pub on-select-spec : {M : Type 1} → statement M
 on-select-spec =

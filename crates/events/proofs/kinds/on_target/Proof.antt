@@ -1,7 +1,7 @@
 -- `on_target` meets its contract.
 -- Assumes nothing.
-use Rattle.events.proofs.Done.{did-accepted, did-refused}
-use Rattle.events.proofs.Timely.{number-as, timely-told}
+use Rattle.events.proofs.Done.{did_accepted, did_refused}
+use Rattle.events.proofs.Timely.{number_as, timely_told}
 use Rattle.parts.specs.Kind.{Use, Target}
 use Rattle.std.proofs.Common.{rules}
 use Rattle.events.proofs.kinds.on_target.Statement.{statement}
@@ -21,7 +21,7 @@ returns c =
     let after-refusal : tie.After-refusal = search in
     let after-none-after-2 : tie.After-none-after-2 = search in
     let start : tie.Start = search in
-    did-refused (Use Target) _ _ _ _ start.pre.0 (number-as _ after-refusal.refusal.ensures after-none-after-2.none-after-2.ensures (timely-told start.pre.0).one) c.if1.true
+    did_refused (Use Target) _ _ _ _ start.pre.0 (number_as _ after-refusal.refusal.ensures after-none-after-2.none-after-2.ensures (timely_told start.pre.0).one) c.if1.true
 
 word-of-requires : tie.Need-word-of-requires
 word-of-requires c κs = search rules
@@ -40,7 +40,7 @@ returns-2 c =
     let after-refusal : tie.After-refusal = search in
     let after-none-after-2 : tie.After-none-after-2 = search in
     let start : tie.Start = search in
-    did-accepted (Use Target) _ _ _ _ (number-as _ after-refusal.refusal.ensures after-none-after-2.none-after-2.ensures (timely-told start.pre.0).one) else1.if1.left (rw after-word-of.word_of.ensures at after-aim-at.aim_at.ensures)
+    did_accepted (Use Target) _ _ _ _ (number_as _ after-refusal.refusal.ensures after-none-after-2.none-after-2.ensures (timely_told start.pre.0).one) else1.if1.left (rw after-word-of.word_of.ensures at after-aim-at.aim_at.ensures)
 
 pub on-target-spec : {M : Type 1} → statement M
 on-target-spec =

@@ -1,7 +1,7 @@
 -- `put_gaps` meets its contract.
 -- Assumes nothing.
 use Rattle.std.proofs.Common.{◌≡◌, ◌+◌, ◌-◌, arith, rules}
-use Rattle.events.proofs.Parts.{Gapping, gapping-start, gapping-next, gapping-ended}
+use Rattle.events.proofs.Parts.{Gapping, gapping_start, gapping_next, gapping_ended}
 use Rattle.events.proofs.part.put_gaps.Statement.{statement}
 use Rattle.events.proofs.part.put_gaps.Tie as tie
 
@@ -17,7 +17,7 @@ tick-before-requires c κs = search rules
 loop-holds : tie.Need-loop-init invariant-loop decreases-loop
 loop-holds c =
     let after-tick-before : tie.After-tick-before invariant-loop decreases-loop = search in
-    gapping-start _ _ _ _ _ after-tick-before.tick-before.ensures (search rules)
+    gapping_start _ _ _ _ _ after-tick-before.tick-before.ensures (search rules)
 
 add-tick-at : tie.Need-overflow-add-tick-at invariant-loop decreases-loop
 add-tick-at c = search rules
@@ -54,7 +54,7 @@ loop-again c =
       room = search rules;
       before = rw same read.tick-at.ensures;
       small = search rules;
-      told = gapping-next _ _ turn.loop-test.taken start.pre.2 (search rules) read.tick-at.ensures subtracted.wrapping-sub-u16.ensures inv;
+      told = gapping_next _ _ turn.loop-test.taken start.pre.2 (search rules) read.tick-at.ensures subtracted.wrapping-sub-u16.ensures inv;
     }
 
 same_length : tie.Need-same-length invariant-loop decreases-loop
@@ -63,7 +63,7 @@ same_length c = search rules
 returns : tie.Need-returns invariant-loop decreases-loop
 returns c =
     let here : tie.At-loop invariant-loop decreases-loop = search in
-    gapping-ended c.loop-test.false here.loop.inv
+    gapping_ended c.loop-test.false here.loop.inv
 
 pub put-gaps-spec : {M : Type 1} → statement M
 put-gaps-spec =

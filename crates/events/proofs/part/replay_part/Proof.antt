@@ -1,8 +1,8 @@
 -- `replay_part` meets its contract.
 -- Assumes nothing.
 use Rattle.std.proofs.Common.{true≢false, arith, length-drop, rules}
-use Rattle.laws.proofs.Runs.{rest-whole}
-use Rattle.events.proofs.Parts.{part-short, part-not-whole, part_none, part_room, part-worked}
+use Rattle.laws.proofs.Runs.{rest_whole}
+use Rattle.events.proofs.Parts.{part_short, part_not_whole, part_none, part_room, part_worked}
 use Rattle.events.proofs.part.replay_part.Statement.{statement}
 use Rattle.events.proofs.part.replay_part.Tie as tie
 
@@ -12,13 +12,13 @@ count-within-requires c κs = search rules
 returns : tie.Need-returns
 returns c =
     let counted : tie.After-count-within = search in
-    part-short _ _ _ _ _ _ _ _ counted.count-within.ensures c.if1.true
+    part_short _ _ _ _ _ _ _ _ counted.count-within.ensures c.if1.true
 
 returns-2 : tie.Need-returns-2
 returns-2 c =
     let else1 : tie.Else1 = search in
     let counted : tie.After-count-within = search in
-    part-not-whole _ _ _ _ _ _ _ _ counted.count-within.ensures else1.if1.left c.if2.true
+    part_not_whole _ _ _ _ _ _ _ _ counted.count-within.ensures else1.if1.left c.if2.true
 
 returns-3 : tie.Need-returns-3
 returns-3 c =
@@ -57,7 +57,7 @@ work-requires c κs =
     let start : tie.Start = search in
     let args = start.args in
     let room = part_room args.state.now args.records.now args.from args.limit args.answers.now args.gaps.now counted.count-within.ensures else1.if1.left in
-    record { long = room.long; some = omega (arith, else3.if3.left); whole = rw (rest-whole args.records.now _, length-drop _ args.records.now) (omega (arith, room.whole else3.if3.left)); room = room.told; quiet = λ e. absurd (true≢false e) }
+    record { long = room.long; some = omega (arith, else3.if3.left); whole = rw (rest_whole args.records.now _, length-drop _ args.records.now) (omega (arith, room.whole else3.if3.left)); room = room.told; quiet = λ e. absurd (true≢false e) }
 
 same_length : tie.Need-same-length
 same_length c = search rules
@@ -81,7 +81,7 @@ returns-4 c =
     let counted : tie.After-count-within = search in
     let worked : tie.After-work = search in
     let gapped : tie.After-put-gaps = search in
-    part-worked counted.count-within.ensures else1.if1.left else2.if2.left (rw (rest-whole _ _) at worked.work.ensures) gapped.put-gaps.ensures
+    part_worked counted.count-within.ensures else1.if1.left else2.if2.left (rw (rest_whole _ _) at worked.work.ensures) gapped.put-gaps.ensures
 
 pub replay-part-spec : {M : Type 1} → statement M
 replay-part-spec =

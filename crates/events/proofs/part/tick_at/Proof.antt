@@ -1,7 +1,7 @@
 -- `tick_at` meets its contract.
 -- Assumes nothing.
 use Rattle.std.proofs.Common.{sym, ◌∙◌, rules}
-use Rattle.events.proofs.Parts.{tick-read}
+use Rattle.events.proofs.Parts.{tick_read}
 use Rattle.events.proofs.part.tick_at.Statement.{statement}
 use Rattle.events.proofs.part.tick_at.Tie as tie
 
@@ -23,7 +23,7 @@ word-requires c κs = search rules
 returns : tie.Need-returns
 returns c =
     let start : tie.Start = search in
-    c.word.ensures ∙ sym (tick-read _ _ start.pre)
+    c.word.ensures ∙ sym (tick_read _ _ start.pre)
 
 pub tick-at-spec : {M : Type 1} → statement M
 tick-at-spec =

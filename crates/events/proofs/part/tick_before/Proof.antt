@@ -1,7 +1,7 @@
 -- `tick_before` meets its contract.
 -- Assumes nothing.
 use Rattle.std.proofs.Common.{◌≡◌, ◌-◌, sym, ap, ◌∙◌, arith, rules}
-use Rattle.events.specs.Part.{tickAt}
+use Rattle.events.specs.Part.{tick_at}
 use Rattle.events.proofs.part.tick_before.Statement.{statement}
 use Rattle.events.proofs.part.tick_before.Tie as tie
 
@@ -13,7 +13,7 @@ returns c =
     let start : tie.Start = search in
     let own : tie.Then1 = search in
     let none : start.args.index - 1 ≡ 0 = omega (arith, own.if1.taken) in
-    c.tick-at.ensures ∙ sym (ap (tickAt start.args.records.now) none)
+    c.tick-at.ensures ∙ sym (ap (tick_at start.args.records.now) none)
 
 sub-tick-at : tie.Need-overflow-sub-tick-at
 sub-tick-at c = search rules

@@ -1,6 +1,6 @@
 -- `word` meets its contract.
 -- Assumes nothing.
-use Rattle.events.proofs.Parts.{changed-over}
+use Rattle.events.proofs.Parts.{changed_over}
 use Rattle.std.proofs.Common.{rules}
 use Rattle.events.proofs.part.word.Statement.{statement}
 use Rattle.events.proofs.part.word.Tie as tie
@@ -23,7 +23,7 @@ cast-result c = search rules
 returns : tie.Need-returns
 returns c =
     let start : tie.Start = search in
-    changed-over start.args.high start.args.low start.fits.high.fits start.fits.low.fits
+    changed_over start.args.high start.args.low start.fits.high.fits start.fits.low.fits
 
 pub word-spec : {M : Type 1} → statement M
 word-spec = tie.close (tie.spec mul-pair add-pair mul-twice add_twice cast-result returns)

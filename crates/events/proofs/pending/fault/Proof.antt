@@ -1,8 +1,8 @@
 -- `fault` meets its contract.
 -- Assumes nothing.
 use Rattle.events.proofs.Done.{known}
-use Rattle.events.proofs.Changes.{pending-at, posted}
-use Rattle.drive.specs.Request.{badRequest}
+use Rattle.events.proofs.Changes.{pending_at, posted}
+use Rattle.drive.specs.Request.{bad_request}
 use Rattle.std.proofs.Common.{refl, rules}
 use Rattle.events.proofs.pending.fault.Statement.{statement}
 use Rattle.events.proofs.pending.fault.Tie as tie
@@ -35,12 +35,12 @@ same_length : tie.Need-same-length
 same_length c = search rules
 
 returns : tie.Need-returns
-unfolding badRequest
+unfolding bad_request
 returns c =
     let after-faulted : tie.After-faulted = search in
     let after-pending-in : tie.After-pending-in = search in
     let start : tie.Start = search in
-    record { answer = refl; state = rw (c.pending-word.ensures, after-faulted.faulted.ensures, after-pending-in.pending-in.ensures, ← (pending-at _ _ start.pre.1)) (posted _ _ _ start.pre.1 start.pre.0.long (known start.pre.0)) }
+    record { answer = refl; state = rw (c.pending-word.ensures, after-faulted.faulted.ensures, after-pending-in.pending-in.ensures, ← (pending_at _ _ start.pre.1)) (posted _ _ _ start.pre.1 start.pre.0.long (known start.pre.0)) }
 
 pub fault-spec : {M : Type 1} → statement M
 fault-spec =

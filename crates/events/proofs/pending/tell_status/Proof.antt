@@ -1,10 +1,10 @@
 -- `tell_status` meets its contract.
 -- Assumes nothing.
 use Rattle.events.proofs.Done.{known}
-use Rattle.events.proofs.Changes.{pending-at, posted}
-use Rattle.events.specs.State.{pendingWord}
-use Rattle.drive.specs.Request.{statusRead}
-use Rattle.parts.specs.Pending.{nothingPending}
+use Rattle.events.proofs.Changes.{pending_at, posted}
+use Rattle.events.specs.State.{pending_word}
+use Rattle.drive.specs.Request.{status_read}
+use Rattle.parts.specs.Pending.{nothing_pending}
 use Rattle.std.proofs.Common.{rules}
 use Rattle.events.proofs.pending.tell_status.Statement.{statement}
 use Rattle.events.proofs.pending.tell_status.Tie as tie
@@ -34,11 +34,11 @@ same_length : tie.Need-same-length
 same_length c = search rules
 
 returns : tie.Need-returns
-unfolding statusRead pendingWord
+unfolding status_read pending_word
 returns c =
     let after-pending-in : tie.After-pending-in = search in
     let start : tie.Start = search in
-    record { answer = rw (c.octet0.ensures, after-pending-in.pending-in.ensures, pending-at _ _ start.pre.1); state = posted _ nothingPending _ start.pre.1 start.pre.0.long (known start.pre.0) }
+    record { answer = rw (c.octet0.ensures, after-pending-in.pending-in.ensures, pending_at _ _ start.pre.1); state = posted _ nothing_pending _ start.pre.1 start.pre.0.long (known start.pre.0) }
 
 pub tell-status-spec : {M : Type 1} → statement M
 tell-status-spec =

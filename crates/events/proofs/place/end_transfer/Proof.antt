@@ -1,8 +1,8 @@
 -- `end_transfer` meets its contract.
 -- Assumes nothing.
 use Rattle.std.proofs.Common.{refl, ◌∙◌, length-set, rules}
-use Rattle.events.specs.Open.{transferOn}
-use Rattle.events.proofs.Changes.{transfer-ended}
+use Rattle.events.specs.Open.{transfer_on}
+use Rattle.events.proofs.Changes.{transfer_ended}
 use Rattle.events.proofs.Done.{known}
 use Rattle.events.proofs.place.end_transfer.Statement.{statement}
 use Rattle.events.proofs.place.end_transfer.Tie as tie
@@ -23,7 +23,7 @@ put-transfer-requires : tie.Need-put-transfer-requires
 put-transfer-requires c κs = search rules
 
 same_length : tie.Need-same-length
-unfolding transferOn
+unfolding transfer_on
 same_length c =
     let put : tie.After-put-transfer = search in
     rw put.put-transfer.ensures (simp length-set refl)
@@ -33,7 +33,7 @@ returns c =
     let put : tie.After-put-transfer = search in
     let next : tie.After-next-of = search in
     let start : tie.Start = search in
-    put.put-transfer.ensures ∙ rw next.next_of.ensures (transfer-ended _ start.pre.long (known start.pre))
+    put.put-transfer.ensures ∙ rw next.next_of.ensures (transfer_ended _ start.pre.long (known start.pre))
 
 pub end-transfer-spec : {M : Type 1} → statement M
 end-transfer-spec =

@@ -1,7 +1,7 @@
 -- `put_place` meets its contract.
 -- Assumes nothing.
 use Rattle.events.proofs.Done.{known}
-use Rattle.events.proofs.Changes.{place-put}
+use Rattle.events.proofs.Changes.{place_put}
 use Rattle.std.proofs.Common.{arith, length-set, rules}
 use Rattle.events.proofs.place.put_place.Statement.{statement}
 use Rattle.events.proofs.place.put_place.Tie as tie
@@ -19,7 +19,7 @@ same_length : tie.Need-same-length
 same_length c = search rules
 
 returns : tie.Need-returns
-returns c = place-put _ _ (c.requires.long) (known c.requires)
+returns c = place_put _ _ (c.requires.long) (known c.requires)
 
 pub put-place-spec : {M : Type 1} → statement M
 put-place-spec =

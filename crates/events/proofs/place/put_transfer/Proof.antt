@@ -1,7 +1,7 @@
 -- `put_transfer` meets its contract.
 -- Assumes nothing.
 use Rattle.std.proofs.Common.{refl, arith, length-set, rules}
-use Rattle.events.specs.Open.{transferOn}
+use Rattle.events.specs.Open.{transfer_on}
 use Rattle.events.proofs.place.put_transfer.Statement.{statement}
 use Rattle.events.proofs.place.put_transfer.Tie as tie
 
@@ -24,7 +24,7 @@ same_length : tie.Need-same-length
 same_length c = search rules
 
 returns : tie.Need-returns
-unfolding transferOn
+unfolding transfer_on
 returns c = refl
 
 pub put-transfer-spec : {M : Type 1} → statement M

@@ -1,7 +1,7 @@
 -- `step_head` meets its contract.
 -- Assumes nothing.
 use Rattle.events.proofs.Done.{known}
-use Rattle.events.proofs.Changes.{head-moved}
+use Rattle.events.proofs.Changes.{head_moved}
 use Rattle.std.proofs.Common.{rules}
 use Rattle.events.proofs.place.step_head.Statement.{statement}
 use Rattle.events.proofs.place.step_head.Tie as tie
@@ -22,7 +22,7 @@ same_length : tie.Need-same-length
 same_length c = search rules
 
 returns : tie.Need-returns
-returns c = rw (c.next_of.ensures) (head-moved _ (c.before.before.before.before.requires.long) (known c.before.before.before.before.requires))
+returns c = rw (c.next_of.ensures) (head_moved _ (c.before.before.before.before.requires.long) (known c.before.before.before.before.requires))
 
 pub step-head-spec : {M : Type 1} → statement M
 step-head-spec =

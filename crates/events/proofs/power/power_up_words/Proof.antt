@@ -1,7 +1,7 @@
 -- `power_up_words` meets its contract: what the drive answers, and the words of the state.
 -- Assumes nothing.
 use Rattle.std.proofs.Common.{sym, ◌∙◌, rules}
-use Rattle.events.proofs.PowerUp.{power-refused, no-room-for-state, powered}
+use Rattle.events.proofs.PowerUp.{power_refused, no_room_for_state, powered}
 use Rattle.events.proofs.power.power_up_words.Statement.{statement}
 use Rattle.events.proofs.power.power_up_words.Tie as tie
 
@@ -18,7 +18,7 @@ returns : tie.Need-returns
 returns c =
     let after-powered2 : tie.After-powered2 = search in
     let after-power-up : tie.After-power-up = search in
-    no-room-for-state _ _ _ _ _ (sym after-powered2.powered2.given.1 ∙ after-power-up.power-up.ensures.answer) c.if1.true
+    no_room_for_state _ _ _ _ _ (sym after-powered2.powered2.given.1 ∙ after-power-up.power_up_lem.ensures.answer) c.if1.true
 
 put-state-requires : tie.Need-put-state-requires
 put-state-requires c κs = search rules
@@ -27,7 +27,7 @@ returns-2 : tie.Need-returns-2
 returns-2 c =
     let after-powered : tie.After-powered = search in
     let after-power-up : tie.After-power-up = search in
-    power-refused _ _ _ _ _ (sym after-powered.powered.given.1 ∙ after-power-up.power-up.ensures.answer)
+    power_refused _ _ _ _ _ (sym after-powered.powered.given.1 ∙ after-power-up.power_up_lem.ensures.answer)
 
 same_length : tie.Need-same-length
 same_length c = search rules
@@ -38,7 +38,7 @@ returns-3 c =
     let else1 : tie.Else1 = search in
     let after-powered2 : tie.After-powered2 = search in
     let after-power-up : tie.After-power-up = search in
-    powered _ _ _ _ _ _ (sym after-powered2.powered2.given.1 ∙ after-power-up.power-up.ensures.answer) else1.if1.left after-put-state.put-state.ensures
+    powered _ _ _ _ _ _ (sym after-powered2.powered2.given.1 ∙ after-power-up.power_up_lem.ensures.answer) else1.if1.left after-put-state.put-state.ensures
 
 pub power-up-words-spec : {M : Type 1} → statement M
 power-up-words-spec =

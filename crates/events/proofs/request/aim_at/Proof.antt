@@ -1,11 +1,11 @@
 -- `aim_at` meets its contract.
 -- Assumes nothing.
-use Rattle.events.proofs.Done.{did-first, did-second, known}
-use Rattle.events.proofs.Changes.{target-put}
+use Rattle.events.proofs.Done.{did_first, did_second, known}
+use Rattle.events.proofs.Changes.{target_put}
 use Rattle.drive.specs.Request.{aimed, targeted}
 use Rattle.std.proofs.Common.{refl, rules}
 use borrow.Author.Tests.{not-true, not-false}
-use Rattle.events.proofs.Asking.{heard-fit, did-heard, did-stopped}
+use Rattle.events.proofs.Asking.{heard_fit, did_heard, did_stopped}
 use Rattle.events.proofs.request.aim_at.Statement.{statement}
 use Rattle.events.proofs.request.aim_at.Tie as tie
 
@@ -20,7 +20,7 @@ unfolding targeted
 returns c =
     let after-take-up : tie.After-take-up = search in
     let start : tie.Start = search in
-    did-stopped _ _ (λ at. aimed at start.args.port start.args.target) _ start.pre.0 after-take-up.take-up.ensures (not-true _ c.if1.true)
+    did_stopped _ _ (λ at. aimed at start.args.port start.args.target) _ start.pre.0 after-take-up.take-up.ensures (not-true _ c.if1.true)
 
 setup-in-requires : tie.Need-setup-in-requires
 setup-in-requires c κs = search rules
@@ -42,11 +42,11 @@ returns-2 c =
     let else1 : tie.Else1 = search in
     let after-take-up : tie.After-take-up = search in
     let start : tie.Start = search in
-    let f = heard-fit start.pre.0 after-take-up.take-up.ensures (not-false _ else1.if1.left) in
-    did-heard _ _ (λ at. aimed at start.args.port start.args.target) _ start.pre.0 after-take-up.take-up.ensures (not-false _ else1.if1.left) (did-first _ _ _ _ (rw after-setup-in.setup-in.ensures at after-is-target.is-target.ensures) c.if2.true (record { answer = refl; state = target-put _ _ f.long (known f) }))
+    let f = heard_fit start.pre.0 after-take-up.take-up.ensures (not-false _ else1.if1.left) in
+    did_heard _ _ (λ at. aimed at start.args.port start.args.target) _ start.pre.0 after-take-up.take-up.ensures (not-false _ else1.if1.left) (did_first _ _ _ _ (rw after-setup-in.setup-in.ensures at after-is-target.is-target.ensures) c.if2.true (record { answer = refl; state = target_put _ _ f.long (known f) }))
 
 fault-requires : tie.Need-fault-requires
-fault-requires c κs = search (heard-fit, not-false)
+fault-requires c κs = search (heard_fit, not-false)
 
 same-length-3 : tie.Need-same-length-3
 same-length-3 c = search rules
@@ -61,7 +61,7 @@ returns-3 c =
     let else1 : tie.Else1 = search in
     let after-take-up : tie.After-take-up = search in
     let start : tie.Start = search in
-    did-heard _ _ (λ at. aimed at start.args.port start.args.target) _ start.pre.0 after-take-up.take-up.ensures (not-false _ else1.if1.left) (did-second _ _ _ _ (rw after-setup-in.setup-in.ensures at after-is-target.is-target.ensures) else2.if2.left after-fault.fault.ensures)
+    did_heard _ _ (λ at. aimed at start.args.port start.args.target) _ start.pre.0 after-take-up.take-up.ensures (not-false _ else1.if1.left) (did_second _ _ _ _ (rw after-setup-in.setup-in.ensures at after-is-target.is-target.ensures) else2.if2.left after-fault.fault.ensures)
 
 pub aim-at-spec : {M : Type 1} → statement M
 aim-at-spec =

@@ -3,15 +3,15 @@
 use Rattle.std.proofs.Common.{◌≡◌, ℕ, ◌<◌, true, false, ◌||◌, ◌⊎◌, List, sym, refl, ◌∙◌, inl, inr, arith, rules}
 use denote.Enum.Declared.{tag_of}
 use Rattle.parts.specs.contracts.control.Control.{the_type}
-use Rattle.parts.proofs.ByBits.{write-is-data, read-is-data, command-low, response-low}
-use Rattle.parts.specs.Control.{controlOf, takesWords, givesWords, isData}
+use Rattle.parts.proofs.ByBits.{write_is_data, read_is_data, command_low, response_low}
+use Rattle.parts.specs.Control.{control_of, takes_words, gives_words, is_data}
 use Rattle.parts.specs.declared.control.Control.{Control}
 use Rattle.parts.specs.declared.control.Control.TheVariants.{Write, Read, Command, Response, StepHead, Reserved, Unsupported, Invalid}
 use Rattle.drive.specs.Request.{controlled, opened, opening}
 use Rattle.drive.specs.declared.answer.Answer.{Answer}
-use Rattle.events.specs.State.{driveIn}
+use Rattle.events.specs.State.{drive_in}
 use Rattle.events.specs.Fit.{Did}
-use Rattle.events.proofs.Asking.{did-controlled}
+use Rattle.events.proofs.Asking.{did_controlled}
 use Rattle.events.proofs.request.carry_out.Statement.{statement}
 use Rattle.events.proofs.request.carry_out.Tie as tie
 
@@ -25,9 +25,9 @@ next tag (inl e) = (omega arith, omega arith)
 next tag (inr e) = (omega arith, omega arith)
 
 did-opening : (state : List ℕ) (port control : ℕ) (kind : Control) {answer : Answer} {state' : List ℕ} → tag_of the_type kind < 2
-    → kind ≡ controlOf control → Did state (opening (driveIn state) port control) answer state' → Did state (controlled (controlOf control) (driveIn state) port control) answer state'
-did-opening state port control Write h e d = did-controlled state port control Write e d
-did-opening state port control Read h e d = did-controlled state port control Read e d
+    → kind ≡ control_of control → Did state (opening (drive_in state) port control) answer state' → Did state (controlled (control_of control) (drive_in state) port control) answer state'
+did-opening state port control Write h e d = did_controlled state port control Write e d
+did-opening state port control Read h e d = did_controlled state port control Read e d
 did-opening state port control Command h e d = absurd (omega (arith, h))
 did-opening state port control Response h e d = absurd (omega (arith, h))
 did-opening state port control StepHead h e d = absurd (omega (arith, h))
@@ -36,9 +36,9 @@ did-opening state port control Unsupported h e d = absurd (omega (arith, h))
 did-opening state port control Invalid h e d = absurd (omega (arith, h))
 
 did-opened : (state : List ℕ) (port control : ℕ) (kind : Control) {answer : Answer} {state' : List ℕ} → (1 < tag_of the_type kind) × (tag_of the_type kind < 4)
-    → kind ≡ controlOf control → Did state (opened (driveIn state) control) answer state' → Did state (controlled (controlOf control) (driveIn state) port control) answer state'
-did-opened state port control Command h e d = did-controlled state port control Command e d
-did-opened state port control Response h e d = did-controlled state port control Response e d
+    → kind ≡ control_of control → Did state (opened (drive_in state) control) answer state' → Did state (controlled (control_of control) (drive_in state) port control) answer state'
+did-opened state port control Command h e d = did_controlled state port control Command e d
+did-opened state port control Response h e d = did_controlled state port control Response e d
 did-opened state port control Write h e d = absurd (omega (arith, h.0))
 did-opened state port control Read h e d = absurd (omega (arith, h.0))
 did-opened state port control StepHead h e d = absurd (omega (arith, h.1))
@@ -47,9 +47,9 @@ did-opened state port control Unsupported h e d = absurd (omega (arith, h.1))
 did-opened state port control Invalid h e d = absurd (omega (arith, h.1))
 
 -- and what the control then is
-data-kind : (c : ℕ) (kind : Control) → tag_of the_type kind < 2 → kind ≡ controlOf c → isData c ≡ true
-data-kind c Write h e = write-is-data c (rw (← e))
-data-kind c Read h e = read-is-data c (rw (← e))
+data-kind : (c : ℕ) (kind : Control) → tag_of the_type kind < 2 → kind ≡ control_of c → is_data c ≡ true
+data-kind c Write h e = write_is_data c (rw (← e))
+data-kind c Read h e = read_is_data c (rw (← e))
 data-kind c Command h e = absurd (omega (arith, h))
 data-kind c Response h e = absurd (omega (arith, h))
 data-kind c StepHead h e = absurd (omega (arith, h))
@@ -57,10 +57,10 @@ data-kind c Reserved h e = absurd (omega (arith, h))
 data-kind c Unsupported h e = absurd (omega (arith, h))
 data-kind c Invalid h e = absurd (omega (arith, h))
 
-code-kind : (c : ℕ) (kind : Control) → (1 < tag_of the_type kind) × (tag_of the_type kind < 4) → kind ≡ controlOf c
-    → (isData c ≡ false) × ((takesWords (controlOf c) || givesWords (controlOf c)) ≡ true)
-code-kind c Command h e = (command-low c (sym e), rw (← e))
-code-kind c Response h e = (response-low c (sym e), rw (← e))
+code-kind : (c : ℕ) (kind : Control) → (1 < tag_of the_type kind) × (tag_of the_type kind < 4) → kind ≡ control_of c
+    → (is_data c ≡ false) × ((takes_words (control_of c) || gives_words (control_of c)) ≡ true)
+code-kind c Command h e = (command_low c (sym e), rw (← e))
+code-kind c Response h e = (response_low c (sym e), rw (← e))
 code-kind c Write h e = absurd (omega (arith, h.0))
 code-kind c Read h e = absurd (omega (arith, h.0))
 code-kind c StepHead h e = absurd (omega (arith, h.1))
@@ -138,7 +138,7 @@ returns-3 c =
     let stepped : tie.After-step-head = search in
     let told : tie.After-enum-told = search in
     let kind : tie.After-control-of = search in
-    did-controlled _ _ _ StepHead (sym told.enum_told.given.1 ∙ kind.control-of.ensures.answer) (record { answer = refl; state = stepped.step-head.ensures })
+    did_controlled _ _ _ StepHead (sym told.enum_told.given.1 ∙ kind.control-of.ensures.answer) (record { answer = refl; state = stepped.step-head.ensures })
 
 same-length-4 : tie.Need-same-length-4
 same-length-4 c = search rules
@@ -148,7 +148,7 @@ returns-4 c =
     let bad : tie.After-fault = search in
     let told : tie.After-enum-told2 = search in
     let kind : tie.After-control-of = search in
-    did-controlled _ _ _ Reserved (sym told.enum-told2.given.1 ∙ kind.control-of.ensures.answer) bad.fault.ensures
+    did_controlled _ _ _ Reserved (sym told.enum-told2.given.1 ∙ kind.control-of.ensures.answer) bad.fault.ensures
 
 same-length-5 : tie.Need-same-length-5
 same-length-5 c = search rules
@@ -158,7 +158,7 @@ returns-5 c =
     let bad : tie.After-fault2 = search in
     let told : tie.After-enum-told3 = search in
     let kind : tie.After-control-of = search in
-    did-controlled _ _ _ Unsupported (sym told.enum-told3.given.1 ∙ kind.control-of.ensures.answer) bad.fault2.ensures
+    did_controlled _ _ _ Unsupported (sym told.enum-told3.given.1 ∙ kind.control-of.ensures.answer) bad.fault2.ensures
 
 same-length-6 : tie.Need-same-length-6
 same-length-6 c = search rules
@@ -168,7 +168,7 @@ returns-6 c =
     let bad : tie.After-fault3 = search in
     let told : tie.After-enum-told4 = search in
     let kind : tie.After-control-of = search in
-    did-controlled _ _ _ Invalid (sym told.enum-told4.given.1 ∙ kind.control-of.ensures.answer) bad.fault3.ensures
+    did_controlled _ _ _ Invalid (sym told.enum-told4.given.1 ∙ kind.control-of.ensures.answer) bad.fault3.ensures
 
 pub carry-out-spec : {M : Type 1} → statement M
 carry-out-spec =

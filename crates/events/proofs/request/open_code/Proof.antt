@@ -1,11 +1,11 @@
 -- `open_code` meets its contract.
 -- Assumes nothing.
 use Rattle.std.proofs.Common.{sym, refl, ◌∙◌, rules}
-use Rattle.parts.proofs.Bounds.{code-words}
-use Rattle.drive.proofs.Outcomes.{code-words-come}
+use Rattle.parts.proofs.Bounds.{code_words}
+use Rattle.drive.proofs.Outcomes.{code_words_come}
 use Rattle.drive.specs.Request.{opened}
-use Rattle.events.proofs.Changes.{transfer-put}
-use Rattle.events.proofs.Done.{did-second, known}
+use Rattle.events.proofs.Changes.{transfer_put}
+use Rattle.events.proofs.Done.{did_second, known}
 use Rattle.events.proofs.request.open_code.Statement.{statement}
 use Rattle.events.proofs.request.open_code.Tie as tie
 
@@ -28,8 +28,8 @@ returns c =
     let here : tie.After-place-in = search in
     let words : tie.After-parameter-words = search in
     let start : tie.Start = search in
-    did-second _ _ _ _ (sym (code-words-come _ _ start.pre.1 start.pre.2)) refl
-    (record { answer = rw (here.IsPlace-in.ensures, words.parameter-words.ensures, code-words _ _ start.pre.1); state = put.put-transfer.ensures ∙ transfer-put _ _ start.pre.0.long (known start.pre.0) })
+    did_second _ _ _ _ (sym (code_words_come _ _ start.pre.1 start.pre.2)) refl
+    (record { answer = rw (here.IsPlace-in.ensures, words.parameter-words.ensures, code_words _ _ start.pre.1); state = put.put-transfer.ensures ∙ transfer_put _ _ start.pre.0.long (known start.pre.0) })
 
 pub open-code-spec : {M : Type 1} → statement M
 open-code-spec =

@@ -1,7 +1,7 @@
 -- `sector_start` meets its contract: the product fits.
 -- Assumes nothing.
 use Rattle.parts.proofs.Bounds.{inside, limits, start_small}
-use Rattle.parts.specs.Setup.{sectorStart}
+use Rattle.parts.specs.Setup.{sector_start}
 use Rattle.std.proofs.Common.{arith, rules}
 use Rattle.events.proofs.sizes.sector_start.Statement.{statement}
 use Rattle.events.proofs.sizes.sector_start.Tie as tie
@@ -19,7 +19,7 @@ mul-result c = let h = start_small _ _ (limits _ c.before.before.requires.0) (in
     rw (c.sector-words.ensures, c.before.sector-number.ensures) (omega arith)
 
 returns : tie.Need-returns
-unfolding sectorStart
+unfolding sector_start
 returns c = cc
 
 pub sector-start-spec : {M : Type 1} → statement M

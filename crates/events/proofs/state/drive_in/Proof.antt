@@ -1,6 +1,6 @@
 -- `drive_in` meets its contract.
 -- Assumes nothing.
-use Rattle.events.specs.State.{driveIn}
+use Rattle.events.specs.State.{drive_in}
 use Rattle.std.proofs.Common.{rules}
 use Rattle.events.proofs.state.drive_in.Statement.{statement}
 use Rattle.events.proofs.state.drive_in.Tie as tie
@@ -42,7 +42,7 @@ shared-slice-read-t16 : tie.Need-shared-slice-read-t16
 shared-slice-read-t16 c = search rules
 
 returns : tie.Need-returns
-unfolding driveIn
+unfolding drive_in
 returns c = cc
 
 pub drive-in-spec : {M : Type 1} → statement M

@@ -1,6 +1,6 @@
 -- `hold_word` meets its contract.
 -- Assumes nothing.
-use Rattle.events.specs.State.{holdWord}
+use Rattle.events.specs.State.{hold_word}
 use Rattle.std.proofs.Common.{rules}
 use Rattle.events.proofs.state.hold_word.Statement.{statement}
 use Rattle.events.proofs.state.hold_word.Tie as tie
@@ -15,15 +15,15 @@ enum-told-3 : tie.Need-enum-told-3
 enum-told-3 c = search rules
 
 returns : tie.Need-returns
-unfolding holdWord
+unfolding hold_word
 returns c = rw c.enum_told.given.1
 
 returns-2 : tie.Need-returns-2
-unfolding holdWord
+unfolding hold_word
 returns-2 c = rw c.enum-told2.given.1
 
 returns-3 : tie.Need-returns-3
-unfolding holdWord
+unfolding hold_word
 returns-3 c = rw c.enum-told3.given.1
 
 pub hold-word-spec : {M : Type 1} → statement M

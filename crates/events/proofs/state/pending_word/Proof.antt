@@ -1,7 +1,7 @@
 -- `pending_word` meets its contract.
 -- Assumes nothing.
 use Rattle.std.proofs.Common.{refl, rules}
-use Rattle.events.specs.State.{pendingWord}
+use Rattle.events.specs.State.{pending_word}
 use Rattle.events.proofs.state.pending_word.Statement.{statement}
 use Rattle.events.proofs.state.pending_word.Tie as tie
 
@@ -18,7 +18,7 @@ add-result : tie.Need-overflow-add-result
 add-result c = search rules
 
 returns : tie.Need-returns
-unfolding pendingWord
+unfolding pending_word
 returns c = refl
 
 pub pending-word-spec : {M : Type 1} → statement M

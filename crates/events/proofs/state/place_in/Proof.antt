@@ -1,6 +1,6 @@
 -- `place_in` meets its contract.
 -- Assumes nothing.
-use Rattle.events.specs.State.{driveIn}
+use Rattle.events.specs.State.{drive_in}
 use Rattle.std.proofs.Common.{refl, rules}
 use Rattle.events.proofs.state.place_in.Statement.{statement}
 use Rattle.events.proofs.state.place_in.Tie as tie
@@ -15,7 +15,7 @@ shared-slice-read-t7 : tie.Need-shared-slice-read-t7
 shared-slice-read-t7 c = search rules
 
 returns : tie.Need-returns
-unfolding driveIn
+unfolding drive_in
 returns c = refl
 
 pub place-in-spec : {M : Type 1} → statement M

@@ -2,7 +2,7 @@
 -- Assumes nothing.
 use Rattle.std.proofs.Common.{refl, arith, length-set, rules}
 use lib.Seq.{sets-eq}
-use Rattle.events.specs.State.{movingWords, moved_to}
+use Rattle.events.specs.State.{moving_words, moved_to}
 use Rattle.events.proofs.state.put_moved.Statement.{statement}
 use Rattle.events.proofs.state.put_moved.Tie as tie
 
@@ -61,13 +61,13 @@ same_length : tie.Need-same-length
 same_length c = simp length-set refl
 
 returns : tie.Need-returns
-unfolding moved_to movingWords
+unfolding moved_to moving_words
 returns c =
     let hold : tie.After-hold-word = search in
     let first : tie.After-pending-word = search in
     let second : tie.After-pending-word2 = search in
     let start : tie.Start = search in
-    rw (hold.hold-word.ensures, first.pending-word.ensures, second.pending-word2.ensures) (sets-eq (movingWords start.args.drive) start.args.state.now 7 (omega arith))
+    rw (hold.hold-word.ensures, first.pending-word.ensures, second.pending-word2.ensures) (sets-eq (moving_words start.args.drive) start.args.state.now 7 (omega arith))
 
 pub put-moved-spec : {M : Type 1} → statement M
 put-moved-spec =

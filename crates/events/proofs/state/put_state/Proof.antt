@@ -2,8 +2,8 @@
 -- Assumes nothing.
 use Rattle.std.proofs.Common.{ℕ, List, ap, ◌∙◌, arith, length-set, rules}
 use lib.Seq.{sets}
-use Rattle.events.specs.State.{setupWords}
-use Rattle.events.proofs.Stores.{all-written}
+use Rattle.events.specs.State.{setup_words}
+use Rattle.events.proofs.Stores.{all_written}
 use Rattle.events.proofs.state.put_state.Statement.{statement}
 use Rattle.events.proofs.state.put_state.Tie as tie
 
@@ -37,7 +37,7 @@ same_length c = search rules
 returns : tie.Need-returns
 returns c =
     let a = c.before.before.before.before.before.before.args in
-    ap (λ (l : List ℕ). sets l 0 (setupWords a.drive.setup)) c.before.before.put-moved.ensures ∙ all-written a.state.now a.drive c.before.before.before.before.before.before.requires
+    ap (λ (l : List ℕ). sets l 0 (setup_words a.drive.setup)) c.before.before.put-moved.ensures ∙ all_written a.state.now a.drive c.before.before.before.before.before.before.requires
 
 pub put-state-spec : {M : Type 1} → statement M
 put-state-spec =

@@ -1,6 +1,6 @@
 -- `setup_in` meets its contract.
 -- Assumes nothing.
-use Rattle.events.specs.State.{driveIn}
+use Rattle.events.specs.State.{drive_in}
 use Rattle.std.proofs.Common.{refl, rules}
 use Rattle.events.proofs.state.setup_in.Statement.{statement}
 use Rattle.events.proofs.state.setup_in.Tie as tie
@@ -27,7 +27,7 @@ shared-slice-read-t15 : tie.Need-shared-slice-read-t15
 shared-slice-read-t15 c = search rules
 
 returns : tie.Need-returns
-unfolding driveIn
+unfolding drive_in
 returns c = refl
 
 pub setup-in-spec : {M : Type 1} → statement M

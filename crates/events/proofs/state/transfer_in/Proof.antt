@@ -1,7 +1,7 @@
 -- `transfer_in` meets its contract.
 -- Assumes nothing.
 use Rattle.std.proofs.Common.{refl, rules}
-use Rattle.events.specs.State.{driveIn}
+use Rattle.events.specs.State.{drive_in}
 use Rattle.events.proofs.state.transfer_in.Statement.{statement}
 use Rattle.events.proofs.state.transfer_in.Tie as tie
 
@@ -21,7 +21,7 @@ shared-slice-read-t8-2 : tie.Need-shared-slice-read-t8-2
 shared-slice-read-t8-2 c = search rules
 
 returns : tie.Need-returns
-unfolding driveIn
+unfolding drive_in
 returns c = refl
 
 pub transfer-in-spec : {M : Type 1} → statement M

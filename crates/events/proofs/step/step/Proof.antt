@@ -1,7 +1,7 @@
 -- `step` meets its contract.
 -- Assumes nothing.
-use Rattle.events.proofs.Answering.{step-told}
-use Rattle.events.proofs.Steps.{refused-1, refused-8, stepped, stepped-in}
+use Rattle.events.proofs.Answering.{step_told}
+use Rattle.events.proofs.Steps.{refused_1, refused_8, stepped, stepped_in}
 use Rattle.parts.specs.Kind.{DataControl, Deselect, End, Position, ReadStatus, Reset, Select, TakeWord, Target, Use, WordFromHost, kind_of}
 use Rattle.laws.specs.Pick.{pick}
 use Rattle.std.proofs.Common.{refl, rules, le-ltb, lt-ltb, ne_eqb}
@@ -20,7 +20,7 @@ returns c =
     let after-tell : tie.After-tell = search in
     let then1 : tie.Then1 = search in
     let start : tie.Start = search in
-    step-told start.pre.0 (refused-1 _ _ _ _ start.pre.0 (lt-ltb _ _ then1.if1.taken)) after-tell.tell.ensures
+    step_told start.pre.0 (refused_1 _ _ _ _ start.pre.0 (lt-ltb _ _ then1.if1.taken)) after-tell.tell.ensures
 
 on-select-requires : tie.Need-on-select-requires
 on-select-requires c κs = search rules
@@ -99,7 +99,7 @@ returns-2 c =
     let at-match-keys1 : tie.At-match-keys1 = search in
     let else1 : tie.Else1 = search in
     let start : tie.Start = search in
-    step-told start.pre.0 (stepped _ _ _ _ Select _ start.pre.0 (le-ltb _ _ else1.if1.left) (rw at-match-keys1.match.keys1) after-on-select.on-select.ensures refl) after-tell2.tell2.ensures
+    step_told start.pre.0 (stepped _ _ _ _ Select _ start.pre.0 (le-ltb _ _ else1.if1.left) (rw at-match-keys1.match.keys1) after-on-select.on-select.ensures refl) after-tell2.tell2.ensures
 
 same-length-4 : tie.Need-same-length-4
 same-length-4 c = search rules
@@ -115,7 +115,7 @@ returns-3 c =
     let at-match-keys2 : tie.At-match-keys2 = search in
     let else1 : tie.Else1 = search in
     let start : tie.Start = search in
-    step-told start.pre.0 (stepped _ _ _ _ Deselect _ start.pre.0 (le-ltb _ _ else1.if1.left) (rw at-match-keys2.match.keys2) after-on-deselect.on-deselect.ensures refl) after-tell3.tell3.ensures
+    step_told start.pre.0 (stepped _ _ _ _ Deselect _ start.pre.0 (le-ltb _ _ else1.if1.left) (rw at-match-keys2.match.keys2) after-on-deselect.on-deselect.ensures refl) after-tell3.tell3.ensures
 
 same-length-6 : tie.Need-same-length-6
 same-length-6 c = search rules
@@ -131,7 +131,7 @@ returns-4 c =
     let at-match-keys3 : tie.At-match-keys3 = search in
     let else1 : tie.Else1 = search in
     let start : tie.Start = search in
-    step-told start.pre.0 (stepped _ _ _ _ (Use DataControl) _ start.pre.0 (le-ltb _ _ else1.if1.left) (rw at-match-keys3.match.keys3) after-on-data-control.on-data-control.ensures refl) after-tell4.tell4.ensures
+    step_told start.pre.0 (stepped _ _ _ _ (Use DataControl) _ start.pre.0 (le-ltb _ _ else1.if1.left) (rw at-match-keys3.match.keys3) after-on-data-control.on-data-control.ensures refl) after-tell4.tell4.ensures
 
 same-length-8 : tie.Need-same-length-8
 same-length-8 c = search rules
@@ -153,7 +153,7 @@ returns-5 c =
     let at-match-keys4 : tie.At-match-keys4 = search in
     let else1 : tie.Else1 = search in
     let start : tie.Start = search in
-    step-told start.pre.0 (stepped-in _ _ _ _ (Use WordFromHost) start.pre.0 (le-ltb _ _ else1.if1.left) (rw at-match-keys4.match.keys4) after-on-word-from-host.on-word-from-host.ensures) after-tell5.tell5.ensures
+    step_told start.pre.0 (stepped_in _ _ _ _ (Use WordFromHost) start.pre.0 (le-ltb _ _ else1.if1.left) (rw at-match-keys4.match.keys4) after-on-word-from-host.on-word-from-host.ensures) after-tell5.tell5.ensures
 
 same-length-12 : tie.Need-same-length-12
 same-length-12 c = search rules
@@ -175,7 +175,7 @@ returns-6 c =
     let at-match-keys5 : tie.At-match-keys5 = search in
     let else1 : tie.Else1 = search in
     let start : tie.Start = search in
-    step-told start.pre.0 (stepped _ _ _ _ (Use TakeWord) _ start.pre.0 (le-ltb _ _ else1.if1.left) (rw at-match-keys5.match.keys5) after-on-take-word.on-take-word.ensures refl) after-tell6.tell6.ensures
+    step_told start.pre.0 (stepped _ _ _ _ (Use TakeWord) _ start.pre.0 (le-ltb _ _ else1.if1.left) (rw at-match-keys5.match.keys5) after-on-take-word.on-take-word.ensures refl) after-tell6.tell6.ensures
 
 same-length-16 : tie.Need-same-length-16
 same-length-16 c = search rules
@@ -191,7 +191,7 @@ returns-7 c =
     let at-match-keys6 : tie.At-match-keys6 = search in
     let else1 : tie.Else1 = search in
     let start : tie.Start = search in
-    step-told start.pre.0 (stepped _ _ _ _ (Use End) _ start.pre.0 (le-ltb _ _ else1.if1.left) (rw at-match-keys6.match.keys6) after-on-end.on-end.ensures refl) after-tell7.tell7.ensures
+    step_told start.pre.0 (stepped _ _ _ _ (Use End) _ start.pre.0 (le-ltb _ _ else1.if1.left) (rw at-match-keys6.match.keys6) after-on-end.on-end.ensures refl) after-tell7.tell7.ensures
 
 same-length-18 : tie.Need-same-length-18
 same-length-18 c = search rules
@@ -207,7 +207,7 @@ returns-8 c =
     let at-match-keys7 : tie.At-match-keys7 = search in
     let else1 : tie.Else1 = search in
     let start : tie.Start = search in
-    step-told start.pre.0 (stepped _ _ _ _ (Use Position) _ start.pre.0 (le-ltb _ _ else1.if1.left) (rw at-match-keys7.match.keys7) after-on-position.on-position.ensures refl) after-tell8.tell8.ensures
+    step_told start.pre.0 (stepped _ _ _ _ (Use Position) _ start.pre.0 (le-ltb _ _ else1.if1.left) (rw at-match-keys7.match.keys7) after-on-position.on-position.ensures refl) after-tell8.tell8.ensures
 
 same-length-20 : tie.Need-same-length-20
 same-length-20 c = search rules
@@ -223,7 +223,7 @@ returns-9 c =
     let at-match-keys8 : tie.At-match-keys8 = search in
     let else1 : tie.Else1 = search in
     let start : tie.Start = search in
-    step-told start.pre.0 (stepped _ _ _ _ (Use Target) _ start.pre.0 (le-ltb _ _ else1.if1.left) (rw at-match-keys8.match.keys8) after-on-target.on-target.ensures refl) after-tell9.tell9.ensures
+    step_told start.pre.0 (stepped _ _ _ _ (Use Target) _ start.pre.0 (le-ltb _ _ else1.if1.left) (rw at-match-keys8.match.keys8) after-on-target.on-target.ensures refl) after-tell9.tell9.ensures
 
 same-length-22 : tie.Need-same-length-22
 same-length-22 c = search rules
@@ -239,7 +239,7 @@ returns-10 c =
     let at-match-keys9 : tie.At-match-keys9 = search in
     let else1 : tie.Else1 = search in
     let start : tie.Start = search in
-    step-told start.pre.0 (stepped _ _ _ _ (Use ReadStatus) _ start.pre.0 (le-ltb _ _ else1.if1.left) (rw at-match-keys9.match.keys9) after-on-read-status.on-read-status.ensures refl) after-tell10.tell10.ensures
+    step_told start.pre.0 (stepped _ _ _ _ (Use ReadStatus) _ start.pre.0 (le-ltb _ _ else1.if1.left) (rw at-match-keys9.match.keys9) after-on-read-status.on-read-status.ensures refl) after-tell10.tell10.ensures
 
 same-length-24 : tie.Need-same-length-24
 same-length-24 c = search rules
@@ -255,7 +255,7 @@ returns-11 c =
     let at-match-keys10 : tie.At-match-keys10 = search in
     let else1 : tie.Else1 = search in
     let start : tie.Start = search in
-    step-told start.pre.0 (stepped _ _ _ _ Reset _ start.pre.0 (le-ltb _ _ else1.if1.left) (rw at-match-keys10.match.keys10) after-on-reset.on-reset.ensures refl) after-tell11.tell11.ensures
+    step_told start.pre.0 (stepped _ _ _ _ Reset _ start.pre.0 (le-ltb _ _ else1.if1.left) (rw at-match-keys10.match.keys10) after-on-reset.on-reset.ensures refl) after-tell11.tell11.ensures
 
 same-length-26 : tie.Need-same-length-26
 same-length-26 c = search rules
@@ -268,7 +268,7 @@ returns-12 c =
     let else1 : tie.Else1 = search in
     let start : tie.Start = search in
     let none = at-match-rest.match.rest in
-    step-told start.pre.0 (refused-8 _ _ _ _ start.pre.0 (le-ltb _ _ else1.if1.left) (rw (ne_eqb _ 1 none.0.0.0.0.0.0.0.0.0.1, ne_eqb _ 2 none.0.0.0.0.0.0.0.0.1, ne_eqb _ 3 none.0.0.0.0.0.0.0.1, ne_eqb _ 4 none.0.0.0.0.0.0.1, ne_eqb _ 5 none.0.0.0.0.0.1, ne_eqb _ 6 none.0.0.0.0.1, ne_eqb _ 7 none.0.0.0.1, ne_eqb _ 8 none.0.0.1, ne_eqb _ 9 none.0.1, ne_eqb _ 10 none.1))) after-tell12.tell12.ensures
+    step_told start.pre.0 (refused_8 _ _ _ _ start.pre.0 (le-ltb _ _ else1.if1.left) (rw (ne_eqb _ 1 none.0.0.0.0.0.0.0.0.0.1, ne_eqb _ 2 none.0.0.0.0.0.0.0.0.1, ne_eqb _ 3 none.0.0.0.0.0.0.0.1, ne_eqb _ 4 none.0.0.0.0.0.0.1, ne_eqb _ 5 none.0.0.0.0.0.1, ne_eqb _ 6 none.0.0.0.0.1, ne_eqb _ 7 none.0.0.0.1, ne_eqb _ 8 none.0.0.1, ne_eqb _ 9 none.0.1, ne_eqb _ 10 none.1))) after-tell12.tell12.ensures
 
 pub step_spec : {M : Type 1} → statement M
 step_spec =

@@ -1,6 +1,6 @@
 -- `refusal` meets its contract.
 -- Assumes nothing.
-use Rattle.events.specs.State.{driveIn}
+use Rattle.events.specs.State.{drive_in}
 use Rattle.laws.proofs.Pick.{flags, steps}
 use Rattle.std.proofs.Common.{rules}
 use Rattle.events.proofs.timing.refusal.Statement.{statement}
@@ -19,11 +19,11 @@ shared-slice-read-if3 : tie.Need-shared-slice-read-if3
 shared-slice-read-if3 c = search rules
 
 returns-3 : tie.Need-returns-3
-unfolding driveIn
+unfolding drive_in
 returns-3 c = search (steps, flags)
 
 returns-4 : tie.Need-returns-4
-unfolding driveIn
+unfolding drive_in
 returns-4 c = search (steps, flags)
 
 pub refusal-spec : {M : Type 1} → statement M

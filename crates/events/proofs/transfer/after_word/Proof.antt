@@ -1,9 +1,9 @@
 -- `after_word` meets its contract: a miscompare, the last word, or one on the way.
 -- Assumes nothing.
 use Rattle.events.proofs.Changes.{word_moved}
-use Rattle.events.proofs.Done.{did-as-in, fit, known}
-use Rattle.events.proofs.Transfers.{differs, has_room, last_word, one-of-more, placed}
-use Rattle.events.specs.State.{driveIn}
+use Rattle.events.proofs.Done.{did_as_in, fit, known}
+use Rattle.events.proofs.Transfers.{differs, has_room, last_word, one_of_more, placed}
+use Rattle.events.specs.State.{drive_in}
 use Rattle.std.proofs.Common.{sym, refl, ◌∙◌, rules}
 use Rattle.events.proofs.transfer.after_word.Statement.{statement}
 use Rattle.events.proofs.transfer.after_word.Tie as tie
@@ -30,7 +30,7 @@ returns c =
     let then1 : tie.Then1 = search in
     let after-header-miscompares : tie.After-header-miscompares = search in
     let start = entry after-header-miscompares in
-    did-as-in _ _ (differs (driveIn start.args.state.now) _ _ _ _ (sym after-header-miscompares.header-miscompares.ensures ∙ then1.if1.taken))
+    did_as_in _ _ (differs (drive_in start.args.state.now) _ _ _ _ (sym after-header-miscompares.header-miscompares.ensures ∙ then1.if1.taken))
     (record { answer = refl; state = after-end-transfer.end-transfer.ensures; sectors = refl; staging = refl })
 
 is-last-requires : tie.Need-is-last-requires
@@ -81,7 +81,7 @@ returns-2 c =
     let else1 : tie.Else1 = search in
     let after-header-miscompares : tie.After-header-miscompares = search in
     let start = entry after-header-miscompares in
-    did-as-in _ _ (last_word (driveIn start.args.state.now) _ _ _ _ _ start.pre.1 (sym after-header-miscompares.header-miscompares.ensures ∙ else1.if1.left) (sym after-is-last.is_last.ensures ∙ then2.if2.taken))
+    did_as_in _ _ (last_word (drive_in start.args.state.now) _ _ _ _ _ start.pre.1 (sym after-header-miscompares.header-miscompares.ensures ∙ else1.if1.left) (sym after-is-last.is_last.ensures ∙ then2.if2.taken))
     (record {
       answer = refl;
       state = after-end-transfer2.end-transfer2.ensures;
@@ -107,7 +107,7 @@ returns-3 c =
     let else1 : tie.Else1 = search in
     let after-header-miscompares : tie.After-header-miscompares = search in
     let start = entry after-header-miscompares in
-    did-as-in _ _ (one-of-more (driveIn start.args.state.now) _ _ _ _ _ start.pre.1 (sym after-header-miscompares.header-miscompares.ensures ∙ else1.if1.left) (sym after-is-last.is_last.ensures ∙ c.if2.false))
+    did_as_in _ _ (one_of_more (drive_in start.args.state.now) _ _ _ _ _ start.pre.1 (sym after-header-miscompares.header-miscompares.ensures ∙ else1.if1.left) (sym after-is-last.is_last.ensures ∙ c.if2.false))
     (record { answer = refl; state = word_moved _ _ start.pre.0.long (known (fit start.pre.0)); sectors = refl; staging = refl })
 
 pub after-word-spec : {M : Type 1} → statement M

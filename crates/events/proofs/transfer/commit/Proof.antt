@@ -2,7 +2,7 @@
 -- Assumes nothing.
 use Rattle.std.proofs.Common.{Bool, ap, ◌∙◌, rules}
 use Rattle.parts.specs.Control.{part}
-use Rattle.events.proofs.Committing.{committed-so}
+use Rattle.events.proofs.Committing.{committed_so}
 use Rattle.events.proofs.transfer.commit.Statement.{statement}
 use Rattle.events.proofs.transfer.commit.Tie as tie
 
@@ -66,7 +66,7 @@ returns c =
     let start : tie.Start = search in
     let a = start.args in
     done.copy.ensures
-    ∙ committed-so a.setup a.control a.start a.sectors.now a.staging.now _ _ _
+    ∙ committed_so a.setup a.control a.start a.sectors.now a.staging.now _ _ _
     (header.part-of3.ensures.0 ∙ ap (λ (t : Bool). part t a.setup.header) moves.moves-header.ensures)
     (field1.part_of.ensures.0 ∙ ap (λ (t : Bool). part t a.setup.field1) named1.names-field1.ensures)
     (field2.part-of2.ensures.0 ∙ ap (λ (t : Bool). part t a.setup.field2) named2.names-field2.ensures) start.pre

@@ -1,7 +1,7 @@
 -- `copy` meets its contract: after k words, those before k are in their places.
 -- Assumes nothing.
 use Rattle.std.proofs.Common.{◌≡◌, ℕ, ◌-◌, ◌<◌, ◌≤◌, List, length, refl, length-set, rules}
-use Rattle.events.proofs.Committing.{Committing, all_in, committing-next, committing-start, place-within}
+use Rattle.events.proofs.Committing.{Committing, all_in, committing_next, committing_start, place_within}
 use Rattle.events.proofs.transfer.copy.Statement.{statement}
 use Rattle.events.proofs.transfer.copy.Tie as tie
 
@@ -30,7 +30,7 @@ turned c = c.before.before
 
 inside : (c : tie.Joined1 invariant-loop decreases-loop) → c.if1.at < length (start c).args.sectors.now
 inside c =
-    place-within (start c).args.sectors.now (start c).args.staging.now (start c).args.start _ _ _ _ _ _ _ _ (λ g. g.taken) (λ n. n.left) c.before.loop-test.true (loop c).loop.invariant.copied c.if1.branch (start c).requires
+    place_within (start c).args.sectors.now (start c).args.staging.now (start c).args.start _ _ _ _ _ _ _ _ (λ g. g.taken) (λ n. n.left) c.before.loop-test.true (loop c).loop.invariant.copied c.if1.branch (start c).requires
 
 add_at : tie.Need-overflow-add-at invariant-loop decreases-loop
 add_at c = search rules
@@ -42,7 +42,7 @@ loop-holds c =
       from = search rules;
       to = search rules;
       same = refl;
-      copied = committing-start start.args.sectors.now start.args.staging.now start.args.start _ _ _ start.pre.from;
+      copied = committing_start start.args.sectors.now start.args.staging.now start.args.start _ _ _ start.pre.from;
     }
 
 mul-sectors : tie.Need-overflow-mul-sectors invariant-loop decreases-loop
@@ -74,7 +74,7 @@ loop-again c =
       from = search rules;
       to = search rules;
       same = simp length-set inv.same;
-      copied = committing-next (start here).args.sectors.now (start here).args.staging.now (start here).args.start _ _ _ _ _ _ _ _ (λ g. g.taken) (λ n. n.left) inv.from here.before.loop-test.taken inv.copied here.if1.came (start here).pre;
+      copied = committing_next (start here).args.sectors.now (start here).args.staging.now (start here).args.start _ _ _ _ _ _ _ _ (λ g. g.taken) (λ n. n.left) inv.from here.before.loop-test.taken inv.copied here.if1.came (start here).pre;
     }
 
 same_length : tie.Need-same-length invariant-loop decreases-loop

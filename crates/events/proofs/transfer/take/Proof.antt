@@ -1,12 +1,12 @@
 -- `take` meets its contract: the word at its offset is word k of the read.
 -- Assumes nothing.
 use Rattle.events.proofs.Changes.{word_moved}
-use Rattle.events.proofs.Done.{did-as, fit, known}
-use Rattle.events.proofs.Transfers.{has_room, last_taken, moving, one-taken, placed}
-use Rattle.events.specs.State.{driveIn}
+use Rattle.events.proofs.Done.{did_as, fit, known}
+use Rattle.events.proofs.Transfers.{has_room, last_taken_lem, moving, one_taken, placed}
+use Rattle.events.specs.State.{drive_in}
 use Rattle.std.proofs.Common.{sym, refl, ◌∙◌, arith, rules}
-use Rattle.parts.proofs.Bounds.{data-words}
-use Rattle.parts.proofs.ByBits.{read-is-data}
+use Rattle.parts.proofs.Bounds.{data_words_lem}
+use Rattle.parts.proofs.ByBits.{read_is_data}
 use Rattle.events.proofs.transfer.take.Statement.{statement}
 use Rattle.events.proofs.transfer.take.Tie as tie
 
@@ -33,11 +33,11 @@ sector-start-requires c κs =
     placed start.pre.0 _ _ after-setup-in.setup-in.ensures c.IsPlace-in.ensures
 
 word-offset-requires : tie.Need-word-offset-requires
-unfolding driveIn
+unfolding drive_in
 word-offset-requires c κs =
     let after-setup-in : tie.After-setup-in = search in
     let start = entry after-setup-in in
-    (rw after-setup-in.setup-in.ensures (rw (data-words _ _ (read-is-data _ start.pre.2)) at start.pre.1.moved), start.pre.2)
+    (rw after-setup-in.setup-in.ensures (rw (data_words_lem _ _ (read_is_data _ start.pre.2)) at start.pre.1.moved), start.pre.2)
 
 add_at : tie.Need-overflow-add-at
 add_at c =
@@ -70,17 +70,17 @@ shared-slice-read-word c =
 cast-if1 : tie.Need-overflow-cast-if1
 cast-if1 c =
     let start : tie.Start = search in
-    let m = moving start.pre.1 (read-is-data _ start.pre.2) in
+    let m = moving start.pre.1 (read_is_data _ start.pre.2) in
     omega (arith, m.few)
 
 add-if1 : tie.Need-overflow-add-if1
 add-if1 c =
     let start : tie.Start = search in
-    let m = moving start.pre.1 (read-is-data _ start.pre.2) in
+    let m = moving start.pre.1 (read_is_data _ start.pre.2) in
     omega (arith, m.few)
 
 read-words-requires : tie.Need-read-words-requires
-unfolding driveIn
+unfolding drive_in
 read-words-requires c κs =
     let start : tie.Start = search in
     (start.pre.0.long, start.pre.2)
@@ -92,7 +92,7 @@ same_length : tie.Need-same-length
 same_length c = search rules
 
 returns : tie.Need-returns
-unfolding driveIn
+unfolding drive_in
 returns c =
     let ended : tie.After-end-transfer = search in
     let last : tie.Then1 = search in
@@ -103,13 +103,13 @@ returns c =
     let setup : tie.After-setup-in = search in
     let start = entry setup in
     let room = has_room start.pre.0 _ _ _ setup.setup-in.ensures place.IsPlace-in.ensures begin.sector-start.ensures in
-    did-as _ _ (last_taken (driveIn start.args.state.now) _ _ _ _ _ _ setup.setup-in.ensures place.IsPlace-in.ensures begin.sector-start.ensures room offset.word-offset.ensures (last.if1.taken ∙ asked.read-words.ensures ∙ sym (data-words _ _ (read-is-data _ start.pre.2))))
+    did_as _ _ (last_taken_lem (drive_in start.args.state.now) _ _ _ _ _ _ setup.setup-in.ensures place.IsPlace-in.ensures begin.sector-start.ensures room offset.word-offset.ensures (last.if1.taken ∙ asked.read-words.ensures ∙ sym (data_words_lem _ _ (read_is_data _ start.pre.2))))
     (record { answer = refl; state = ended.end-transfer.ensures })
 
 add-state : tie.Need-overflow-add-state
 add-state c =
     let start : tie.Start = search in
-    let m = moving start.pre.1 (read-is-data _ start.pre.2) in
+    let m = moving start.pre.1 (read_is_data _ start.pre.2) in
     omega (arith, m.few)
 
 slice-write-state : tie.Need-slice-write-state
@@ -119,7 +119,7 @@ same-length-2 : tie.Need-same-length-2
 same-length-2 c = search rules
 
 returns-2 : tie.Need-returns-2
-unfolding driveIn
+unfolding drive_in
 returns-2 c =
     let asked : tie.After-read-words = search in
     let offset : tie.After-word-offset = search in
@@ -128,7 +128,7 @@ returns-2 c =
     let setup : tie.After-setup-in = search in
     let start = entry setup in
     let room = has_room start.pre.0 _ _ _ setup.setup-in.ensures place.IsPlace-in.ensures begin.sector-start.ensures in
-    did-as _ _ (one-taken (driveIn start.args.state.now) _ _ _ _ _ _ setup.setup-in.ensures place.IsPlace-in.ensures begin.sector-start.ensures room offset.word-offset.ensures (λ e. c.if1.false (e ∙ data-words _ _ (read-is-data _ start.pre.2) ∙ sym asked.read-words.ensures)))
+    did_as _ _ (one_taken (drive_in start.args.state.now) _ _ _ _ _ _ setup.setup-in.ensures place.IsPlace-in.ensures begin.sector-start.ensures room offset.word-offset.ensures (λ e. c.if1.false (e ∙ data_words_lem _ _ (read_is_data _ start.pre.2) ∙ sym asked.read-words.ensures)))
     (record { answer = refl; state = word_moved _ _ start.pre.0.long (known (fit start.pre.0)) })
 
 pub take_spec : {M : Type 1} → statement M

@@ -1,9 +1,9 @@
 -- `word_offset` meets its contract: by the part that word k is of.
 -- Assumes nothing.
-use Rattle.drive.proofs.Reading.{at_fields, at-header}
+use Rattle.drive.proofs.Reading.{at_fields, at_header}
 use Rattle.parts.specs.Control.{part}
 use Rattle.std.proofs.Common.{Bool, sym, ap, ◌∙◌, rules}
-use Rattle.parts.proofs.Bounds.{read-passes}
+use Rattle.parts.proofs.Bounds.{read_passes}
 use Rattle.events.proofs.transfer.word_offset.Statement.{statement}
 use Rattle.events.proofs.transfer.word_offset.Tie as tie
 
@@ -20,7 +20,7 @@ part-of-requires-2 : tie.Need-part-of-requires-2
 part-of-requires-2 c κs = search rules
 
 returns : tie.Need-returns
-returns c = at-header _ _ _ (rw (← (c.before.before.before.part_of.ensures.0 ∙ ap (λ (t : Bool). part t c.before.before.before.before.before.args.setup.header) (c.before.before.before.before.moves-header.ensures ∙ sym (read-passes _ c.before.before.before.before.before.requires.1)))) c.if1.true)
+returns c = at_header _ _ _ (rw (← (c.before.before.before.part_of.ensures.0 ∙ ap (λ (t : Bool). part t c.before.before.before.before.before.args.setup.header) (c.before.before.before.before.moves-header.ensures ∙ sym (read_passes _ c.before.before.before.before.before.requires.1)))) c.if1.true)
 
 cast-result : tie.Need-overflow-cast-result
 cast-result c = search rules
@@ -41,7 +41,7 @@ sub-result-2 : tie.Need-overflow-sub-result-2
 sub-result-2 c = search rules
 
 returns-2 : tie.Need-returns-2
-returns-2 c = rw ((c.before.before.before.before.before.part_of.ensures.0 ∙ ap (λ (t : Bool). part t c.before.before.before.before.before.before.before.args.setup.header) (c.before.before.before.before.before.before.moves-header.ensures ∙ sym (read-passes _ c.before.before.before.before.before.before.before.requires.1))), (c.before.before.before.part-of2.ensures.0 ∙ ap (λ (t : Bool). part t c.before.before.before.before.before.before.before.args.setup.field1) c.before.before.before.before.names-field1.ensures)) (at_fields _ _ _ (rw (← (c.before.before.before.before.before.part_of.ensures.0 ∙ ap (λ (t : Bool). part t c.before.before.before.before.before.before.before.args.setup.header) (c.before.before.before.before.before.before.moves-header.ensures ∙ sym (read-passes _ c.before.before.before.before.before.before.before.requires.1)))) c.before.before.if1.false) c.before.before.before.before.before.before.before.requires.0)
+returns-2 c = rw ((c.before.before.before.before.before.part_of.ensures.0 ∙ ap (λ (t : Bool). part t c.before.before.before.before.before.before.before.args.setup.header) (c.before.before.before.before.before.before.moves-header.ensures ∙ sym (read_passes _ c.before.before.before.before.before.before.before.requires.1))), (c.before.before.before.part-of2.ensures.0 ∙ ap (λ (t : Bool). part t c.before.before.before.before.before.before.before.args.setup.field1) c.before.before.before.before.names-field1.ensures)) (at_fields _ _ _ (rw (← (c.before.before.before.before.before.part_of.ensures.0 ∙ ap (λ (t : Bool). part t c.before.before.before.before.before.before.before.args.setup.header) (c.before.before.before.before.before.before.moves-header.ensures ∙ sym (read_passes _ c.before.before.before.before.before.before.before.requires.1)))) c.before.before.if1.false) c.before.before.before.before.before.before.before.requires.0)
 
 pub word-offset-spec : {M : Type 1} → statement M
 word-offset-spec =

@@ -2,7 +2,7 @@
 -- Assumes nothing.
 use Rattle.std.proofs.Common.{◌≡◌, ℕ, ◌+◌, ◌≤◌, eqb, List, length, take, drop, sym, ap, ◌∙◌, arith, length-drop, length-take-le, rules}
 use Rattle.events.specs.Words.{alike}
-use Rattle.events.proofs.OneWalk.{one-walk}
+use Rattle.events.proofs.OneWalk.{one_walk}
 use Rattle.events.proofs.words.same_words.Statement.{statement}
 use Rattle.events.proofs.words.same_words.Tie as tie
 
@@ -19,7 +19,7 @@ returns c =
     let ys = take a.n (drop a.k a.b.now) in
     let x = window a.a.now a.i a.n (search rules) in
     let y = window a.b.now a.k a.n (search rules) in
-    ap (λ (walked : ℕ). eqb walked a.n) c.walk.ensures ∙ ap (eqb (alike xs ys)) (sym x) ∙ sym (one-walk.tested xs ys (x ∙ sym y))
+    ap (λ (walked : ℕ). eqb walked a.n) c.walk.ensures ∙ ap (eqb (alike xs ys)) (sym x) ∙ sym (one_walk.tested xs ys (x ∙ sym y))
 
 pub same-words-spec : {M : Type 1} → statement M
 same-words-spec = tie.close (tie.spec walk-requires returns)

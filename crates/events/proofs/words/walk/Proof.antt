@@ -4,7 +4,7 @@ use Rattle.std.proofs.Common.{◌≡◌, ℕ, suc, ◌+◌, ◌-◌, ◌<◌, �
 use borrow.Author.Tests.{eqb-false}
 use Rattle.laws.proofs.Windows.{cut}
 use Rattle.events.specs.Words.{alike}
-use Rattle.events.proofs.OneWalk.{one_more, none_alike, at-the-end}
+use Rattle.events.proofs.OneWalk.{one_more, none_alike, at_the_end}
 use Rattle.events.proofs.words.walk.Statement.{statement}
 use Rattle.events.proofs.words.walk.Tie as tie
 
@@ -13,19 +13,19 @@ abbrev left : List ℕ → ℕ → List ℕ → ℕ → ℕ → ℕ → ℕ
 left a i b k n j = alike (take (n - j) (drop (i + j) a)) (take (n - j) (drop (k + j) b))
 
 module _ (a : List ℕ) (i : ℕ) (b : List ℕ) (k n j : ℕ) (h : j < n) (ha : i + n ≤ length a) (hb : k + n ≤ length b) where
-  next_word :
+  next_word_lem :
       left a i b k n j
       ≡ alike (get_or a (i + j) 0 ∷ take (n - (j + 1)) (drop (i + (j + 1)) a)) (get_or b (k + j) 0 ∷ take (n - (j + 1)) (drop (k + (j + 1)) b))
-  next_word =
+  next_word_lem =
       let ea : i + (j + 1) ≡ i + j + 1 = omega arith in
       let eb : k + (j + 1) ≡ k + j + 1 = omega arith in
       rw (ea, eb, cut a (i + j) (n - j) (n - (j + 1)) (omega arith) (omega arith), cut b (k + j) (n - j) (n - (j + 1)) (omega arith) (omega arith))
 
   goes_on : get_or a (i + j) 0 ≡ get_or b (k + j) 0 → left a i b k n j ≡ suc (left a i b k n (j + 1))
-  goes_on e = next_word ∙ one_more _ _ _ _ (eq-eqb _ _ e)
+  goes_on e = next_word_lem ∙ one_more _ _ _ _ (eq-eqb _ _ e)
 
   stops-here : (get_or a (i + j) 0 ≡ get_or b (k + j) 0 → ⊥) → left a i b k n j ≡ 0
-  stops-here e = next_word ∙ none_alike _ _ _ _ (ne_eqb _ _ e)
+  stops-here e = next_word_lem ∙ none_alike _ _ _ _ (ne_eqb _ _ e)
 
 abbrev invariant-loop : tie.invariant-loop
 invariant-loop a i b k n walked₀ walked = (walked ≤ n) × (alike (take n (drop i a)) (take n (drop k b)) ≡ walked + left a i b k n walked)
@@ -87,7 +87,7 @@ returns-2 c =
     let a = c.before.before.args in
     let e : a.n - l.walked ≡ 0 = omega arith in
     let all = l.invariant.1 in
-    let end : left a.a.now a.i a.b.now a.k a.n l.walked ≡ 0 = rw e (at-the-end _) in
+    let end : left a.a.now a.i a.b.now a.k a.n l.walked ≡ 0 = rw e (at_the_end _) in
     omega (arith, all, end)
 
 pub walk-spec : {M : Type 1} → statement M

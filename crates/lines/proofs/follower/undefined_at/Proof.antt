@@ -5,7 +5,7 @@ use mathlib.Core.Bool.{Bool, true, false, not}
 use Rattle.laws.specs.Pick.{pick}
 use Rattle.lines.specs.declared.follower.Follower.{Follower}
 use Rattle.lines.specs.declared.follower.Answer.TheVariants.{Undefined}
-use Rattle.lines.specs.Follower.{idle, lost, told, undefinedAt}
+use Rattle.lines.specs.Follower.{idle, lost, told, undefined_at}
 use Rattle.lines.proofs.follower.undefined_at.Statement.{statement}
 use Rattle.lines.proofs.follower.undefined_at.Tie as tie
 
@@ -15,7 +15,7 @@ lost-unless true = refl
 lost-unless false = refl
 
 returns : tie.Need-returns
-unfolding undefinedAt
+unfolding undefined_at
 returns c = ap (told Undefined) (lost-unless _)
 
 pub undefined-at-spec : {M : Type 1} → statement M

@@ -3,8 +3,8 @@
 use mathlib.Core.Path.{sym, ap, ◌∙◌}
 use mathlib.Core.Bool.{Bool, not, ◌&&◌}
 use borrow.Author.Rules.{rules}
-use Rattle.laws.proofs.Pick.{pick-t, pick-f}
-use Rattle.lines.specs.Follower.{lacksHistory}
+use Rattle.laws.proofs.Pick.{pick_t, pick_f}
+use Rattle.lines.specs.Follower.{lacks_history}
 use Rattle.lines.specs.Turns.{takes}
 use Rattle.lines.proofs.plain.controller_takes.Statement.{statement}
 use Rattle.lines.proofs.plain.controller_takes.Tie as tie
@@ -17,7 +17,7 @@ never-reached-requires c κs = search rules
 
 returns : tie.Need-returns
 unfolding takes
-returns c = pick-t _ _ _ _ _ (ap not (sym c.before.before.is-reached.ensures.answer) ∙ c.before.if1.true) c.never-reached.ensures
+returns c = pick_t _ _ _ _ _ (ap not (sym c.before.before.is-reached.ensures.answer) ∙ c.before.if1.true) c.never-reached.ensures
 
 is-controllers-requires : tie.Need-is-controllers-requires
 is-controllers-requires c κs = search rules
@@ -26,19 +26,19 @@ moved-requires : tie.Need-moved-requires
 moved-requires c κs = search rules
 
 returns-2 : tie.Need-returns-2
-unfolding takes lacksHistory
+unfolding takes lacks_history
 returns-2 c =
-    pick-f _ _ _ _ _ (ap not (sym c.before.before.before.before.before.is-reached.ensures.answer) ∙ c.before.before.before.before.if1.false)
-    (pick-t _ _ _ _ _ (ap (λ (own : Bool). not c.before.before.before.before.before.before.args.follower.lost && own) (sym c.before.before.is-controllers.ensures) ∙ c.before.if2.true) c.moved.ensures)
+    pick_f _ _ _ _ _ (ap not (sym c.before.before.before.before.before.is-reached.ensures.answer) ∙ c.before.before.before.before.if1.false)
+    (pick_t _ _ _ _ _ (ap (λ (own : Bool). not c.before.before.before.before.before.before.args.follower.lost && own) (sym c.before.before.is-controllers.ensures) ∙ c.before.if2.true) c.moved.ensures)
 
 nobodys-move-requires : tie.Need-nobodys-move-requires
 nobodys-move-requires c κs = search rules
 
 returns-3 : tie.Need-returns-3
-unfolding takes lacksHistory
+unfolding takes lacks_history
 returns-3 c =
-    pick-f _ _ _ _ _ (ap not (sym c.before.before.before.before.before.is-reached.ensures.answer) ∙ c.before.before.before.before.if1.false)
-    (pick-f _ _ _ _ _ (ap (λ (own : Bool). not c.before.before.before.before.before.before.args.follower.lost && own) (sym c.before.before.is-controllers.ensures) ∙ c.before.if2.false) c.nobodys-move.ensures)
+    pick_f _ _ _ _ _ (ap not (sym c.before.before.before.before.before.is-reached.ensures.answer) ∙ c.before.before.before.before.if1.false)
+    (pick_f _ _ _ _ _ (ap (λ (own : Bool). not c.before.before.before.before.before.before.args.follower.lost && own) (sym c.before.before.is-controllers.ensures) ∙ c.before.if2.false) c.nobodys-move.ensures)
 
 pub controller-takes-spec : {M : Type 1} → statement M
 controller-takes-spec =

@@ -5,7 +5,7 @@ use mathlib.Core.Path.{◌≡◌, refl}
 use mathlib.Core.Bool.{Bool, true, false, not, ◌&&◌, ◌||◌, or-false, or_assoc}
 use borrow.Author.Tests.{eqb-true, ne_eqb}
 use lib.Dec.{eqb}
-use Rattle.lines.specs.Follower.{lacksHistory}
+use Rattle.lines.specs.Follower.{lacks_history}
 use Rattle.lines.proofs.plain.is_controllers.Statement.{statement}
 use Rattle.lines.proofs.plain.is_controllers.Tie as tie
 
@@ -36,39 +36,39 @@ at-24 new history = by-28 (eqb new 28) refl
     by-28 false p = rw p (no-need (eqb new 25 || eqb new 8) history)
 
 returns : tie.Need-returns
-unfolding lacksHistory
+unfolding lacks_history
 returns c = rw c.match.keys1 (simp (or-false, or_assoc) (no-need (eqb c.before.args.new 4 || (eqb c.before.args.new 1 || eqb c.before.args.new 16)) c.before.args.history))
 
 returns-2 : tie.Need-returns-2
-unfolding lacksHistory
+unfolding lacks_history
 returns-2 c = rw c.match.keys2 (simp or-false (no-need (eqb c.before.args.new 0) c.before.args.history))
 
 returns-3 : tie.Need-returns-3
-unfolding lacksHistory
+unfolding lacks_history
 returns-3 c = rw c.match.keys3 (simp or-false (no-need (eqb c.before.args.new 0) c.before.args.history))
 
 returns-4 : tie.Need-returns-4
-unfolding lacksHistory
+unfolding lacks_history
 returns-4 c = rw c.match.keys4 (simp or-false (at-16 (eqb c.before.args.new 0) c.before.args.history))
 
 returns-5 : tie.Need-returns-5
-unfolding lacksHistory
+unfolding lacks_history
 returns-5 c = rw c.match.keys5 (simp (or-false, or_assoc) (at-24 c.before.args.new c.before.args.history))
 
 returns-6 : tie.Need-returns-6
-unfolding lacksHistory
+unfolding lacks_history
 returns-6 c = rw c.match.keys6 (simp or-false (no-need (eqb c.before.args.new 26) c.before.args.history))
 
 returns-7 : tie.Need-returns-7
-unfolding lacksHistory
+unfolding lacks_history
 returns-7 c = rw c.match.keys7 (simp or-false (no-need (eqb c.before.args.new 31 || eqb c.before.args.new 26) c.before.args.history))
 
 returns-8 : tie.Need-returns-8
-unfolding lacksHistory
+unfolding lacks_history
 returns-8 c = rw c.match.keys8 (simp or-false (no-need (eqb c.before.args.new 28) c.before.args.history))
 
 returns-9 : tie.Need-returns-9
-unfolding lacksHistory
+unfolding lacks_history
 returns-9 c = rw c.match.keys9 (simp or-false (no-need (eqb c.before.args.new 16) c.before.args.history))
 
 returns-10 : tie.Need-returns-10

@@ -2,7 +2,7 @@
 -- Assumes nothing.
 use mathlib.Core.Path.{sym, ◌∙◌}
 use borrow.Author.Rules.{rules}
-use Rattle.lines.proofs.Turns.{drives-first, controllers-first}
+use Rattle.lines.proofs.Turns.{drives_first, controllers_first}
 use Rattle.lines.proofs.plain.read_stretch.Statement.{statement}
 use Rattle.lines.proofs.plain.read_stretch.Tie as tie
 
@@ -23,7 +23,7 @@ returns c =
     let asked : tie.After-is-drives = search in
     let start : tie.Start = search in
     let drives = sym asked.is-drives.ensures ∙ c.before.before.before.before.if1.true in
-    rw (drives-first start.args.follower start.args.stretch.now start.pre.0 drives) at c.before.before.drives-turn.ensures
+    rw (drives_first start.args.follower start.args.stretch.now start.pre.0 drives) at c.before.before.drives_turn_lem.ensures
 
 controllers-turn-requires : tie.Need-controllers-turn-requires
 controllers-turn-requires c κs = search rules
@@ -36,7 +36,7 @@ returns-2 c =
     let asked : tie.After-is-drives = search in
     let start : tie.Start = search in
     let controllers = sym asked.is-drives.ensures ∙ c.before.before.before.before.if1.false in
-    rw (controllers-first start.args.follower start.args.stretch.now start.pre.0 controllers) at c.before.before.controllers-turn.ensures
+    rw (controllers_first start.args.follower start.args.stretch.now start.pre.0 controllers) at c.before.before.controllers_turn_lem.ensures
 
 pub read-stretch-spec : {M : Type 1} → statement M
 read-stretch-spec =

@@ -4,7 +4,7 @@ use Prim.Native.Nat.{◌-◌}
 use native.Mathlib.Omega.{arith}
 use borrow.Author.Rules.{rules}
 use lib.ListN.{length}
-use Rattle.lines.proofs.ReadSoFar.{ReadTo, read_none, stretch-read, all_left}
+use Rattle.lines.proofs.ReadSoFar.{ReadTo, read_none, stretch_read, all_left}
 use Rattle.lines.proofs.plain.read_stretches.Statement.{statement}
 use Rattle.lines.proofs.plain.read_stretches.Tie as tie
 
@@ -45,9 +45,9 @@ read-stretch-requires c κs =
     let here : tie.At-loop invariant-loop decreases-loop = search in
     let inv = here.loop.inv in
     let stretch-length = c.before.read-stretch-arg.given.1 in
-    let room-length = c.read-stretch-arg2.given.1 in
+    let room_length = c.read-stretch-arg2.given.1 in
     let end = c.before.before.end-of-stretch.ensures in
-    (omega (arith, stretch-length, end.0), omega (arith, stretch-length, end.2), omega (arith, stretch-length, room-length, end.0, end.1, inv.enough, inv.kept))
+    (omega (arith, stretch-length, end.0), omega (arith, stretch-length, end.2), omega (arith, stretch-length, room_length, end.0, end.1, inv.enough, inv.kept))
 
 loop-less : tie.Need-loop-smaller invariant-loop decreases-loop
 loop-less c = search rules
@@ -56,7 +56,7 @@ loop-again : tie.Need-loop-preserved invariant-loop decreases-loop
 loop-again c =
     let here : tie.At-loop invariant-loop decreases-loop = search in
     let end = c.before.before.before.before.before.end-of-stretch.ensures in
-    stretch-read _ _ _ _ _ _ _ _ _ (omega (arith, end.0)) end.1 here.loop.inv c.before.before.read-stretch.ensures
+    stretch_read _ _ _ _ _ _ _ _ _ (omega (arith, end.0)) end.1 here.loop.inv c.before.before.read-stretch.ensures
 
 same_length : tie.Need-same-length invariant-loop decreases-loop
 same_length c = search rules

@@ -5,11 +5,11 @@ use mathlib.Core.Bool.{Bool, not, ◌&&◌}
 use mathlib.Core.List.{[], ◌∷◌}
 use borrow.Author.Rules.{rules}
 use borrow.Author.Tests.{not-true}
-use Rattle.laws.proofs.Pick.{pick-t, pick-f}
-use Rattle.lines.specs.Follower.{lacksHistory}
+use Rattle.laws.proofs.Pick.{pick_t, pick_f}
+use Rattle.lines.specs.Follower.{lacks_history}
 use Rattle.lines.specs.Turns.{takes}
-use Rattle.lines.proofs.Step.{unreached-refused, stepped}
-use Rattle.lines.proofs.Turns.{controller-takes, drive-takes, not-the-controllers}
+use Rattle.lines.proofs.Step.{unreached_refused, stepped}
+use Rattle.lines.proofs.Turns.{controller_takes_lem, drive_takes_lem, not_the_controllers}
 use Rattle.lines.proofs.plain.step_plainly.Statement.{statement}
 use Rattle.lines.proofs.plain.step_plainly.Tie as tie
 
@@ -22,7 +22,7 @@ never-reached-requires c κs = search rules
 returns : tie.Need-returns
 returns c =
     let unreached = sym c.before.before.is-reached.ensures.answer ∙ not-true _ c.before.if1.true in
-    stepped (c.never-reached.ensures ∙ sym (unreached-refused _ _ unreached))
+    stepped (c.never-reached.ensures ∙ sym (unreached_refused _ _ unreached))
 
 is-drives-requires : tie.Need-is-drives-requires
 is-drives-requires c κs = search rules
@@ -35,8 +35,8 @@ unfolding takes
 returns-2 c =
     let start = c.before.before.before.before.before in
     let drives = sym c.before.before.is-drives.ensures ∙ c.before.if2.true in
-    let said = pick-f _ _ _ _ _ (ap not (sym c.before.before.before.before.is-reached.ensures.answer) ∙ c.before.before.before.if1.false) (pick-t _ _ _ _ _ drives c.moved.ensures) in
-    stepped (said ∙ drive-takes _ _ (not-the-controllers start.args.follower (start.args.setting ∷ []) drives))
+    let said = pick_f _ _ _ _ _ (ap not (sym c.before.before.before.before.is-reached.ensures.answer) ∙ c.before.before.before.if1.false) (pick_t _ _ _ _ _ drives c.moved.ensures) in
+    stepped (said ∙ drive_takes_lem _ _ (not_the_controllers start.args.follower (start.args.setting ∷ []) drives))
 
 is-controllers-requires : tie.Need-is-controllers-requires
 is-controllers-requires c κs = search rules
@@ -45,23 +45,23 @@ moved-requires-2 : tie.Need-moved-requires-2
 moved-requires-2 c κs = search rules
 
 returns-3 : tie.Need-returns-3
-unfolding takes lacksHistory
+unfolding takes lacks_history
 returns-3 c =
     let start = c.before.before.before.before.before.before.before.before in
     let controllers = ap (λ (own : Bool). not start.args.follower.lost && own) (sym c.before.before.is-controllers.ensures) ∙ c.before.if3.true in
-    let said = pick-f _ _ _ _ _ (ap not (sym c.before.before.before.before.before.before.before.is-reached.ensures.answer) ∙ c.before.before.before.before.before.before.if1.false) (pick-t _ _ _ _ _ controllers c.moved2.ensures) in
-    stepped (said ∙ controller-takes _ _ (sym c.before.before.before.before.before.is-drives.ensures ∙ c.before.before.before.before.if2.false))
+    let said = pick_f _ _ _ _ _ (ap not (sym c.before.before.before.before.before.before.before.is-reached.ensures.answer) ∙ c.before.before.before.before.before.before.if1.false) (pick_t _ _ _ _ _ controllers c.moved2.ensures) in
+    stepped (said ∙ controller_takes_lem _ _ (sym c.before.before.before.before.before.is-drives.ensures ∙ c.before.before.before.before.if2.false))
 
 nobodys-move-requires : tie.Need-nobodys-move-requires
 nobodys-move-requires c κs = search rules
 
 returns-4 : tie.Need-returns-4
-unfolding takes lacksHistory
+unfolding takes lacks_history
 returns-4 c =
     let start = c.before.before.before.before.before.before.before.before in
     let neither = ap (λ (own : Bool). not start.args.follower.lost && own) (sym c.before.before.is-controllers.ensures) ∙ c.before.if3.false in
-    let said = pick-f _ _ _ _ _ (ap not (sym c.before.before.before.before.before.before.before.is-reached.ensures.answer) ∙ c.before.before.before.before.before.before.if1.false) (pick-f _ _ _ _ _ neither c.nobodys-move.ensures) in
-    stepped (said ∙ controller-takes _ _ (sym c.before.before.before.before.before.is-drives.ensures ∙ c.before.before.before.before.if2.false))
+    let said = pick_f _ _ _ _ _ (ap not (sym c.before.before.before.before.before.before.before.is-reached.ensures.answer) ∙ c.before.before.before.before.before.before.if1.false) (pick_f _ _ _ _ _ neither c.nobodys-move.ensures) in
+    stepped (said ∙ controller_takes_lem _ _ (sym c.before.before.before.before.before.is-drives.ensures ∙ c.before.before.before.before.if2.false))
 
 pub step-plainly-spec : {M : Type 1} → statement M
 step-plainly-spec =

@@ -3,7 +3,7 @@
 use mathlib.Core.Path.{refl}
 use borrow.Author.Rules.{rules}
 use Rattle.laws.specs.Pick.{pick}
-use Rattle.lines.specs.Moves.{entry_of, movesTable}
+use Rattle.lines.specs.Moves.{entry_of, moves_table}
 use Rattle.lines.proofs.ReadSoFar.{told_of, no_room}
 use Rattle.lines.proofs.reading.follow.Statement.{statement}
 use Rattle.lines.proofs.reading.follow.Tie as tie
@@ -15,7 +15,7 @@ slice-aggregate-steps : tie.Need-slice-aggregate-steps
 slice-aggregate-steps c = search rules
 
 steps-requires : tie.Need-steps-requires
-unfolding movesTable entry_of pick
+unfolding moves_table entry_of pick
 steps-requires c κs =
     let enough : tie.Else1 = search in
     (refl, enough.if1.left)

@@ -1,7 +1,7 @@
 -- `listing::list` is safe: the defects of a map that was decoded stand in the slice.
 -- Assumes nothing.
 use borrow.Author.Rules.{rules}
-use Rattle.list_defects.proofs.Fits.{told-within}
+use Rattle.list_defects.proofs.Fits.{told_within}
 use Rattle.list_defects.proofs.listing.list.Statement.{statement}
 use Rattle.list_defects.proofs.listing.list.Tie as tie
 
@@ -14,7 +14,7 @@ enum-known-count c = search rules
 say-map-requires : tie.Need-say-map-requires
 say-map-requires c κs =
     let called = c.before.before.before.before.before.before in
-    told-within (rw c.before.before.count.given.1 at called.decode-map.ensures) called.decode-map.auto.1.1.0
+    told_within (rw c.before.before.count.given.1 at called.decode-map.ensures) called.decode-map.auto.1.1.0
 
 enum-known-number : tie.Need-enum-known-number
 enum-known-number c = search rules

@@ -14,12 +14,12 @@ use lib.ListN.{length, drop, get_or, drop_of_length-le}
 use lib.Seq.{drop-cons}
 use Rattle.laws.specs.Pick.{pick}
 use Rattle.laws.proofs.Tests.{and_l, and_r}
-use Rattle.numbers.specs.Number.{isDigit, decimalAfter, number_in}
+use Rattle.numbers.specs.Number.{is_digit, decimal_after, number_in}
 use Rattle.numbers.specs.declared.number.Number.TheVariants.{Is, Not}
 use Rattle.numbers.proofs.number.number_of.Statement.{statement}
 use Rattle.numbers.proofs.number.number_of.Tie as tie
 
-digit-bounds : (octet : ℕ) → isDigit octet ≡ true → (48 ≤ octet) × (octet ≤ 57)
+digit-bounds : (octet : ℕ) → is_digit octet ≡ true → (48 ≤ octet) × (octet ≤ 57)
 digit-bounds octet d =
     let low = leb 48 octet in
     let high = leb octet 57 in
@@ -29,10 +29,10 @@ record Reading (digits : List ℕ) (number i : ℕ) : Type 0 where
   some : 1 ≤ length digits
   few : length digits ≤ 10
   small : number < 10 ^ i
-  left : decimalAfter number (drop i digits) ≡ decimalAfter 0 digits
+  left : decimal_after number (drop i digits) ≡ decimal_after 0 digits
 
 module _ {digits : List ℕ} {number i : ℕ} (here : Reading digits number i) where
-  all_read : decimalAfter number (drop i digits) ≡ number_in digits
+  all_read : decimal_after number (drop i digits) ≡ number_in digits
   unfolding pick number_in
   all_read = rw (le-leb 1 (length digits) here.some, le-leb (length digits) 10 here.few) here.left
 
@@ -41,7 +41,7 @@ module _ {digits : List ℕ} {number i : ℕ} (here : Reading digits number i) w
   ended h = rw (drop_of_length-le digits h) at all_read
 
   module _ (more : i < length digits) where
-    stopped : isDigit (get_or digits i 0) ≡ false → Not ≡ number_in digits
+    stopped : is_digit (get_or digits i 0) ≡ false → Not ≡ number_in digits
     unfolding pick
     stopped e = rw (drop-cons digits i 0 more, e) at all_read
 
@@ -52,7 +52,7 @@ module _ {digits : List ℕ} {number i : ℕ} (here : Reading digits number i) w
         let most : 10 ^ i ≤ 1000000000 = pow-le-pow_right (omega arith) place in
         omega (arith, here.small)
 
-    next : (value : ℕ) → value ≡ get_or digits i 0 - 48 → isDigit (get_or digits i 0) ≡ true → Reading digits (number * 10 + value) (i + 1)
+    next : (value : ℕ) → value ≡ get_or digits i 0 - 48 → is_digit (get_or digits i 0) ≡ true → Reading digits (number * 10 + value) (i + 1)
     unfolding pick
     next value e d =
         let bounds = digit-bounds (get_or digits i 0) d in
@@ -97,7 +97,7 @@ returns-3 c =
 
 digit-told : (c : tie.Else3 invariant-loop decreases-loop)
     → let loop = c.before.before.before.before in
-    isDigit (get_or loop.before.before.before.before.args.digits.now loop.loop.i 0) ≡ true
+    is_digit (get_or loop.before.before.before.before.args.digits.now loop.loop.i 0) ≡ true
 digit-told c = sym c.before.is_digit.ensures ∙ not-false _ c.if3.false
 
 mul-number : tie.Need-overflow-mul-number invariant-loop decreases-loop

@@ -1,7 +1,7 @@
 -- `pantoglide::defect_calls::pg_encode_defect` meets its contract: the 12 octets, or the refusal.
 -- Assumes nothing.
 use borrow.Author.Rules.{rules}
-use Rattle.pantoglide.proofs.Defects.{defect-made, defect-not-made}
+use Rattle.pantoglide.proofs.Defects.{defect_made, defect_not_made}
 use Rattle.pantoglide.proofs.defect_calls.pg_encode_defect.Statement.{statement}
 use Rattle.pantoglide.proofs.defect_calls.pg_encode_defect.Tie as tie
 
@@ -18,13 +18,13 @@ same_length : tie.Need-same-length
 same_length c = search rules
 
 returns : tie.Need-returns
-returns c = defect-made (rw c.enum_told.given.1 at c.before.before.before.before.encode-defect.ensures)
+returns c = defect_made (rw c.enum_told.given.1 at c.before.before.before.before.encode-defect.ensures)
 
 same-length-2 : tie.Need-same-length-2
 same-length-2 c = search rules
 
 returns-2 : tie.Need-returns-2
-returns-2 c = defect-not-made (rw c.before.n.given.1 at c.before.before.before.before.before.encode-defect.ensures)
+returns-2 c = defect_not_made (rw c.before.n.given.1 at c.before.before.before.before.before.encode-defect.ensures)
 
 pub pg-encode-defect-spec : {M : Type 1} → statement M
 pg-encode-defect-spec =

@@ -1,6 +1,6 @@
 -- `follower_octet` meets its contract.
 -- Assumes nothing.
-use Rattle.pantoglide.specs.Line.{followerOctet}
+use Rattle.pantoglide.specs.Line.{follower_octet}
 use borrow.Author.Rules.{rules}
 use Rattle.pantoglide.proofs.line.follower_octet.Statement.{statement}
 use Rattle.pantoglide.proofs.line.follower_octet.Tie as tie
@@ -18,7 +18,7 @@ add-result-2 : tie.Need-overflow-add-result-2
 add-result-2 c = search rules
 
 returns : tie.Need-returns
-unfolding followerOctet
+unfolding follower_octet
 returns c = rw (c.before.before.mark.ensures.0, c.before.mark2.ensures.0)
 
 pub follower-octet-spec : {M : Type 1} → statement M

@@ -1,12 +1,12 @@
 -- `pg_line` meets its contract: what the follower answers, and its octet.
 -- Assumes nothing.
-use Rattle.pantoglide.proofs.Lines.{no-follower, line-told, line_refused}
+use Rattle.pantoglide.proofs.Lines.{no_follower, line_told, line_refused}
 use borrow.Author.Rules.{rules}
 use Rattle.pantoglide.proofs.line.pg_line.Statement.{statement}
 use Rattle.pantoglide.proofs.line.pg_line.Tie as tie
 
 returns : tie.Need-returns
-returns c = no-follower _ _ c.if1.true
+returns c = no_follower _ _ c.if1.true
 
 slice-read-follower-in : tie.Need-slice-read-follower-in
 slice-read-follower-in c = search rules
@@ -30,7 +30,7 @@ same_length : tie.Need-same-length
 same_length c = search rules
 
 returns-2 : tie.Need-returns-2
-returns-2 c = line-told _ _ _ _ c.before.before.before.before.before.before.before.if1.false (rw c.before.before.before.before.before.follower-in.ensures at c.before.before.before.before.step-plainly.ensures) c.before.before.octet.ensures.answer _ c.before.if2.true c.follower-octet.ensures
+returns-2 c = line_told _ _ _ _ c.before.before.before.before.before.before.before.if1.false (rw c.before.before.before.before.before.follower-in.ensures at c.before.before.before.before.step-plainly.ensures) c.before.before.octet.ensures.answer _ c.before.if2.true c.follower-octet.ensures
 
 returns-3 : tie.Need-returns-3
 returns-3 c = line_refused _ _ _ _ c.before.before.before.before.before.before.if1.false (rw c.before.before.before.before.follower-in.ensures at c.before.before.before.step-plainly.ensures) c.before.octet.ensures.answer c.if2.false

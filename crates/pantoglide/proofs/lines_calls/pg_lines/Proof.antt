@@ -1,13 +1,13 @@
 -- `pg_lines` meets its contract.
 -- Assumes nothing.
 use borrow.Author.Rules.{rules}
-use Rattle.lines.specs.Reading.{stepByStep}
-use Rattle.pantoglide.proofs.LinesRead.{no-octet, trace-followed, trace-refused}
+use Rattle.lines.specs.Reading.{step_by_step}
+use Rattle.pantoglide.proofs.LinesRead.{no_octet, trace_followed, trace_refused_lem}
 use Rattle.pantoglide.proofs.lines_calls.pg_lines.Statement.{statement}
 use Rattle.pantoglide.proofs.lines_calls.pg_lines.Tie as tie
 
 returns : tie.Need-returns
-returns c = no-octet _ _ _ _ c.if1.true
+returns c = no_octet _ _ _ _ c.if1.true
 
 slice-read-follower-in : tie.Need-slice-read-follower-in
 slice-read-follower-in c = search rules
@@ -36,7 +36,7 @@ returns-2 c =
     let read : tie.After-follow = search in
     let octet : tie.After-follower-in = search in
     let else1 : tie.Else1 = search in
-    trace-refused stepByStep _ _ _ else1.if1.left (rw (told.n.given.1, octet.follower-in.ensures) at read.follow.ensures)
+    trace_refused_lem step_by_step _ _ _ else1.if1.left (rw (told.n.given.1, octet.follower-in.ensures) at read.follow.ensures)
 
 same-length-2 : tie.Need-same-length-2
 same-length-2 c = search rules
@@ -50,7 +50,7 @@ returns-3 c =
     let read : tie.After-follow = search in
     let octet : tie.After-follower-in = search in
     let else1 : tie.Else1 = search in
-    let followed = trace-followed stepByStep _ _ _ else1.if1.left (rw (told.last.given.1, octet.follower-in.ensures) at read.follow.ensures) in
+    let followed = trace_followed step_by_step _ _ _ else1.if1.left (rw (told.last.given.1, octet.follower-in.ensures) at read.follow.ensures) in
     rw c.before.before.put_last.ensures followed
 
 pub pg-lines-spec : {M : Type 1} → statement M

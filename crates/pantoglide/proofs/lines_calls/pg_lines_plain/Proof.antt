@@ -1,13 +1,13 @@
 -- `pg_lines_plain` meets its contract.
 -- Assumes nothing.
 use borrow.Author.Rules.{rules}
-use Rattle.lines.specs.Turns.{readPlainly}
-use Rattle.pantoglide.proofs.LinesRead.{no-octet, trace-followed, trace-refused}
+use Rattle.lines.specs.Turns.{read_plainly}
+use Rattle.pantoglide.proofs.LinesRead.{no_octet, trace_followed, trace_refused_lem}
 use Rattle.pantoglide.proofs.lines_calls.pg_lines_plain.Statement.{statement}
 use Rattle.pantoglide.proofs.lines_calls.pg_lines_plain.Tie as tie
 
 returns : tie.Need-returns
-returns c = no-octet _ _ _ _ c.if1.true
+returns c = no_octet _ _ _ _ c.if1.true
 
 slice-read-follower-in : tie.Need-slice-read-follower-in
 slice-read-follower-in c = search rules
@@ -36,7 +36,7 @@ returns-2 c =
     let read : tie.After-read-plainly = search in
     let octet : tie.After-follower-in = search in
     let else1 : tie.Else1 = search in
-    trace-refused readPlainly _ _ _ else1.if1.left (rw (told.n.given.1, octet.follower-in.ensures) at read.read-plainly.ensures)
+    trace_refused_lem read_plainly _ _ _ else1.if1.left (rw (told.n.given.1, octet.follower-in.ensures) at read.read-plainly.ensures)
 
 same-length-2 : tie.Need-same-length-2
 same-length-2 c = search rules
@@ -50,7 +50,7 @@ returns-3 c =
     let read : tie.After-read-plainly = search in
     let octet : tie.After-follower-in = search in
     let else1 : tie.Else1 = search in
-    let followed = trace-followed readPlainly _ _ _ else1.if1.left (rw (told.last.given.1, octet.follower-in.ensures) at read.read-plainly.ensures) in
+    let followed = trace_followed read_plainly _ _ _ else1.if1.left (rw (told.last.given.1, octet.follower-in.ensures) at read.read-plainly.ensures) in
     rw c.before.before.put_last.ensures followed
 
 pub pg-lines-plain-spec : {M : Type 1} → statement M

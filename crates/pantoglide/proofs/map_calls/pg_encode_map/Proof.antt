@@ -1,7 +1,7 @@
 -- `pantoglide::map_calls::pg_encode_map` meets its contract: the map, or the refusal.
 -- Assumes nothing.
 use borrow.Author.Rules.{rules}
-use Rattle.pantoglide.proofs.Defects.{map-made, map-not-made}
+use Rattle.pantoglide.proofs.Defects.{map_made, map_not_made}
 use Rattle.pantoglide.proofs.map_calls.pg_encode_map.Statement.{statement}
 use Rattle.pantoglide.proofs.map_calls.pg_encode_map.Tie as tie
 
@@ -18,13 +18,13 @@ same_length : tie.Need-same-length
 same_length c = search rules
 
 returns : tie.Need-returns
-returns c = map-made (rw c.before.octets.given.1 at c.before.before.before.before.before.encode-map.ensures)
+returns c = map_made (rw c.before.octets.given.1 at c.before.before.before.before.before.encode-map.ensures)
 
 same-length-2 : tie.Need-same-length-2
 same-length-2 c = search rules
 
 returns-2 : tie.Need-returns-2
-returns-2 c = map-not-made (rw c.before.n.given.1 at c.before.before.before.before.before.encode-map.ensures)
+returns-2 c = map_not_made (rw c.before.n.given.1 at c.before.before.before.before.before.encode-map.ensures)
 
 pub pg-encode-map-spec : {M : Type 1} → statement M
 pg-encode-map-spec =

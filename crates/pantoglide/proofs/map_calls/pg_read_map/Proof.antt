@@ -1,7 +1,7 @@
 -- `pantoglide::map_calls::pg_read_map` meets its contract: what the map tells, or its first offence.
 -- Assumes nothing.
 use borrow.Author.Rules.{rules}
-use Rattle.pantoglide.proofs.Defects.{map-read-off, map-not-read-off}
+use Rattle.pantoglide.proofs.Defects.{map_read_off, map_not_read_off}
 use Rattle.pantoglide.proofs.map_calls.pg_read_map.Statement.{statement}
 use Rattle.pantoglide.proofs.map_calls.pg_read_map.Tie as tie
 
@@ -18,13 +18,13 @@ same_length : tie.Need-same-length
 same_length c = search rules
 
 returns : tie.Need-returns
-returns c = map-read-off (rw c.before.listed.given.1 at c.before.before.before.before.before.read-map.ensures)
+returns c = map_read_off (rw c.before.listed.given.1 at c.before.before.before.before.before.read-map.ensures)
 
 same-length-2 : tie.Need-same-length-2
 same-length-2 c = search rules
 
 returns-2 : tie.Need-returns-2
-returns-2 c = map-not-read-off (rw c.before.number.given.1 at c.before.before.before.before.before.read-map.ensures)
+returns-2 c = map_not_read_off (rw c.before.number.given.1 at c.before.before.before.before.before.read-map.ensures)
 
 pub pg-read-map-spec : {M : Type 1} → statement M
 pg-read-map-spec =

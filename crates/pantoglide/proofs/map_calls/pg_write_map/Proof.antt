@@ -1,7 +1,7 @@
 -- `pantoglide::map_calls::pg_write_map` meets its contract: the map in its places, or the refusal.
 -- Assumes nothing.
 use borrow.Author.Rules.{rules}
-use Rattle.pantoglide.proofs.Defects.{map-put, map-not-put}
+use Rattle.pantoglide.proofs.Defects.{map_put, map_not_put}
 use Rattle.pantoglide.proofs.map_calls.pg_write_map.Statement.{statement}
 use Rattle.pantoglide.proofs.map_calls.pg_write_map.Tie as tie
 
@@ -18,13 +18,13 @@ same_length : tie.Need-same-length
 same_length c = search rules
 
 returns : tie.Need-returns
-returns c = map-put (rw c.enum_told.given.1 at c.before.before.before.before.write-map.ensures)
+returns c = map_put (rw c.enum_told.given.1 at c.before.before.before.before.write-map.ensures)
 
 same-length-2 : tie.Need-same-length-2
 same-length-2 c = search rules
 
 returns-2 : tie.Need-returns-2
-returns-2 c = map-not-put (rw c.before.n.given.1 at c.before.before.before.before.before.write-map.ensures)
+returns-2 c = map_not_put (rw c.before.n.given.1 at c.before.before.before.before.before.write-map.ensures)
 
 pub pg-write-map-spec : {M : Type 1} → statement M
 pg-write-map-spec =

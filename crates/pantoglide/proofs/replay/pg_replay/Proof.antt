@@ -1,6 +1,6 @@
 -- `pg_replay` meets its contract.
 -- Assumes nothing.
-use Rattle.pantoglide.proofs.Replays.{no_number, replay-ran, replay-refused}
+use Rattle.pantoglide.proofs.Replays.{no_number, replay_ran, replay_refused}
 use borrow.Author.Rules.{rules}
 use Rattle.pantoglide.proofs.replay.pg_replay.Statement.{statement}
 use Rattle.pantoglide.proofs.replay.pg_replay.Tie as tie
@@ -43,7 +43,7 @@ returns-2 c =
     let told : tie.After-count = search in
     let replayed : tie.After-replay-part = search in
     let else1 : tie.Else1 = search in
-    replay-ran else1.if1.left (rw told.count.given.1 at replayed.replay-part.ensures)
+    replay_ran else1.if1.left (rw told.count.given.1 at replayed.replay-part.ensures)
 
 same-length-7 : tie.Need-same-length-7
 same-length-7 c = search rules
@@ -65,7 +65,7 @@ returns-3 c =
     let told : tie.After-n = search in
     let replayed : tie.After-replay-part = search in
     let else1 : tie.Else1 = search in
-    replay-refused else1.if1.left (rw told.n.given.1 at replayed.replay-part.ensures)
+    replay_refused else1.if1.left (rw told.n.given.1 at replayed.replay-part.ensures)
 
 pub pg-replay-spec : {M : Type 1} → statement M
 pg-replay-spec =

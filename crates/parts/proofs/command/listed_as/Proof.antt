@@ -3,7 +3,7 @@
 use mathlib.Core.Path.{sym, ◌∙◌}
 use borrow.Author.Tests.{ne_eqb}
 use Rattle.laws.specs.Pick.{pick}
-use Rattle.parts.specs.Command.{functionOf}
+use Rattle.parts.specs.Command.{function_of}
 use borrow.Author.Rules.{rules}
 use Rattle.parts.proofs.command.listed_as.Statement.{statement}
 use Rattle.parts.proofs.command.listed_as.Tie as tie
@@ -12,7 +12,7 @@ function-acts-on-more-requires : tie.Need-function-acts-on-more-requires
 function-acts-on-more-requires c κs = search rules
 
 returns : tie.Need-returns
-unfolding functionOf pick
+unfolding function_of pick
 returns c =
     let rest : tie.At-match-rest = search in
     let more : tie.After-function-acts-on-more = search in
@@ -20,27 +20,27 @@ returns c =
     rw (ne_eqb _ 0x13 none.0.0.0.0.1, ne_eqb _ 0x14 none.0.0.0.1, ne_eqb _ 0x15 none.0.0.1, ne_eqb _ 0x20 none.0.1, ne_eqb _ 0x28 none.1, sym more.function-acts-on-more.ensures ∙ c.if1.true)
 
 returns-2 : tie.Need-returns-2
-unfolding functionOf pick
+unfolding function_of pick
 returns-2 c = rw c.match.keys1
 
 returns-3 : tie.Need-returns-3
-unfolding functionOf pick
+unfolding function_of pick
 returns-3 c = rw c.match.keys2
 
 returns-4 : tie.Need-returns-4
-unfolding functionOf pick
+unfolding function_of pick
 returns-4 c = rw c.match.keys3
 
 returns-5 : tie.Need-returns-5
-unfolding functionOf pick
+unfolding function_of pick
 returns-5 c = rw c.match.keys4
 
 returns-6 : tie.Need-returns-6
-unfolding functionOf pick
+unfolding function_of pick
 returns-6 c = rw c.match.keys5
 
 returns-7 : tie.Need-returns-7
-unfolding functionOf pick
+unfolding function_of pick
 returns-7 c =
     let rest : tie.At-match-rest = search in
     let more : tie.After-function-acts-on-more = search in

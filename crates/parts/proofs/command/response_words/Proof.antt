@@ -7,24 +7,24 @@ use native.Mathlib.Omega.{arith}
 use lib.Dec.{eqb}
 use borrow.Author.Tests.{ne_eqb}
 use Rattle.laws.specs.Pick.{pick}
-use Rattle.parts.specs.Command.{parameterWords}
+use Rattle.parts.specs.Command.{parameter_words}
 use Rattle.parts.proofs.command.response_words.Statement.{statement}
 use Rattle.parts.proofs.command.response_words.Tie as tie
 
 returns : tie.Need-returns
-unfolding parameterWords pick
+unfolding parameter_words pick
 returns c = rw c.match.keys1
 
 returns-2 : tie.Need-returns-2
-unfolding parameterWords pick
+unfolding parameter_words pick
 returns-2 c = rw c.match.keys2
 
 returns-3 : tie.Need-returns-3
-unfolding parameterWords pick
+unfolding parameter_words pick
 returns-3 c = rw c.match.keys3
 
 returns-4 : tie.Need-returns-4
-unfolding parameterWords pick
+unfolding parameter_words pick
 returns-4 c =
     let start : tie.Start = search in
     let none = c.match.rest in

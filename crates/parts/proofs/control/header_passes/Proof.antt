@@ -1,6 +1,6 @@
 -- `header_passes` meets its contract.
 -- Assumes nothing.
-use Rattle.parts.specs.Control.{headerPasses}
+use Rattle.parts.specs.Control.{header_passes}
 use borrow.Author.Rules.{rules}
 use Rattle.parts.proofs.control.header_passes.Statement.{statement}
 use Rattle.parts.proofs.control.header_passes.Tie as tie
@@ -12,7 +12,7 @@ moves-header-requires : tie.Need-moves-header-requires
 moves-header-requires c κs = search rules
 
 returns : tie.Need-returns
-unfolding headerPasses
+unfolding header_passes
 returns c = cc
 
 pub header-passes-spec : {M : Type 1} → statement M

@@ -1,7 +1,7 @@
 -- `status::drive_status::encode_drive_status` meets its contract: one store at the front.
 -- Assumes nothing.
 use borrow.Author.Rules.{rules}
-use Rattle.status.specs.DriveStatus.{driveStatusOctets}
+use Rattle.status.specs.DriveStatus.{drive_status_octets}
 use Rattle.status.proofs.Encoding.{too_short, written}
 use Rattle.status.proofs.drive_status.encode_drive_status.Statement.{statement}
 use Rattle.status.proofs.drive_status.encode_drive_status.Tie as tie
@@ -21,7 +21,7 @@ same_length c = search rules
 returns-2 : tie.Need-returns-2
 returns-2 c =
     let a = c.before.before.before.args in
-    rw c.octet-of.ensures (written (driveStatusOctets a.status) a.octets.now c.before.if1.false)
+    rw c.octet-of.ensures (written (drive_status_octets a.status) a.octets.now c.before.if1.false)
 
 pub encode-drive-status-spec : {M : Type 1} → statement M
 encode-drive-status-spec =

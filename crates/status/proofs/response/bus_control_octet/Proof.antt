@@ -1,6 +1,6 @@
 -- `status::response::bus_control_octet` meets its contract: each sum is of the bits that `bit_when` gives.
 -- Assumes nothing.
-use Rattle.status.specs.Response.{busControlOctet}
+use Rattle.status.specs.Response.{bus_control_octet}
 use borrow.Author.Rules.{rules}
 use Rattle.status.proofs.response.bus_control_octet.Statement.{statement}
 use Rattle.status.proofs.response.bus_control_octet.Tie as tie
@@ -27,7 +27,7 @@ add-result-3 : tie.Need-overflow-add-result-3
 add-result-3 c = search rules
 
 returns : tie.Need-returns
-unfolding busControlOctet
+unfolding bus_control_octet
 returns c = cc
 
 pub bus-control-octet-spec : {M : Type 1} → statement M

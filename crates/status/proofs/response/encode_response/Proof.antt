@@ -2,7 +2,7 @@
 -- Assumes nothing.
 use lib.ListN.{length-set}
 use native.Mathlib.Omega.{arith}
-use Rattle.status.specs.Response.{responseOctets}
+use Rattle.status.specs.Response.{response_octets}
 use Rattle.status.proofs.Encoding.{too_short, written}
 use borrow.Author.Rules.{rules}
 use Rattle.status.proofs.response.encode_response.Statement.{statement}
@@ -51,7 +51,7 @@ returns-2 : tie.Need-returns-2
 returns-2 c =
     let a = c.before.before.before.before.before.args in
     rw (c.exception-octet.ensures, c.before.bus-control-octet.ensures, c.before.before.unsolicited-octet.ensures)
-    (written (responseOctets a.response) a.octets.now c.before.before.before.if1.false)
+    (written (response_octets a.response) a.octets.now c.before.before.before.if1.false)
 
 pub encode-response-spec : {M : Type 1} → statement M
 encode-response-spec =

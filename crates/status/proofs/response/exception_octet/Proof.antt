@@ -1,6 +1,6 @@
 -- `status::response::exception_octet` meets its contract: each sum is of the bits that `bit_when` gives.
 -- Assumes nothing.
-use Rattle.status.specs.Response.{exceptionOctet}
+use Rattle.status.specs.Response.{exception_octet}
 use borrow.Author.Rules.{rules}
 use Rattle.status.proofs.response.exception_octet.Statement.{statement}
 use Rattle.status.proofs.response.exception_octet.Tie as tie
@@ -15,7 +15,7 @@ add-result : tie.Need-overflow-add-result
 add-result c = search rules
 
 returns : tie.Need-returns
-unfolding exceptionOctet
+unfolding exception_octet
 returns c = cc
 
 pub exception-octet-spec : {M : Type 1} → statement M

@@ -1,7 +1,7 @@
--- `status::response::is_foreign` meets its contract: the masks leave the bits that `hasOther` names.
+-- `status::response::is_foreign` meets its contract: the masks leave the bits that `has_other` names.
 -- Assumes nothing.
 use Rattle.status.specs.Response.{is_foreign}
-use Rattle.status.proofs.Bits.{mask-two, mask-four}
+use Rattle.status.proofs.Bits.{mask_two, mask_four}
 use borrow.Author.Rules.{rules}
 use lib.ListN.{get_or}
 use Rattle.status.proofs.response.is_foreign.Statement.{statement}
@@ -55,8 +55,8 @@ returns c =
       c.exception-octet.ensures,
       b.has-other2.ensures,
       b.before.before.has_other.ensures,
-      mask-two (get_or octets 1 0),
-      mask-four (get_or octets 2 0),
+      mask_two (get_or octets 1 0),
+      mask_four (get_or octets 2 0),
     )
 
 pub is-foreign-spec : {M : Type 1} → statement M

@@ -1,6 +1,6 @@
 -- `status::response::unsolicited_octet` meets its contract: each sum is of the bits that `bit_when` gives.
 -- Assumes nothing.
-use Rattle.status.specs.Response.{unsolicitedOctet}
+use Rattle.status.specs.Response.{unsolicited_octet}
 use borrow.Author.Rules.{rules}
 use Rattle.status.proofs.response.unsolicited_octet.Statement.{statement}
 use Rattle.status.proofs.response.unsolicited_octet.Tie as tie
@@ -15,7 +15,7 @@ add-result : tie.Need-overflow-add-result
 add-result c = search rules
 
 returns : tie.Need-returns
-unfolding unsolicitedOctet
+unfolding unsolicited_octet
 returns c = cc
 
 pub unsolicited-octet-spec : {M : Type 1} → statement M

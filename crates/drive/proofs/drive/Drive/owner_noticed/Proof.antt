@@ -1,7 +1,7 @@
 -- `owner_noticed` meets its contract.
 -- Assumes nothing.
-use Rattle.drive.specs.Drive.{ownerNoticed}
-use Rattle.drive.specs.State.{pendingOn}
+use Rattle.drive.specs.Drive.{owner_noticed}
+use Rattle.drive.specs.State.{pending_on}
 use Rattle.laws.specs.Pick.{pick}
 use borrow.Author.Rules.{rules}
 use Rattle.drive.proofs.drive.Drive.owner_noticed.Statement.{statement}
@@ -20,11 +20,11 @@ posted-on-requires : tie.Need-posted-on-requires
 posted-on-requires c κs = search rules
 
 returns : tie.Need-returns
-unfolding ownerNoticed pendingOn pick
+unfolding owner_noticed pending_on pick
 returns c = rw (← c.before.before.before.before.is-owned-by-other.ensures, c.before.before.before.if1.true) (cc)
 
 returns-2 : tie.Need-returns-2
-unfolding ownerNoticed pendingOn pick
+unfolding owner_noticed pending_on pick
 returns-2 c = rw (← c.before.is-owned-by-other.ensures, c.if1.false)
 
 pub owner-noticed-spec : {M : Type 1} → statement M

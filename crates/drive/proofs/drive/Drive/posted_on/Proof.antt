@@ -1,6 +1,6 @@
 -- `posted_on` meets its contract.
 -- Assumes nothing.
-use Rattle.drive.specs.State.{postedOn}
+use Rattle.drive.specs.State.{posted_on}
 use borrow.Author.Rules.{rules}
 use Rattle.drive.proofs.drive.Drive.posted_on.Statement.{statement}
 use Rattle.drive.proofs.drive.Drive.posted_on.Tie as tie
@@ -12,7 +12,7 @@ chosen-requires-2 : tie.Need-chosen-requires-2
 chosen-requires-2 c κs = search rules
 
 returns : tie.Need-returns
-unfolding postedOn
+unfolding posted_on
 returns c = cc
 
 pub posted-on-spec : {M : Type 1} → statement M

@@ -1,6 +1,6 @@
 -- `reset` meets its contract.
 -- Assumes nothing.
-use Rattle.drive.specs.Drive.{afterReset}
+use Rattle.drive.specs.Drive.{after_reset}
 use borrow.Author.Rules.{rules}
 use Rattle.drive.proofs.drive.Drive.reset.Statement.{statement}
 use Rattle.drive.proofs.drive.Drive.reset.Tie as tie
@@ -12,7 +12,7 @@ no-transfer-requires : tie.Need-no-transfer-requires
 no-transfer-requires c κs = search rules
 
 returns : tie.Need-returns
-unfolding afterReset
+unfolding after_reset
 returns c = cc
 
 pub reset-spec : {M : Type 1} → statement M

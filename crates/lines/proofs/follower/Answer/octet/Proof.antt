@@ -1,6 +1,6 @@
 -- `Answer::octet` meets its contract.
 -- Assumes nothing.
-use Rattle.lines.specs.Reading.{octetOf}
+use Rattle.lines.specs.Reading.{octet_of}
 use borrow.Author.Rules.{rules}
 use Rattle.lines.proofs.follower.Answer.octet.Statement.{statement}
 use Rattle.lines.proofs.follower.Answer.octet.Tie as tie
@@ -27,31 +27,31 @@ enum-known-self : tie.Need-enum-known-self
 enum-known-self c = search rules
 
 returns : tie.Need-returns
-unfolding octetOf
+unfolding octet_of
 returns c = record { answer = rw c.enum_told.given.1 }
 
 returns-2 : tie.Need-returns-2
-unfolding octetOf
+unfolding octet_of
 returns-2 c = record { answer = rw c.enum-told2.given.1 }
 
 returns-3 : tie.Need-returns-3
-unfolding octetOf
+unfolding octet_of
 returns-3 c = record { answer = rw c.enum-told3.given.1 }
 
 returns-4 : tie.Need-returns-4
-unfolding octetOf
+unfolding octet_of
 returns-4 c = record { answer = rw c.enum-told4.given.1 }
 
 returns-5 : tie.Need-returns-5
-unfolding octetOf
+unfolding octet_of
 returns-5 c = record { answer = rw c.enum-told5.given.1 }
 
 returns-6 : tie.Need-returns-6
-unfolding octetOf
+unfolding octet_of
 returns-6 c = record { answer = rw c.enum-told6.given.1 }
 
 returns-7 : tie.Need-returns-7
-unfolding octetOf
+unfolding octet_of
 returns-7 c = record { answer = rw c.before.self.given.1 }
 
 pub octet-spec : {M : Type 1} → statement M

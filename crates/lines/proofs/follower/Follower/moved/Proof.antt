@@ -5,14 +5,14 @@ use borrow.Author.Rules.{rules}
 use borrow.Author.Tests.{eq-eqb, ne_eqb}
 use Rattle.laws.specs.Pick.{pick}
 use Rattle.lines.specs.Moves.{entry_of}
-use Rattle.lines.specs.Follower.{movedBy, told}
+use Rattle.lines.specs.Follower.{moved_by, told}
 use Rattle.lines.specs.declared.follower.Answer.TheVariants.{Controllers, Drives}
 use Rattle.lines.proofs.Listed.{not_same}
 use Rattle.lines.proofs.follower.Follower.moved.Statement.{statement}
 use Rattle.lines.proofs.follower.Follower.moved.Tie as tie
 
 returns : tie.Need-returns
-unfolding movedBy entry_of pick
+unfolding moved_by entry_of pick
 returns c =
     let start : tie.Start = search in
     rw (eq-eqb start.args.self.setting start.args.setting (sym c.if1.true))
@@ -27,7 +27,7 @@ undefined-at-requires : tie.Need-undefined-at-requires
 undefined-at-requires c κs = search rules
 
 returns-2 : tie.Need-returns-2
-unfolding movedBy pick
+unfolding moved_by pick
 returns-2 c =
     rw (← c.before.before.before.before.entry.ensures, c.before.before.before.match.keys1, ← c.before.before.lacks-history.ensures, c.before.if2.true)
     c.undefined-at.ensures
@@ -42,17 +42,17 @@ undefined-at-requires-2 : tie.Need-undefined-at-requires-2
 undefined-at-requires-2 c κs = search rules
 
 returns-3 : tie.Need-returns-3
-unfolding movedBy pick
+unfolding moved_by pick
 returns-3 c =
     rw (← c.before.before.before.before.entry.ensures, c.before.before.before.match.keys1, ← c.before.before.lacks-history.ensures, c.before.if2.false)
     (ap (told Controllers) c.at.ensures)
 
 returns-4 : tie.Need-returns-4
-unfolding movedBy pick
+unfolding moved_by pick
 returns-4 c = rw (← c.before.before.entry.ensures, c.before.match.keys2) (ap (told Drives) c.at2.ensures)
 
 returns-5 : tie.Need-returns-5
-unfolding movedBy pick
+unfolding moved_by pick
 returns-5 c =
     let none = c.before.match.rest in
     let start : tie.Start = search in

@@ -3,7 +3,7 @@
 use mathlib.Core.Path.{refl}
 use borrow.Author.Rules.{rules}
 use Rattle.laws.specs.Pick.{pick}
-use Rattle.lines.specs.Moves.{entry_of, movesTable}
+use Rattle.lines.specs.Moves.{entry_of, moves_table}
 use Rattle.lines.proofs.follower.Follower.step.Statement.{statement}
 use Rattle.lines.proofs.follower.Follower.step.Tie as tie
 
@@ -11,7 +11,7 @@ slice-aggregate-step-by : tie.Need-slice-aggregate-step-by
 slice-aggregate-step-by c = search rules
 
 step-by-requires : tie.Need-step-by-requires
-unfolding movesTable entry_of pick
+unfolding moves_table entry_of pick
 step-by-requires c κs = refl
 
 returns : tie.Need-returns

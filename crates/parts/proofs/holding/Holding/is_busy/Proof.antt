@@ -1,6 +1,6 @@
 -- `is_busy` meets its contract.
 -- Assumes nothing.
-use Rattle.parts.specs.Holding.{isBusy}
+use Rattle.parts.specs.Holding.{is_busy}
 use borrow.Author.Rules.{rules}
 use Rattle.parts.proofs.holding.Holding.is_busy.Statement.{statement}
 use Rattle.parts.proofs.holding.Holding.is_busy.Tie as tie
@@ -12,7 +12,7 @@ holds-against-requires : tie.Need-holds-against-requires
 holds-against-requires c κs = search rules
 
 returns : tie.Need-returns
-unfolding isBusy
+unfolding is_busy
 returns c = cc
 
 pub is-busy-spec : {M : Type 1} → statement M

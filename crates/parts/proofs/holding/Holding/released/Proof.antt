@@ -3,7 +3,7 @@
 use Rattle.parts.specs.Holding.{released}
 use borrow.Author.Rules.{rules}
 use mathlib.Core.Path.{refl}
-use Rattle.parts.proofs.OnPaper.{holding-said}
+use Rattle.parts.proofs.OnPaper.{holding_said}
 use Rattle.parts.proofs.holding.Holding.released.Statement.{statement}
 use Rattle.parts.proofs.holding.Holding.released.Tie as tie
 
@@ -25,11 +25,11 @@ returns c = rw c.before.enum_told.given.1 c.no-holding.ensures
 
 returns-2 : tie.Need-returns-2
 unfolding released
-returns-2 c = rw c.enum-told2.given.1 (holding-said refl refl)
+returns-2 c = rw c.enum-told2.given.1 (holding_said refl refl)
 
 returns-3 : tie.Need-returns-3
 unfolding released
-returns-3 c = rw c.enum-told3.given.1 (holding-said refl refl)
+returns-3 c = rw c.enum-told3.given.1 (holding_said refl refl)
 
 pub released-spec : {M : Type 1} → statement M
 released-spec =

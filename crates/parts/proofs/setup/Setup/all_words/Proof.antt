@@ -1,6 +1,6 @@
 -- `all_words` meets its contract: the products fit.
 -- Assumes nothing.
-use Rattle.parts.specs.Setup.{allWords}
+use Rattle.parts.specs.Setup.{all_words}
 use Rattle.parts.proofs.Bounds.{few_words, limits}
 use borrow.Author.Rules.{rules}
 use native.Mathlib.Omega.{arith}
@@ -29,7 +29,7 @@ mul-result-3 : tie.Need-overflow-mul-result-3
 mul-result-3 c = let f = few_words _ (limits _ c.before.before.before.before.requires) in rw c.sector-words.ensures (omega arith)
 
 returns : tie.Need-returns
-unfolding allWords
+unfolding all_words
 returns c = cc
 
 pub all-words-spec : {M : Type 1} → statement M

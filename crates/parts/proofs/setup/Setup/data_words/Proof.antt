@@ -1,6 +1,6 @@
 -- `data_words` meets its contract.
 -- Assumes nothing.
-use Rattle.parts.specs.Control.{dataWords}
+use Rattle.parts.specs.Control.{data_words}
 use borrow.Author.Rules.{rules}
 use Rattle.parts.proofs.setup.Setup.data_words.Statement.{statement}
 use Rattle.parts.proofs.setup.Setup.data_words.Tie as tie
@@ -30,7 +30,7 @@ add-result-2 : tie.Need-overflow-add-result-2
 add-result-2 c = search rules
 
 returns : tie.Need-returns
-unfolding dataWords
+unfolding data_words
 returns c = cc
 
 pub data-words-spec : {M : Type 1} → statement M

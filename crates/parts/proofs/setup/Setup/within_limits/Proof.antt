@@ -1,6 +1,6 @@
 -- `within_limits` meets its contract.
 -- Assumes nothing.
-use Rattle.parts.specs.Setup.{withinLimits}
+use Rattle.parts.specs.Setup.{within_limits}
 use borrow.Author.Rules.{rules}
 use Rattle.parts.proofs.setup.Setup.within_limits.Statement.{statement}
 use Rattle.parts.proofs.setup.Setup.within_limits.Tie as tie
@@ -27,7 +27,7 @@ is-between-requires-7 : tie.Need-is-between-requires-7
 is-between-requires-7 c κs = search rules
 
 returns : tie.Need-returns
-unfolding withinLimits
+unfolding within_limits
 returns c = cc
 
 pub within-limits-spec : {M : Type 1} → statement M

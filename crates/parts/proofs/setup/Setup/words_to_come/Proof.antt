@@ -2,7 +2,7 @@
 -- Assumes nothing.
 use mathlib.Core.Path.{sym, ◌∙◌}
 use Rattle.laws.specs.Pick.{pick}
-use Rattle.parts.specs.Control.{wordsToCome}
+use Rattle.parts.specs.Control.{words_to_come}
 use borrow.Author.Rules.{rules}
 use Rattle.parts.proofs.setup.Setup.words_to_come.Statement.{statement}
 use Rattle.parts.proofs.setup.Setup.words_to_come.Tie as tie
@@ -14,8 +14,8 @@ data-words-requires : tie.Need-data-words-requires
 data-words-requires c κs = search rules
 
 returns : tie.Need-returns
-unfolding wordsToCome pick
-returns c = rw (sym c.before.before.is-data.ensures ∙ c.before.if1.true) c.data-words.ensures
+unfolding words_to_come pick
+returns c = rw (sym c.before.before.is-data.ensures ∙ c.before.if1.true) c.data_words_lem.ensures
 
 parameter-words-requires : tie.Need-parameter-words-requires
 parameter-words-requires c κs = search rules
@@ -24,7 +24,7 @@ cast-result : tie.Need-overflow-cast-result
 cast-result c = search rules
 
 returns-2 : tie.Need-returns-2
-unfolding wordsToCome pick
+unfolding words_to_come pick
 returns-2 c = rw (sym c.before.before.is-data.ensures ∙ c.before.if1.false) c.parameter-words.ensures
 
 pub words-to-come-spec : {M : Type 1} → statement M
