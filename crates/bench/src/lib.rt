@@ -1,4 +1,6 @@
 // The bench: a capture replayed on the bench drive, or a part of it, and the text of the report.
+#![tactic(auto)]
+
 mod line;
 mod part;
 mod report;

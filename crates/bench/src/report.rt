@@ -9,7 +9,7 @@ use crate::{part, run, text};
 use capture::CaptureRead;
 use numbers::Number;
 
-#[derive(Drop)]
+#[derive(Clone, Copy)]
 pub enum Replayed {
     // How many octets of text were written.
     Text(usize),
@@ -17,7 +17,7 @@ pub enum Replayed {
 }
 
 // What of a capture is replayed. The definition of a report takes it.
-#[derive(Drop)]
+#[derive(Clone, Copy)]
 pub enum Wanted {
     All,
     // From the record with this index on, at most so many.

@@ -6,7 +6,7 @@ ghost use Rattle.capture.specs.Capture.{DecodedCapture, NotesGiven, RecordsGiven
 
 use crate::record::RECORD_LENGTH;
 
-#[derive(Drop)]
+#[derive(Clone, Copy)]
 pub enum CaptureRead {
     // Where the first record starts, and how many records there are.
     Capture { first: usize, count: usize },

@@ -6,7 +6,7 @@ ghost use Rattle.capture.specs.Encoding.{capture_length, capture_octets, trailer
 use crate::capture::{MARK, TRAILER_LENGTH};
 use crate::record::RECORD_LENGTH;
 
-#[derive(Drop)]
+#[derive(Clone, Copy)]
 pub enum CaptureEncoded {
     // How many octets the capture has.
     Written(usize),

@@ -1,4 +1,6 @@
 // Captures of events: the records, the trailer behind them and the notes before them, both ways.
+#![tactic(auto)]
+
 mod capture;
 mod encoding;
 mod record;

@@ -3,7 +3,7 @@ ghost use Rattle.std.specs.Prelude.{[], ◌∷◌, ◌≡◌};
 ghost use Rattle.laws.specs.Octets.{number_of};
 ghost use Rattle.capture.specs.Record.{DecodedRecord, EncodedRecord};
 
-#[derive(Drop)]
+#[derive(Clone, Copy)]
 pub struct Record {
     pub tick: u16,
     pub port: u8,
@@ -14,13 +14,13 @@ pub struct Record {
     pub a3: u8,
 }
 
-#[derive(Drop)]
+#[derive(Clone, Copy)]
 pub enum RecordRead {
     Decoded(Record),
     Refused(u8),
 }
 
-#[derive(Drop)]
+#[derive(Clone, Copy)]
 pub enum Encoded {
     Written,
     Refused(u8),

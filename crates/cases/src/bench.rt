@@ -9,7 +9,7 @@ pub(crate) const AT_REST: [u16; 21] = [
 ];
 
 // What a run of a case found.
-#[derive(Drop)]
+#[derive(Clone, Copy)]
 struct Ran {
     // Behind the row that ends the case.
     end: usize,

@@ -1,5 +1,7 @@
 // Runs the bench cases of document 01 that are not marked P, the worked cases of M-100 and M-102, those of M-103, the traces of M-104 and
 // further ones through the public calls, and compares.
+#![tactic(auto)]
+
 mod bench;
 mod by_place;
 mod calls;

@@ -11,7 +11,7 @@ const ROOM: usize = 48;
 // What stands in the room before.
 const UNTOUCHED: u8 = 0xFF;
 
-#[derive(Drop)]
+#[derive(Clone, Copy)]
 struct Ran {
     // How many octets the row has; 0 for none.
     length: usize,

@@ -1,7 +1,7 @@
 // The lines that the program writes: one for each case, then a count.
 use libc::STDOUT_FILENO;
 
-#[derive(Drop)]
+#[derive(Clone, Copy)]
 pub(crate) struct Tally {
     cases: u64,
     differ: u64,

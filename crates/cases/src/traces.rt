@@ -3,14 +3,14 @@ use crate::tally::Tally;
 use crate::watch::{ENDS, IS_HANDED, IS_PAIR};
 use crate::{watch, words};
 
-#[derive(Drop)]
+#[derive(Clone, Copy)]
 pub(crate) enum Reader {
     Table,
     Plain,
 }
 
 // A trace, and what both readers must leave.
-#[derive(Drop)]
+#[derive(Clone, Copy)]
 struct Trace {
     // Did all before it come out as expected, and each of its settings by itself?
     same: bool,

@@ -16,7 +16,7 @@ use crate::storing::put_padded;
 use parts::Setup;
 
 // What a map tells besides its defects, and where it goes: stored in the sector words, or to octets that are lent.
-#[derive(Drop)]
+#[derive(Clone, Copy)]
 pub(crate) struct Job {
     pub sets: u16,
     // The track of Format Specification Storage.
@@ -26,14 +26,14 @@ pub(crate) struct Job {
 }
 
 // Where the octets of a set's defects start, and how many defects they are.
-#[derive(Drop)]
+#[derive(Clone, Copy)]
 pub(crate) struct Run {
     pub at: usize,
     pub count: usize,
 }
 
 // One of the defects is out of sequence; the least address that is higher than all of them.
-#[derive(Drop)]
+#[derive(Clone, Copy)]
 pub(crate) struct Order {
     pub unordered: bool,
     pub least: u64,

@@ -10,7 +10,7 @@ use crate::room::room;
 use crate::walking::judge;
 use parts::Setup;
 
-#[derive(Drop)]
+#[derive(Clone, Copy)]
 pub enum MapRead {
     // How many defects it lists, and the track of Format Specification Storage.
     Map {

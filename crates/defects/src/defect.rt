@@ -3,7 +3,7 @@ ghost use Rattle.std.specs.Prelude.{◌+◌, ◌≤◌, ◌≡◌, length};
 ghost use Rattle.laws.specs.Lists.{written_over};
 ghost use Rattle.defects.specs.Defect.{number_at, defect_at, defect_octets, is_blank, DecodedDefect, EncodedDefect};
 
-#[derive(Drop)]
+#[derive(Clone, Copy)]
 pub struct Defect {
     pub cylinder: u32,
     pub head: u16,
@@ -11,13 +11,13 @@ pub struct Defect {
     pub length: u16,
 }
 
-#[derive(Drop)]
+#[derive(Clone, Copy)]
 pub enum DefectRead {
     Decoded(Defect),
     Refused(u8),
 }
 
-#[derive(Drop)]
+#[derive(Clone, Copy)]
 pub enum Encoded {
     Written,
     Refused(u8),

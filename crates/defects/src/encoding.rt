@@ -9,7 +9,7 @@ use crate::place::field_octets;
 use crate::sets::put_sets;
 use parts::Setup;
 
-#[derive(Drop)]
+#[derive(Clone, Copy)]
 pub enum MapEncoded {
     // How many octets the map has.
     Written(usize),

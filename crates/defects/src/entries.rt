@@ -14,7 +14,7 @@ use parts::Setup;
 pub(crate) const ENTRIES: usize = 14;
 
 // What was found of all entries.
-#[derive(Drop)]
+#[derive(Clone, Copy)]
 pub(crate) struct Entries {
     pub offence: Offence,
     pub count: usize,

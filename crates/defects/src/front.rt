@@ -9,7 +9,7 @@ use crate::offence::{Offence, no_offence, offence_at};
 use crate::walk::Walk;
 use parts::Setup;
 
-#[derive(Drop)]
+#[derive(Clone, Copy)]
 pub(crate) struct Front {
     pub count: u16,
     pub flags: u8,

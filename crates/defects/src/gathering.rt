@@ -16,7 +16,7 @@ use crate::walk::{IGNORED, LAST_COPY};
 use parts::Setup;
 
 // How many defects are listed, and which copy is due.
-#[derive(Drop)]
+#[derive(Clone, Copy)]
 pub(crate) struct Gathered {
     pub count: usize,
     pub copy: u8,

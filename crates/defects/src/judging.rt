@@ -16,7 +16,7 @@ use parts::Setup;
 pub(crate) const CRC_LENGTH: usize = 2;
 
 // What was found of an entry or of a data field: its offence, or the least address that is higher than all up to it.
-#[derive(Drop)]
+#[derive(Clone, Copy)]
 pub(crate) struct Judged {
     pub offence: Offence,
     pub least: u64,

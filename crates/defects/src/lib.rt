@@ -1,4 +1,6 @@
 // The maker's defect map: its octets, both ways, and its place on the last cylinder.
+#![tactic(auto)]
+
 mod body;
 mod crc;
 mod crc_table;

@@ -2,7 +2,7 @@
 ghost use Rattle.std.specs.Prelude.{◌≡◌};
 ghost use Rattle.defects.specs.Offence.{no_offence, offence_at};
 
-#[derive(Drop)]
+#[derive(Clone, Copy)]
 pub(crate) struct Offence {
     pub found: bool,
     pub number: u8,

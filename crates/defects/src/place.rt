@@ -5,7 +5,7 @@ ghost use Rattle.defects.specs.Place.{field_octets, data_fields, place_of, Place
 
 use parts::{Place, Setup};
 
-#[derive(Drop)]
+#[derive(Clone, Copy)]
 pub enum MapPlace {
     At(Place),
     Refused(u8),

@@ -9,7 +9,7 @@ use crate::offence::{Offence, no_offence};
 use parts::Setup;
 
 // What is due at a data field.
-#[derive(Drop)]
+#[derive(Clone, Copy)]
 pub(crate) struct Walk {
     // Whole sets before it.
     pub set: usize,
@@ -24,7 +24,7 @@ pub(crate) struct Walk {
 }
 
 // What was found of a data field, and what is due behind it.
-#[derive(Drop)]
+#[derive(Clone, Copy)]
 pub(crate) struct Stepped {
     pub offence: Offence,
     pub walk: Walk,

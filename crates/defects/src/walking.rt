@@ -12,7 +12,7 @@ use crate::walk::{Stepped, Walk, is_ended, outset_of_map, step};
 use parts::Setup;
 
 // What was found of a map: its offence; or what is due behind it, and how many data fields it has.
-#[derive(Drop)]
+#[derive(Clone, Copy)]
 pub(crate) struct Judgement {
     pub offence: Offence,
     pub walk: Walk,

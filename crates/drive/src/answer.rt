@@ -2,7 +2,7 @@
 use crate::drive::Drive;
 use parts::Place;
 
-#[derive(Drop)]
+#[derive(Clone, Copy)]
 pub enum Answer {
     // The number of the refusal: nothing changed.
     Refused(u8),
@@ -19,7 +19,7 @@ pub enum Answer {
     Response(u8, u8, u8),
 }
 
-#[derive(Drop)]
+#[derive(Clone, Copy)]
 pub struct Outcome {
     pub answer: Answer,
     pub drive: Drive,

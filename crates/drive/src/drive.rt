@@ -7,7 +7,7 @@ ghost use Rattle.drive.specs.Drive.{owner_noticed, selected, deselected, after_r
 
 use parts::{Hold, Holding, Pending, Place, Setup, Transfer};
 
-#[derive(Drop)]
+#[derive(Clone, Copy)]
 pub struct Drive {
     pub setup: Setup,
     pub holding: Holding,

@@ -5,7 +5,7 @@ ghost use Rattle.drive.specs.Power.{setup_of, at_rest, PoweredUp};
 use crate::drive::Drive;
 use parts::{Pending, Place, Setup};
 
-#[derive(Drop)]
+#[derive(Clone, Copy)]
 pub enum Powered {
     Up(Drive),
     Refused(u8),

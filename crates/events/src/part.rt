@@ -5,7 +5,7 @@ ghost use Rattle.events.specs.Part.{tick_at, gap_at, PartOnWords};
 
 use crate::{answer_words, batch, event, state};
 
-#[derive(Drop)]
+#[derive(Clone, Copy)]
 pub enum Part {
     // How many events were run.
     Ran(usize),

@@ -6,7 +6,7 @@ ghost use Rattle.lines.specs.Reading.{OctetSaid};
 
 use crate::{line, table};
 
-#[derive(Drop)]
+#[derive(Clone, Copy)]
 pub struct Follower {
     pub setting: u8,
     // At SELECT, MASTEND and SLAVACK: the history that a later move needs is there.
@@ -14,7 +14,7 @@ pub struct Follower {
     pub lost: bool,
 }
 
-#[derive(Drop)]
+#[derive(Clone, Copy)]
 pub enum Answer {
     Same,
     Controllers,
@@ -25,7 +25,7 @@ pub enum Answer {
     Refused(u8),
 }
 
-#[derive(Drop)]
+#[derive(Clone, Copy)]
 pub struct Followed {
     pub answer: Answer,
     pub follower: Follower,

@@ -1,4 +1,6 @@
 // The lines of one port: who owns each, which moves between settings are listed, and a follower of them.
+#![tactic(auto)]
+
 mod follower;
 mod line;
 mod moves;

@@ -51,13 +51,13 @@ pub(crate) const ANSWERS_TOO_SHORT: u8 = 10;
 
 pub(crate) const STATE_NEVER_REACHED: u8 = 11;
 
-#[derive(Drop)]
+#[derive(Clone, Copy)]
 pub enum Side {
     Controller,
     Drive,
 }
 
-#[derive(Drop)]
+#[derive(Clone, Copy)]
 pub enum Line {
     SelectOut,
     SlaveIn,

@@ -4,7 +4,7 @@ ghost use Rattle.lines.specs.Moves.{said_by, MoveSaid};
 
 use crate::{line, table};
 
-#[derive(Drop)]
+#[derive(Clone, Copy)]
 pub enum Move {
     Same,
     Controllers,

@@ -6,7 +6,7 @@ ghost use Rattle.lines.specs.Reading.{Leaves, step_by_step, TraceRead};
 use crate::follower::Follower;
 use crate::{line, table};
 
-#[derive(Drop)]
+#[derive(Clone, Copy)]
 pub enum Traced {
     // The follower at the end of the trace.
     Last(Follower),

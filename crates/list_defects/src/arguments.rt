@@ -5,7 +5,7 @@ ghost use Rattle.laws.specs.Pick.{pick};
 use numbers::Number;
 use parts::Setup;
 
-#[derive(Drop)]
+#[derive(Clone, Copy)]
 pub(crate) enum Arguments {
     Good(Setup),
     Bad,

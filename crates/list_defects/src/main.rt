@@ -4,6 +4,8 @@
 //   C H OFFSET LENGTH
 //   defects N
 // or one line alone: `refused N at OFFSET`, `bad arguments`, or `too long`.
+#![tactic(auto)]
+
 mod arguments;
 mod listing;
 

@@ -1,4 +1,6 @@
 // Numbers as a program is told them, in decimal.
+#![tactic(auto)]
+
 mod number;
 
 pub use number::{MOST_DIGITS, Number, number_of};

@@ -1,4 +1,6 @@
 // The drive, the line follower, captures and the defect map for C and Rust: numbers and lent slices alone. `include/pantoglide.h` is the header.
+#![tactic(auto)]
+
 mod capture_calls;
 mod defect_calls;
 mod event;

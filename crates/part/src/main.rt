@@ -6,6 +6,8 @@
 //   owner OWNER
 //   next J, or `end` where no record is left
 // or one line alone: `bad arguments`, `too long`, or `refused N`.
+#![tactic(auto)]
+
 ghost use Rattle.std.specs.Prelude.{◌≤◌, length};
 
 // The program's name, FROM and LIMIT.

@@ -9,7 +9,7 @@ use crate::control::Control;
 const FIRST_RESPONSE: u16 = 0x40;
 
 // What the word of Load Drive Function asks for.
-#[derive(Drop)]
+#[derive(Clone, Copy)]
 pub enum Function {
     PriorityReserve,
     Reserve,

@@ -5,7 +5,7 @@ ghost use Rattle.parts.specs.Control.{control_of, ControlSaid, is_data, is_write
 use crate::command;
 use crate::setup::Setup;
 
-#[derive(Drop)]
+#[derive(Clone, Copy)]
 pub enum Control {
     Write,
     Read,

@@ -3,7 +3,7 @@ ghost use Rattle.std.specs.Prelude.{◌+◌, ◌*◌, ◌≡◌};
 ghost use Rattle.parts.specs.Kind.{none_after1, none_after2, none_at_all, word_of};
 ghost use Rattle.parts.specs.Tests.{is_misaddressed, changes_mode};
 
-#[derive(Drop)]
+#[derive(Clone, Copy)]
 pub struct Event {
     pub port: u8,
     pub kind: u8,

@@ -2,7 +2,7 @@
 ghost use Rattle.std.specs.Prelude.{◌≡◌};
 ghost use Rattle.parts.specs.Holding.{priority_hold, priority_select, hold_set, holds_against, is_owned_by_other, is_busy, Granted, NotHeld, Released};
 
-#[derive(Drop)]
+#[derive(Clone, Copy)]
 pub enum Hold {
     None,
     Plain,
@@ -12,7 +12,7 @@ pub enum Hold {
 // Ports are 0 and 1.
 pub const NOBODY: u16 = 2;
 
-#[derive(Drop)]
+#[derive(Clone, Copy)]
 pub struct Holding {
     pub selected: u16,
     pub owner: u16,

@@ -1,4 +1,6 @@
 // The parts of the drive's state, the rules on each of them, and the tests of the refusals.
+#![tactic(auto)]
+
 mod command;
 mod control;
 mod event;

@@ -2,14 +2,14 @@
 ghost use Rattle.std.specs.Prelude.{◌≡◌};
 ghost use Rattle.parts.specs.Pending.{OneBit, with_bit, bit_of, noticed, faulted, octet0};
 
-#[derive(Drop)]
+#[derive(Clone, Copy)]
 pub struct Pending {
     pub octet1: u8,
     pub octet2: u8,
 }
 
 // What is wrong with a bad request: each has its bit of octet 2.
-#[derive(Drop)]
+#[derive(Clone, Copy)]
 pub enum Fault {
     InvalidBusControl,
     InvalidParameter,

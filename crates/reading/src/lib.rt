@@ -1,4 +1,6 @@
 // What the replays, of a whole capture and of a part, do with standard input and output.
+#![tactic(auto)]
+
 ghost use Rattle.std.specs.Prelude.{◌≤◌, length};
 ghost use Rattle.numbers.specs.Number.{number_in};
 ghost use Rattle.bench.specs.Report.{report_of, part_report_of};

@@ -5,7 +5,7 @@ ghost use Rattle.status.specs.Encoded.{EncodedAs};
 
 use crate::encoded::Encoded;
 
-#[derive(Drop)]
+#[derive(Clone, Copy)]
 pub enum DriveStatus {
     Normal,
     Busy,
@@ -14,7 +14,7 @@ pub enum DriveStatus {
     UnsolicitedException,
 }
 
-#[derive(Drop)]
+#[derive(Clone, Copy)]
 pub enum DriveStatusRead {
     Status(DriveStatus),
     Refused(u8),

@@ -1,5 +1,5 @@
 // What an encoder of this crate answers.
-#[derive(Drop)]
+#[derive(Clone, Copy)]
 pub enum Encoded {
     Written,
     Refused(u8),

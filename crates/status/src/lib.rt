@@ -1,4 +1,6 @@
 // The octets that tell a drive's status: the drive status octet and the status response, both ways.
+#![tactic(auto)]
+
 mod drive_status;
 mod encoded;
 mod response;

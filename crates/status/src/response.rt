@@ -7,7 +7,7 @@ ghost use Rattle.status.specs.Response.{is_foreign, exception_octet, unsolicited
 
 use crate::encoded::Encoded;
 
-#[derive(Drop)]
+#[derive(Clone, Copy)]
 pub struct Response {
     pub reset_complete: bool,
     pub alternate_port_priority_select: bool,
@@ -17,7 +17,7 @@ pub struct Response {
     pub bus_control_context: bool,
 }
 
-#[derive(Drop)]
+#[derive(Clone, Copy)]
 pub enum ResponseRead {
     Decoded(Response),
     Refused(u8),

@@ -1,4 +1,6 @@
 // The replay once more, for the gate to run on one octet more than a capture may have: its file `stdin` is 65,537 zeros.
+#![tactic(auto)]
+
 fn main() {
     let mut octets = [0u8; reading::INPUT_LENGTH];
     let mut text = [0u8; bench::LONGEST_REPORT];
