@@ -1,0 +1,65 @@
+-- `capture::capture::decode_capture` meets its contract: at each `return` the tests that led there say which row holds first, or that none does.
+-- Assumes nothing.
+use Prim.Native.Nat.{ℕ, ◌-◌, ◌%◌}
+use mathlib.Core.Path.{◌≡◌, ap, ◌∙◌}
+use mathlib.Core.Bool.{not, ◌||◌}
+use mathlib.Core.List.{List, [], ◌∷◌}
+use lib.Dec.{eqb, ltb}
+use lib.ListN.{length, take, drop}
+use borrow.Author.Tests.{lt-ltb, le-ltb, eq-eqb, ne_eqb}
+use Rattle.laws.specs.Pick.{pick}
+use Rattle.laws.specs.Rows.{first, ◌when◌}
+use Rattle.laws.specs.Octets.{number_of}
+use Rattle.laws.specs.Lists.{same_list}
+use Rattle.capture.specs.Capture.{mark, has_mark, distance_of, capture_refusal}
+use Rattle.laws.proofs.Runs.{rest_whole}
+use borrow.Author.Rules.{rules}
+use Rattle.capture.proofs.Promised.{capture_decoded}
+use Rattle.capture.proofs.capture.decode_capture.Goals as goal
+
+pub returns-then-octets-lt-TRAILER_LENGTH : goal.returns-then-octets-lt-TRAILER_LENGTH
+unfolding pick
+returns-then-octets-lt-TRAILER_LENGTH c = capture_decoded (rw (lt-ltb _ _ c.if-octets-lt-TRAILER_LENGTH.true))
+
+pub returns-then-not-has_mark : goal.returns-then-not-has_mark
+unfolding pick
+returns-then-not-has_mark c =
+    let mark-read : c.has_mark.result ≡ has_mark c.args.octets.now = let octets = c.args.octets.now in
+    c.has_mark.ensures ∙ ap (λ (trailer : List ℕ). same_list (drop 4 trailer) mark) (rest_whole octets (length octets - 8)) in
+    capture_decoded (rw (le-ltb _ _ c.if-octets-lt-TRAILER_LENGTH.false, ← (mark-read), c.if-not-has_mark.true))
+
+pub returns-then-distance-ne0 : goal.returns-then-distance-ne0
+unfolding pick
+returns-then-distance-ne0 c =
+    let mark-read : c.has_mark.result ≡ has_mark c.args.octets.now = let octets = c.args.octets.now in
+    c.has_mark.ensures ∙ ap (λ (trailer : List ℕ). same_list (drop 4 trailer) mark) (rest_whole octets (length octets - 8)) in
+    let distance_read : c.distance_of-distance.result ≡ distance_of c.args.octets.now = let octets = c.args.octets.now in
+    c.distance_of-distance.ensures ∙ ap (λ (trailer : List ℕ). number_of (take 4 trailer)) (rest_whole octets (length octets - 8)) in
+    let then-distance : let octets = c.args.octets.now in
+    let distance = c.distance_of-distance.result in
+    capture_refusal octets ≡ first (14 when (not (eqb (distance % 8) 0) || ltb (length octets - 8) distance) ∷ []) = rw (le-ltb _ _ c.if-octets-lt-TRAILER_LENGTH.false, ← (mark-read), c.if-not-has_mark.false, ← (distance_read)) in
+    capture_decoded (rw (then-distance, ne_eqb _ _ c.if-distance-ne0.true))
+
+pub returns-then-body-distance : goal.returns-then-body-distance
+unfolding pick
+returns-then-body-distance c =
+    let mark-read : c.has_mark.result ≡ has_mark c.args.octets.now = let octets = c.args.octets.now in
+    c.has_mark.ensures ∙ ap (λ (trailer : List ℕ). same_list (drop 4 trailer) mark) (rest_whole octets (length octets - 8)) in
+    let distance_read : c.distance_of-distance.result ≡ distance_of c.args.octets.now = let octets = c.args.octets.now in
+    c.distance_of-distance.ensures ∙ ap (λ (trailer : List ℕ). number_of (take 4 trailer)) (rest_whole octets (length octets - 8)) in
+    let then-distance : let octets = c.args.octets.now in
+    let distance = c.distance_of-distance.result in
+    capture_refusal octets ≡ first (14 when (not (eqb (distance % 8) 0) || ltb (length octets - 8) distance) ∷ []) = rw (le-ltb _ _ c.if-octets-lt-TRAILER_LENGTH.false, ← (mark-read), c.if-not-has_mark.false, ← (distance_read)) in
+    capture_decoded (rw (then-distance, eq-eqb _ _ c.if-distance-ne0.false, lt-ltb _ _ c.if-body-distance.true))
+
+pub returns : goal.returns
+unfolding pick
+returns c =
+    let distance_read : c.distance_of-distance.result ≡ distance_of c.args.octets.now = let octets = c.args.octets.now in
+    c.distance_of-distance.ensures ∙ ap (λ (trailer : List ℕ). number_of (take 4 trailer)) (rest_whole octets (length octets - 8)) in
+    let mark-read : c.has_mark.result ≡ has_mark c.args.octets.now = let octets = c.args.octets.now in
+    c.has_mark.ensures ∙ ap (λ (trailer : List ℕ). same_list (drop 4 trailer) mark) (rest_whole octets (length octets - 8)) in
+    let then-distance : let octets = c.args.octets.now in
+    let distance = c.distance_of-distance.result in
+    capture_refusal octets ≡ first (14 when (not (eqb (distance % 8) 0) || ltb (length octets - 8) distance) ∷ []) = rw (le-ltb _ _ c.if-octets-lt-TRAILER_LENGTH.false, ← (mark-read), c.if-not-has_mark.false, ← (distance_read)) in
+    capture_decoded (rw (then-distance, ← (distance_read), eq-eqb _ _ c.if-distance-ne0.false, le-ltb _ _ c.if-body-distance.false))

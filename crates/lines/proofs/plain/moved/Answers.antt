@@ -1,0 +1,9 @@
+-- `moved` meets its contract.
+-- Assumes nothing.
+use mathlib.Core.Path.{ap}
+use borrow.Author.Rules.{rules}
+use Rattle.lines.specs.Follower.{told}
+use Rattle.lines.proofs.plain.moved.Goals as goal
+
+pub returns : goal.returns
+returns c = ap (told c.args.side) c.at.ensures

@@ -1,0 +1,14 @@
+-- `read_stretches` meets its contract: stretch behind stretch, the whole trace.
+-- Assumes nothing.
+use Prim.Native.Nat.{◌-◌}
+use native.Mathlib.Omega.{arith}
+use borrow.Author.Rules.{rules}
+use lib.ListN.{length}
+use Rattle.lines.proofs.ReadSoFar.{ReadTo, read_none, stretch_read, all_left}
+use Rattle.lines.proofs.plain.read_stretches.Given as goal
+
+abbrev pub invariant-loop-at : goal.invariant-loop-at
+invariant-loop-at l = ReadTo l.initial.last l.trace l.initial.answers l.at l.last l.answers
+
+abbrev pub decreases-loop-at : goal.decreases-loop-at
+decreases-loop-at l = length l.trace - l.at

@@ -1,0 +1,19 @@
+-- `steps` meets its contract.
+-- Assumes nothing.
+use Prim.Native.Nat.{◌-◌}
+use borrow.Author.Rules.{rules}
+use lib.ListN.{length}
+use Rattle.lines.proofs.ReadSoFar.{ReadTo, read_none, read_one, all_left}
+use Rattle.lines.proofs.reading.steps.Goals as goal
+
+pub loop-i-init : goal.loop-i-init
+loop-i-init c =
+    read_none _ _ _ c.requires.1
+
+pub loop-i-preserved : goal.loop-i-preserved
+loop-i-preserved c =
+    let said = c.step_by-followed.ensures in
+    rw (c.octet.ensures.answer, said.answer, said.follower) (read_one _ _ _ _ _ _ c.loop-i-test.true c.loop-i.invariant)
+
+pub returns : goal.returns
+returns c = all_left _ _ _ _ _ _ c.loop-i-test.false c.loop-i.invariant
