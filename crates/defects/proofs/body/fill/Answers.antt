@@ -1,0 +1,62 @@
+-- `defects::body::fill` meets its contract: its callees make the parts of the data field.
+-- Assumes nothing.
+use Prim.Native.Nat.{◌+◌, ◌-◌, ◌*◌}
+use mathlib.Core.Path.{◌≡◌, ◌∙◌}
+use native.Mathlib.Omega.{arith}
+use lib.ListN.{length, drop, length-take}
+use Rattle.defects.specs.Place.{field_octets}
+use Rattle.defects.proofs.Plans.{plan, RunKnown, run_known}
+use Rattle.defects.proofs.Fills.{filled}
+use borrow.Author.Rules.{rules}
+use Rattle.defects.proofs.body.fill.Goals as goal
+
+pub run_of-run-requires : goal.run_of-run-requires
+run_of-run-requires c =
+    let p = plan c.requires.0.planned in
+    (omega arith, p.first _ c.requires.0.within)
+
+pub order_of-order-requires : goal.order_of-order-requires
+order_of-order-requires c =
+    let known : let a = c.args in RunKnown a.setup a.job a.defects.now a.set c.run_of-run.result = let due = c.requires.0 in run_known (plan due.planned) due.within c.run_of-run.ensures in
+    let k = known in
+    (k.within, k.near)
+
+pub overflow_mul-front : goal.overflow_mul-front
+overflow_mul-front c =
+    let l = (plan c.requires.0.planned).limits in
+    omega arith
+
+pub overflow_sub-front : goal.overflow_sub-front
+overflow_sub-front c =
+    let p = plan c.requires.0.planned in
+    omega arith
+
+pub write_front-requires : goal.write_front-requires
+write_front-requires c =
+    let p = plan c.requires.0.planned in
+    omega (arith, c.requires.1)
+
+pub slice_bounds-put_padded-end : goal.slice_bounds-put_padded-end
+slice_bounds-put_padded-end c =
+    let known : let a = c.args in RunKnown a.setup a.job a.defects.now a.set c.run_of-run.result = let due = c.requires.0 in run_known (plan due.planned) due.within c.run_of-run.ensures in
+    (known).within
+
+pub put_padded-requires : goal.put_padded-requires
+put_padded-requires c =
+    let known : let a = c.args in RunKnown a.setup a.job a.defects.now a.set c.run_of-run.result = let due = c.requires.0 in run_known (plan due.planned) due.within c.run_of-run.ensures in
+    let r = c.run_of-run.result in
+    let same : length c.write_front.last.1.0 ≡ field_octets c.args.setup = c.write_front.kept.1.0 ∙ c.requires.1 in
+    omega (arith, (known).few, length-take (r.at + 12 * r.count - r.at) (drop r.at c.args.defects.now))
+
+pub returns : goal.returns
+returns c =
+    let known : let a = c.args in RunKnown a.setup a.job a.defects.now a.set c.run_of-run.result = let due = c.requires.0 in run_known (plan due.planned) due.within c.run_of-run.ensures in
+    let flags = c.before.before.before in
+    let ordered = flags.before.before.before in
+    let run = ordered.before.before in
+    let octets = run.before.before in
+    let start = octets.before in
+    let r = run.run_of.result in
+    let count : r.at + 12 * r.count - r.at ≡ 12 * r.count = omega arith in
+    filled start.pre.0 r _ _ start.args.field.now _ start.pre.1 (known run) (λ i. (octets.shared-slice-known.given i).fits) ordered.order-of.ensures flags.flags-for.ensures
+    (rw (← count, ← c.write_front.ensures) c.put_padded.ensures)

@@ -1,0 +1,7 @@
+-- `defects::entries::none_after_lem` meets its contract.
+-- Assumes nothing.
+use borrow.Author.Rules.{rules}
+use Rattle.defects.proofs.entries.none_after.Goals as goal
+
+pub returns : goal.returns
+returns c = cc

@@ -1,0 +1,55 @@
+-- `defects::front::later_offence` meets its contract: each `return` is a row, or the end of them.
+-- Assumes nothing.
+use mathlib.Core.Path.{◌≡◌}
+use mathlib.Core.Bool.{not}
+use mathlib.Core.List.{[], ◌∷◌}
+use Prim.Native.Nat.{◌+◌}
+use lib.Dec.{eqb}
+use borrow.Author.Tests.{eq-eqb}
+use Rattle.laws.specs.Pick.{pick}
+use Rattle.defects.specs.Offence.{◌at◌when◌, first_of}
+use native.Mathlib.Omega.{arith}
+use Rattle.defects.proofs.Offences.{judged}
+use Rattle.laws.proofs.Pick.{told}
+use Rattle.defects.specs.Judging.{later_tests}
+use borrow.Author.Rules.{rules}
+use Rattle.defects.proofs.front.later_offence.Goals as goal
+
+pub returns-then-has_wrong_flags : goal.returns-then-has_wrong_flags
+unfolding later_tests
+returns-then-has_wrong_flags c = search (judged, told) depth 20 fits 4000
+
+pub returns-then-front-ne0 : goal.returns-then-front-ne0
+unfolding later_tests
+returns-then-front-ne0 c = search (judged, told) depth 20 fits 4000
+
+pub returns-then-front-walk : goal.returns-then-front-walk
+unfolding later_tests
+returns-then-front-walk c = search (judged, told) depth 20 fits 4000
+
+pub returns-then-front-walk-2 : goal.returns-then-front-walk-2
+unfolding later_tests
+returns-then-front-walk-2 c = search (judged, told) depth 20 fits 4000
+
+pub returns-then-front-walk-3 : goal.returns-then-front-walk-3
+unfolding later_tests
+returns-then-front-walk-3 c = search (judged, told) depth 20 fits 4000
+
+pub overflow_add-start-then-front-walk-4 : goal.overflow_add-start-then-front-walk-4
+overflow_add-start-then-front-walk-4 c = omega (arith, c.requires)
+
+pub returns-then-front-walk-4 : goal.returns-then-front-walk-4
+unfolding later_tests first_of pick
+returns-then-front-walk-4 c =
+    let passed : let a = c.args in
+    first_of (later_tests a.walk a.start a.front) ≡ first_of (21 at a.start + 12 when not (eqb a.front.head a.walk.head) ∷ []) = let wrong = told _ _ _ c.has_wrong_flags.ensures c.if-has_wrong_flags.false in
+    rw (wrong, eq-eqb _ _ c.if-front-ne0.false, eq-eqb _ _ c.if-front-walk.false, eq-eqb _ _ c.if-front-walk-2.false, eq-eqb _ _ c.if-front-walk-3.false) in
+    rw (passed) (search judged)
+
+pub returns : goal.returns
+unfolding later_tests first_of pick
+returns c =
+    let passed : let a = c.args in
+    first_of (later_tests a.walk a.start a.front) ≡ first_of (21 at a.start + 12 when not (eqb a.front.head a.walk.head) ∷ []) = let wrong = told _ _ _ c.has_wrong_flags.ensures c.if-has_wrong_flags.false in
+    rw (wrong, eq-eqb _ _ c.if-front-ne0.false, eq-eqb _ _ c.if-front-walk.false, eq-eqb _ _ c.if-front-walk-2.false, eq-eqb _ _ c.if-front-walk-3.false) in
+    rw (passed) (search judged)

@@ -1,0 +1,18 @@
+-- `defects::judging::first_unlike` meets its contract: the first octet that differs is the one that the loop stops at.
+-- Assumes nothing.
+use Prim.Native.Nat.{ℕ, ◌+◌, ◌-◌, ◌≤◌}
+use mathlib.Core.Path.{◌≡◌, refl, ap}
+use native.Mathlib.Omega.{arith}
+use borrow.Author.Rules.{rules}
+use borrow.Author.Tests.{eq-eqb, ne_eqb}
+use Rattle.laws.proofs.Pick.{not_t, not_f}
+use Rattle.defects.specs.Offence.{first_of, tests_over}
+use Rattle.defects.specs.Judging.{same_test}
+use Rattle.defects.proofs.Offences.{over_next, over_hit, over_end}
+use Rattle.defects.proofs.judging.first_unlike.Given as goal
+
+abbrev pub invariant-loop-i : goal.invariant-loop-i
+invariant-loop-i l = (l.from ≤ l.i) × (l.i ≤ l.end) × (l.end ≡ l.from + l.count) × (first_of (tests_over (same_test l.start l.field l.original) l.from l.count) ≡ first_of (tests_over (same_test l.start l.field l.original) l.i (l.end - l.i)))
+
+abbrev pub decreases-loop-i : goal.decreases-loop-i
+decreases-loop-i l = l.end - l.i

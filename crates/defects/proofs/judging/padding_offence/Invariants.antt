@@ -1,0 +1,18 @@
+-- `defects::judging::padding_offence` meets its contract: the first octet that is not zero is the one that the loop stops at.
+-- Assumes nothing.
+use Prim.Native.Nat.{◌-◌, ◌≤◌}
+use mathlib.Core.Path.{◌≡◌, refl}
+use borrow.Author.Rules.{rules}
+use borrow.Author.Tests.{eq-eqb, ne_eqb}
+use lib.ListN.{length}
+use Rattle.laws.proofs.Pick.{not_t, not_f}
+use Rattle.defects.specs.Offence.{first_of, tests_over}
+use Rattle.defects.specs.Judging.{zero_test, padding_tests}
+use Rattle.defects.proofs.Offences.{over_next, over_hit, over_end}
+use Rattle.defects.proofs.judging.padding_offence.Given as goal
+
+abbrev pub invariant-loop-i : goal.invariant-loop-i
+invariant-loop-i l = (l.end ≡ length l.field - 2) × (l.i ≤ l.end) × (first_of (padding_tests l.start l.field l.count) ≡ first_of (tests_over (zero_test l.start l.field) l.i (l.end - l.i)))
+
+abbrev pub decreases-loop-i : goal.decreases-loop-i
+decreases-loop-i l = l.end - l.i

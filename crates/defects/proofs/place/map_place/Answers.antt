@@ -1,0 +1,31 @@
+-- `defects::place::map_place` meets its contract: at each `return` the tests that led there say which row holds first, or that none does.
+-- Assumes nothing.
+use mathlib.Core.Path.{◌≡◌, sym, ◌∙◌}
+use mathlib.Core.Bool.{true}
+use borrow.Author.Tests.{le-leb, lt-leb, not-true, not-false}
+use Rattle.laws.specs.Pick.{pick}
+use Rattle.parts.specs.Setup.{within_limits}
+use Rattle.defects.proofs.Promised.{placed}
+use borrow.Author.Rules.{rules}
+use Rattle.defects.proofs.place.map_place.Goals as goal
+
+pub returns-then-not-within_limits : goal.returns-then-not-within_limits
+unfolding pick
+returns-then-not-within_limits c = let outside = sym c.within_limits.ensures ∙ c.if-not-within_limits.true in placed (rw outside)
+
+pub returns-then-data_fields-k : goal.returns-then-data_fields-k
+unfolding pick
+returns-then-data_fields-k c =
+    let within : within_limits c.args.setup ≡ true = sym c.within_limits.ensures ∙ c.if-not-within_limits.false in
+    placed (rw (within, le-leb _ _ (rw c.data_fields.ensures at c.if-data_fields-k.true)))
+
+pub place_of-requires : goal.place_of-requires
+place_of-requires c =
+    let within : within_limits c.args.setup ≡ true = sym c.within_limits.ensures ∙ c.if-not-within_limits.false in
+    (within, rw c.data_fields.ensures at c.if-data_fields-k.false)
+
+pub returns : goal.returns
+unfolding pick
+returns c =
+    let within : within_limits c.args.setup ≡ true = sym c.within_limits.ensures ∙ c.if-not-within_limits.false in
+    placed (rw (within, lt-leb _ _ (rw c.data_fields.ensures at c.if-data_fields-k.false), c.place_of.ensures))

@@ -1,0 +1,16 @@
+-- `defects::sectors::load_words` meets its contract: after i turns, the words of i more octets are loaded.
+-- Assumes nothing.
+use Rattle.defects.proofs.Loading.{word_loaded}
+use Prim.Native.Nat.{◌+◌, ◌-◌, ◌*◌, ◌≤◌}
+use mathlib.Core.Path.{◌≡◌, refl}
+use native.Mathlib.Omega.{arith}
+use borrow.Author.Rules.{rules}
+use lib.ListN.{length, take, drop, length-set}
+use Rattle.defects.specs.Sectors.{word_octets}
+use Rattle.defects.proofs.sectors.load_words.Given as goal
+
+abbrev pub invariant-loop-i : goal.invariant-loop-i
+invariant-loop-i l = (l.i ≤ l.count) × (length l.field ≡ length l.initial.field) × (take (2 * l.i) l.field ≡ word_octets (take l.i (drop l.start l.sectors)))
+
+abbrev pub decreases-loop-i : goal.decreases-loop-i
+decreases-loop-i l = l.count - l.i

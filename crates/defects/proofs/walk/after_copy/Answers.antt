@@ -1,0 +1,14 @@
+-- `defects::walk::after_copy` meets its contract: after the third of a set the next set is awaited, otherwise the next copy.
+-- Assumes nothing.
+use borrow.Author.Tests.{eq-eqb, ne_eqb}
+use Rattle.laws.specs.Pick.{pick}
+use borrow.Author.Rules.{rules}
+use Rattle.defects.proofs.walk.after_copy.Goals as goal
+
+pub returns-then-walk-eq-LAST_COPY : goal.returns-then-walk-eq-LAST_COPY
+unfolding pick
+returns-then-walk-eq-LAST_COPY c = rw (eq-eqb _ _ c.if-walk-eq-LAST_COPY.true)
+
+pub returns : goal.returns
+unfolding pick
+returns c = rw (ne_eqb _ _ c.if-walk-eq-LAST_COPY.false)
