@@ -167,6 +167,7 @@ unfolding posted_on octet2_cleared
 control_stays low (Outcomes.unsolicited q z) = refl
 control_stays low (Outcomes.asked (Outcomes.afresh c z) x) = asked_in_place low x
 control_stays low (Outcomes.asked (Outcomes.as_it_was z) x) = asked_in_place low x
+control_stays low (Outcomes.exchanged high x) = elim x [ ]
 
 out : {m : Machine} {at : Drive} → at.place.sector ≡ m.drive.place.sector → KeptOut m (machine at m.sectors m.staging)
 out s = record { sectors = refl; staging = refl; sector = s }
@@ -266,7 +267,7 @@ in_place_lem : {d at : Drive} {c : ℕ} → is_data c ≡ false → (takes_words
 in_place_lem low w (Outcomes.in_place a) = refl
 in_place_lem {c = c} low w (Outcomes.at_target a z) = absurd (true≢false (sym a ∙ codes_in_place c low w))
 
-as_opened_lem : {d at : Drive} {e : Event} → Outcomes.Heard d e DataControl at → at ≡ as_opened e d
+as_opened_lem : {d : Drive} {e : Event} {at : Drive} → Outcomes.Heard d e DataControl at → at ≡ as_opened e d
 unfolding pick
 as_opened_lem (Outcomes.afresh (frame.control n) z) = rw n
 as_opened_lem (Outcomes.as_it_was z) = rw z

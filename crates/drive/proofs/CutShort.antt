@@ -119,13 +119,18 @@ staged_on {n} {j} {sectors} m e more c s =
 never_sent : {A : Type 0} (d : Drive) → is_write_open d.transfer ≡ false → is_data d.transfer.control ≡ true → not (is_taking d.transfer) ≡ false → A
 never_sent d c high t = absurd (false≢true (sym c ∙ write_open d.transfer high t))
 
+-- a word is no request
+never_asked : {A : Type 0} {d : Drive} {e : Event} {o : Outcome} → Outcomes.Asked d e WordFromHost o → A
+never_asked (Outcomes.bad q b) = elim q [ ]
+
 -- the write is over: what comes is a command's word
 over_on : {n j : ℕ} {sectors : List ℕ} (m : Machine) (e : Event) → is_write_open m.drive.transfer ≡ false → m.sectors ≡ sectors
     → row7 WordFromHost m.drive ≡ false → Unfinished n j sectors (left (done_by (Use WordFromHost) m e))
 over_on {n} {j} {sectors} m e w s t = by_outcome (Outcomes.work_done m.drive e m.sectors m.staging WordFromHost)
   where
     by_outcome : {r : Result} → Outcomes.WorkDone m.drive e m.sectors m.staging WordFromHost r → Unfinished n j sectors (left r)
-    by_outcome (Outcomes.quiet (Outcomes.asked h (Outcomes.bad q b))) = elim q [ ]
+    by_outcome (Outcomes.quiet (Outcomes.unsolicited r z)) = elim r [ ]
+    by_outcome (Outcomes.quiet (Outcomes.asked h x)) = never_asked x
     by_outcome (Outcomes.quiet (Outcomes.exchanged low x)) = over (exchange_closed low x) s
     by_outcome (Outcomes.miscompared high) = never_sent m.drive w high t
     by_outcome (Outcomes.completed high z) = never_sent m.drive w high t

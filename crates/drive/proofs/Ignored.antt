@@ -74,10 +74,17 @@ quiet_clears q h (Outcomes.unsolicited r z) = absurd (true≢false (sym (eq-eqb 
 quiet_clears {d} {e} q h (Outcomes.asked (Outcomes.afresh r y) x) = asked_left (nothing_left_lem d e.port h) x
 quiet_clears q h (Outcomes.asked (Outcomes.as_it_was y) x) = absurd (Outcomes.not_for_status q y)
 quiet_clears q h (Outcomes.exchanged low x) = absurd (no_exchange q x)
+quiet_clears q h (Outcomes.taken_last z) = elim q [ ]
+quiet_clears q h (Outcomes.taken x z) = elim q [ ]
+quiet_clears q h (Outcomes.ends z) = elim q [ ]
+quiet_clears q h Outcomes.status_told = elim q [ ]
 
 work_clears : {d : Drive} {e : Event} {sectors staging : List ℕ} {work : Work} {r : Result} → ClearsFirst e (Use work) → (pending_on d e.port).octet1 ≡ 0
     → Outcomes.WorkDone d e sectors staging work r → RequestLeaves r.outcome.answer (pending_on r.outcome.drive e.port)
 work_clears q h (Outcomes.quiet x) = quiet_clears q h x
+work_clears q h (Outcomes.miscompared z) = elim q [ ]
+work_clears q h (Outcomes.completed y z) = elim q [ ]
+work_clears q h (Outcomes.more y z) = elim q [ ]
 
 kind_clears : (m : Machine) (e : Event) {k : Kind} → ClearsFirst e k → (pending_on m.drive e.port).octet1 ≡ 0
     → RequestLeaves (done_by k m e).outcome.answer (pending_on (done_by k m e).outcome.drive e.port)

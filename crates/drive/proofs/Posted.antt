@@ -70,7 +70,7 @@ module _ (P : Pending → Type 0) (q : Postable P) where
   asked_keeps o (Outcomes.placed h) = o
   asked_keeps o (Outcomes.aimed h) = o
 
-  heard_keeps : {d at : Drive} {e : Event} {work : Work} → OnBoth P d → Outcomes.Heard d e work at → OnBoth P at
+  heard_keeps : {d : Drive} {e : Event} {at : Drive} {work : Work} → OnBoth P d → Outcomes.Heard d e work at → OnBoth P at
   unfolding octet2_cleared
   heard_keeps {d} {e = e} o (Outcomes.afresh c z) = posted_on_lem P d e.port _ o (q.clear _ (on_either P d e.port o))
   heard_keeps o (Outcomes.as_it_was z) = o
