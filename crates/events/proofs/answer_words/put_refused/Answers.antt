@@ -1,0 +1,8 @@
+-- `put_refused` meets its contract.
+-- Assumes nothing.
+use Rattle.events.proofs.ToldWords.{refused_over}
+use Rattle.std.proofs.Common.{rules}
+use Rattle.events.proofs.answer_words.put_refused.Goals as goal
+
+pub returns : goal.returns
+returns c = refused_over _ _ _ (c.put_done.ensures)

@@ -1,0 +1,8 @@
+-- `put_status` meets its contract.
+-- Assumes nothing.
+use Rattle.events.proofs.ToldWords.{status_over}
+use Rattle.std.proofs.Common.{rules}
+use Rattle.events.proofs.answer_words.put_status.Goals as goal
+
+pub returns : goal.returns
+returns c = status_over _ _ _ (c.put_done.ensures)

@@ -1,0 +1,10 @@
+-- `data_words` meets its contract.
+-- Assumes nothing.
+use Rattle.std.proofs.Common.{arith, rules}
+use Rattle.parts.specs.Control.{data_words}
+use Rattle.events.specs.State.{drive_in}
+use Rattle.events.proofs.coming.data_words.Goals as goal
+
+pub returns : goal.returns
+unfolding data_words drive_in
+returns c = rw (c.words_at.ensures.0, c.header_passes.ensures, c.field_words.ensures.0) (omega arith)

@@ -1,0 +1,19 @@
+-- `on_deselect` meets its contract.
+-- Assumes nothing.
+use Rattle.std.proofs.Common.{refl, ◌∙◌, rules}
+use Rattle.events.proofs.Done.{did_accepted, did_refused}
+use Rattle.events.proofs.Timely.{number_as, timely_told}
+use Rattle.parts.specs.Kind.{Deselect}
+use Rattle.events.proofs.kinds.on_deselect.Goals as goal
+
+pub returns-then-n-ne0 : goal.returns-then-n-ne0
+returns-then-n-ne0 c =
+    did_refused Deselect _ _ _ _ c.requires (number_as _ c.refusal-n.ensures c.none_at_all-formed.ensures (timely_told c.requires).one) c.if-n-ne0.true
+
+pub put_moved-requires : goal.put_moved-requires
+put_moved-requires c =
+    c.requires.long
+
+pub returns : goal.returns
+returns c =
+    did_accepted Deselect _ _ _ _ (number_as _ c.refusal-n.ensures c.none_at_all-formed.ensures (timely_told c.requires).one) c.if-n-ne0.false (record { answer = refl; state = c.put_moved.ensures ∙ rw (c.deselect.ensures, c.drive_in-d.ensures) })

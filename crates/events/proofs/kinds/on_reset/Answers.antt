@@ -1,0 +1,17 @@
+-- `on_reset` meets its contract.
+-- Assumes nothing.
+use Rattle.std.proofs.Common.{refl, ◌∙◌, arith, rules}
+use Rattle.events.proofs.Done.{did_refused, did_accepted}
+use Rattle.parts.specs.Kind.{Reset}
+use Rattle.laws.specs.Pick.{pick}
+use Rattle.events.proofs.kinds.on_reset.Goals as goal
+
+pub returns-then-not-none_at_all : goal.returns-then-not-none_at_all
+unfolding pick
+returns-then-not-none_at_all c =
+    did_refused Reset _ _ _ 8 c.requires (rw (← c.none_at_all.ensures, c.if-not-none_at_all.true)) (λ z. omega arith)
+
+pub returns : goal.returns
+unfolding pick
+returns c =
+    did_accepted Reset _ _ _ 0 (rw (← c.none_at_all.ensures, c.if-not-none_at_all.false)) refl (record { answer = refl; state = c.put_moved.ensures ∙ rw (c.reset.ensures, c.drive_in-d.ensures) })

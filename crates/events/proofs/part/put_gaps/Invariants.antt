@@ -1,0 +1,11 @@
+-- `put_gaps` meets its contract.
+-- Assumes nothing.
+use Rattle.std.proofs.Common.{◌≡◌, ◌+◌, ◌-◌, arith, rules}
+use Rattle.events.proofs.Parts.{Gapping, gapping_start, gapping_next, gapping_ended}
+use Rattle.events.proofs.part.put_gaps.Given as goal
+
+abbrev pub invariant-loop-i : goal.invariant-loop-i
+invariant-loop-i l = Gapping l.records l.initial.gaps l.gaps l.from l.count l.earlier l.i
+
+abbrev pub decreases-loop-i : goal.decreases-loop-i
+decreases-loop-i l = l.count - l.i

@@ -1,0 +1,9 @@
+-- `drive_in` meets its contract.
+-- Assumes nothing.
+use Rattle.events.specs.State.{drive_in}
+use Rattle.std.proofs.Common.{rules}
+use Rattle.events.proofs.state.drive_in.Goals as goal
+
+pub returns : goal.returns
+unfolding drive_in
+returns c = cc

@@ -1,0 +1,9 @@
+-- `place_in` meets its contract.
+-- Assumes nothing.
+use Rattle.events.specs.State.{drive_in}
+use Rattle.std.proofs.Common.{refl, rules}
+use Rattle.events.proofs.state.place_in.Goals as goal
+
+pub returns : goal.returns
+unfolding drive_in
+returns c = refl

@@ -1,0 +1,44 @@
+-- `on_take_word` meets its contract.
+-- Assumes nothing.
+use Rattle.std.proofs.Common.{not, refl, ap, arith, rules}
+use Rattle.parts.specs.Kind.{TakeWord, Use}
+use Rattle.drive.proofs.Own.{able_to_read}
+use Rattle.events.specs.State.{drive_in}
+use Rattle.events.proofs.Done.{did_accepted, did_refused, fit}
+use Rattle.events.proofs.Exchanges.{did_read, did_respond}
+use Rattle.events.proofs.Timely.{number_front, number_passed, number_last, timely_told, read_told, response_told, none_told}
+use Rattle.events.proofs.transfer.on_take_word.Goals as goal
+
+pub returns-then-n-ne0 : goal.returns-then-n-ne0
+returns-then-n-ne0 c =
+    did_refused (Use TakeWord) _ _ _ _ (fit c.requires.0) (number_front _ _ c.stranger-n.ensures c.none_at_all.ensures c.if-n-ne0.true) c.if-n-ne0.true
+
+pub take-requires : goal.take-requires
+unfolding drive_in
+take-requires c =
+    let told = read_told (timely_told (fit c.requires.0)) c.if-control-eq-READ.true in
+    (c.requires.0, able_to_read c.requires.0.passable told.gives, told.read)
+
+pub returns-then-control-eq-READ : goal.returns-then-control-eq-READ
+unfolding drive_in
+returns-then-control-eq-READ c =
+    let told = read_told (timely_told (fit c.requires.0)) c.if-control-eq-READ.true in
+    did_accepted (Use TakeWord) _ _ _ 0 (number_passed _ _ c.stranger-n.ensures c.none_at_all.ensures c.if-n-ne0.false (ap not told.gives)) refl (did_read _ _ told.high c.take.ensures)
+
+pub returns-then-control-ne-RESPONSE : goal.returns-then-control-ne-RESPONSE
+unfolding drive_in
+returns-then-control-ne-RESPONSE c =
+    let none = none_told (timely_told (fit c.requires.0)) c.if-control-eq-READ.false c.if-control-ne-RESPONSE.true in
+    did_refused (Use TakeWord) _ _ _ 7 (fit c.requires.0) (number_last _ _ c.stranger-n.ensures c.none_at_all.ensures c.if-n-ne0.false (ap not none)) (λ e. omega (arith, e))
+
+pub respond-requires : goal.respond-requires
+unfolding drive_in
+respond-requires c =
+    let told = response_told (timely_told (fit c.requires.0)) c.if-control-ne-RESPONSE.false in
+    (fit c.requires.0, c.requires.1, told.low, told.gives)
+
+pub returns : goal.returns
+unfolding drive_in
+returns c =
+    let told = response_told (timely_told (fit c.requires.0)) c.if-control-ne-RESPONSE.false in
+    did_accepted (Use TakeWord) _ _ _ 0 (number_passed _ _ c.stranger-n.ensures c.none_at_all.ensures c.if-n-ne0.false (ap not told.gives)) refl (did_respond _ _ told.low c.respond.ensures)
