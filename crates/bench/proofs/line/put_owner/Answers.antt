@@ -1,0 +1,43 @@
+-- `bench::line::put_owner` meets its contract: the three lines.
+-- Assumes nothing.
+use Prim.Native.Nat.{ℕ}
+use mathlib.Core.Path.{◌≡◌, ap}
+use mathlib.Core.List.{[], ◌∷◌, ◌++◌}
+use native.Mathlib.Omega.{arith}
+use borrow.Author.Tests.{ne_eqb}
+use lib.ListN.{length}
+use Rattle.laws.specs.Pick.{pick}
+use Rattle.bench.specs.Line.{owner_word, none_word, owner_line}
+use Rattle.bench.specs.Text.{digit, newline}
+use borrow.Author.Rules.{rules}
+use Rattle.bench.proofs.line.put_owner.Goals as goal
+
+port-0 : (owner : ℕ) → owner ≡ 0 → owner_line owner ≡ owner_word ++ (digit 0 ∷ []) ++ (newline ∷ [])
+unfolding owner_line pick
+port-0 owner e = rw e
+
+port-1 : (owner : ℕ) → owner ≡ 1 → owner_line owner ≡ owner_word ++ (digit 1 ∷ []) ++ (newline ∷ [])
+unfolding owner_line pick
+port-1 owner e = rw e
+
+nobody's : (owner : ℕ) → (owner ≡ 0 → ⊥) → (owner ≡ 1 → ⊥) → owner_line owner ≡ owner_word ++ none_word ++ (newline ∷ [])
+unfolding owner_line pick
+nobody's owner p q = rw (ne_eqb owner 0 p, ne_eqb owner 1 q)
+
+pub put-requires : goal.put-requires
+put-requires c κs = let b = c.before.before in omega (arith, b.before.before.requires, ap length (port-0 _ b.match.keys1))
+
+pub put-requires-in-1 : goal.put-requires-in-1
+put-requires-in-1 c κs = let b = c.before.before in omega (arith, b.before.before.requires, ap length (port-1 _ b.match.keys2))
+
+pub put-requires-in_default : goal.put-requires-in_default
+put-requires-in_default c κs = let b = c.before.before in omega (arith, b.before.before.requires, ap length (nobody's _ b.match.rest.0.1 b.match.rest.1))
+
+pub returns-in-0 : goal.returns-in-0
+returns-in-0 c = let b = c.before.before.before.before.before in rw (port-0 _ b.match.keys1) c.put.ensures
+
+pub returns-in-1 : goal.returns-in-1
+returns-in-1 c = let b = c.before.before.before.before.before in rw (port-1 _ b.match.keys2) c.put-in-1.ensures
+
+pub returns-in_default : goal.returns-in_default
+returns-in_default c = let b = c.before.before.before.before.before in rw (nobody's _ b.match.rest.0.1 b.match.rest.1) c.put-in_default.ensures

@@ -1,0 +1,38 @@
+-- `bench::run::event_at` meets its contract: the record that is decoded there.
+-- Assumes nothing.
+use Prim.Native.Nat.{ℕ, ◌≤◌}
+use mathlib.Core.Path.{◌≡◌, refl, ◌∙◌}
+use mathlib.Core.List.{List}
+use native.Mathlib.Omega.{arith}
+use borrow.Author.Tests.{le-ltb}
+use lib.ListN.{length, drop, length-drop}
+use Rattle.laws.proofs.Rows.{none_given}
+use Rattle.laws.proofs.Runs.{rest_whole}
+use Rattle.capture.specs.Record.{record_of, record_rows}
+use Rattle.capture.specs.declared.«record».RecordRead.TheVariants.{Decoded}
+use Rattle.drive.specs.Batch.{event_of}
+use borrow.Author.Rules.{rules}
+use Rattle.bench.proofs.run.event_at.Goals as goal
+
+-- the drive's event of a record is the capture's, without the tick
+as-recorded : (octets : List ℕ) → let r = record_of octets in record { port = r.port; kind = r.kind; a0 = r.a0; a1 = r.a1; a2 = r.a2; a3 = r.a3 } ≡ event_of octets
+unfolding record_of event_of
+as-recorded octets = refl
+
+pub returns-in-Decoded : goal.returns-in-Decoded
+returns-in-Decoded c =
+    let decoded : c.decode_record.result ≡ Decoded (record_of (drop c.args.at c.args.records.now)) = let a = c.args in
+    let slice = drop a.at a.records.now in
+    let long : 8 ≤ length slice = simp length-drop (omega arith) in
+    (rw (rest_whole a.records.now a.at) at c.decode_record.ensures.answer) ∙ rw (none_given (record_rows slice) (le-ltb (length slice) 8 long, tt)) in
+    let a = c.args in
+    let same : c.in-Decoded.r ≡ record_of (drop a.at a.records.now) = cc (decoded, c.in-Decoded.is) in
+    rw same (as-recorded (drop a.at a.records.now))
+
+pub returns-in-Refused : goal.returns-in-Refused
+returns-in-Refused c =
+    let decoded : c.decode_record.result ≡ Decoded (record_of (drop c.args.at c.args.records.now)) = let a = c.args in
+    let slice = drop a.at a.records.now in
+    let long : 8 ≤ length slice = simp length-drop (omega arith) in
+    (rw (rest_whole a.records.now a.at) at c.decode_record.ensures.answer) ∙ rw (none_given (record_rows slice) (le-ltb (length slice) 8 long, tt)) in
+    absurd (let z : ◌≡◌ {A = ℕ} 0 1 = cc (decoded) in omega arith)
