@@ -5,7 +5,6 @@ use mathlib.Core.Path.{◌≡◌, refl, ap, ◌∙◌}
 use mathlib.Core.Bool.{Bool}
 use mathlib.Core.List.{List, [], ◌∷◌, ◌++◌, map}
 use native.Mathlib.Omega.{arith}
-use borrow.Rule.Slice.PartMut.{same_len_mid}
 use lib.ListN.{length, get_or, take, drop, set, length-set}
 use Rattle.laws.specs.Pick.{pick}
 use Rattle.laws.specs.Lists.{written_over, written_at}
@@ -24,11 +23,6 @@ behind_the_first room part x h = ap (λ (l : List ℕ). written_at l 1 part) (st
 pub remains : (room : List ℕ) (x : ℕ) {count left places t : ℕ} → count ≡ t → 2 ≤ count → count ≤ 16 → count ≤ length room → count - 1 ≡ left → length (set room 0 x) - 1 ≡ places
     → (left < t) × ((0 < left) × (left ≤ 16) × (left ≤ places))
 remains room x e h few k l p = (omega arith, (omega arith, omega arith, omega (arith, length-set room 0 x)))
-
--- what was lent behind the first comes back as long as it was
-pub as_long : (room mid : List ℕ) (x : ℕ) → let put = set room 0 x in
-    length mid ≡ length (take (length put - 1) (drop 1 put)) → length (take 1 put ++ (mid ++ drop (length put - 1) (drop 1 put))) ≡ length room
-as_long room mid x e = same_len_mid 1 (length (set room 0 x) - 1) (set room 0 x) mid e ∙ length-set room 0 x
 
 -- ---- a side: how it takes a setting, its turn and the other's, and the other's moves, at which it hands over
 
