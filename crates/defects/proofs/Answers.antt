@@ -28,14 +28,14 @@ accepted_map o map r other e = by_found o.found refl e
     by_found true h e = absurd (never (other _ _ e))
     by_found false h e = (h, e)
 
-module _ (s : Setup) (inSectors : Bool) (octets before : List ℕ) (offence : Offence) (e : offence ≡ first_of (map_tests (not inSectors) s octets)) where
-  pub refused_map : offence.found ≡ true → MapListed s inSectors octets before before (Refused offence.number offence.offset)
+module _ (s : Setup) (in_sectors : Bool) (octets before : List ℕ) (offence : Offence) (e : offence ≡ first_of (map_tests (not in_sectors) s octets)) where
+  pub refused_map : offence.found ≡ true → MapListed s in_sectors octets before before (Refused offence.number offence.offset)
   unfolding pick
   refused_map f = record { answer = rw (← e, f); slice = rw (← e, f) }
 
   pub told_map : (after : List ℕ) (fields count : ℕ) (w : Walk) → offence.found ≡ false → EndsAt s octets fields w
       → count ≡ length (defects_before s octets fields) → after ≡ written_over before (list_octets (defects_before s octets fields))
-      → MapListed s inSectors octets before after (Map count w.cylinder w.head)
+      → MapListed s in_sectors octets before after (Map count w.cylinder w.head)
   unfolding pick
   told_map after fields count w f ends many slice =
       record { answer = rw (← e, f, many, ends.walk, ends.defects); slice = rw (← e, f) (slice ∙ rw ends.defects) }

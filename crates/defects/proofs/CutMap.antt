@@ -116,6 +116,7 @@ module _ (s : Setup) (octets : List ℕ) (offset : ℕ) (within : offset ≤ len
   cut_passed : (total k count : ℕ) → k + count ≡ suc total → Ends s octets offset k count → Same s cut octets k
       → Passed (tests_from true s cut k count) × Same s cut octets total
   unfolding tests_from
+  cut_passed total k zero sum x3 same = elim x3 [ ]
   cut_passed total k (suc count) sum (here over at within') same =
       let over' : is_ended (walk_at s cut k) ≡ true = rw same.walk over in
       let whole : k + count ≡ total = omega arith in

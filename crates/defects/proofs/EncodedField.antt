@@ -55,7 +55,7 @@ no_entry x rest b = rw b
 entries_read : (s : Setup) (defects : List Defect) (left at count : ℕ) (front rest : List ℕ)
     → length front ≡ at → AllEntries s defects → length defects ≤ left → 12 * left ≤ 12 * length defects + count
     → defects_from (front ++ (list_octets defects ++ (zeros count ++ rest))) at left ≡ defects
-unfolding defects_from
+unfolding defects_from defect_octets
 entries_read s [] zero at count front rest e f h z = refl
 entries_read s [] (suc left) at count front rest e f h z = no_entry _ _ (blank_behind front rest at count e (omega arith))
 entries_read s (d ∷ defects) zero at count front rest e f h z = absurd (omega arith)

@@ -18,32 +18,32 @@ use Rattle.defects.specs.declared.walk.Stepped.{Stepped}
 use Rattle.defects.proofs.Offences.{caught}
 use Rattle.defects.proofs.Reaching.{Reached, reached_short, reached_full, reached_stop, reached_end, ends_at}
 
-module _ (inSectors : Bool) (s : Setup) (octets : List ℕ) (size each : ℕ) (sized : size ≡ length octets) (sizes : each ≡ field_octets s) (k : ℕ) (w : Walk) (least : ℕ)
-    (here : Reached (not inSectors) s octets k w least) where
-  pub judged_end : (x : Offence) → is_ended w ≡ true → x ≡ first_of (28 at k * each when (not inSectors && ltb (k * each) size) ∷ [])
-      → MapJudged s inSectors octets (record { offence = x; walk = w; fields = k })
+module _ (in_sectors : Bool) (s : Setup) (octets : List ℕ) (size each : ℕ) (sized : size ≡ length octets) (sizes : each ≡ field_octets s) (k : ℕ) (w : Walk) (least : ℕ)
+    (here : Reached (not in_sectors) s octets k w least) where
+  pub judged_end : (x : Offence) → is_ended w ≡ true → x ≡ first_of (28 at k * each when (not in_sectors && ltb (k * each) size) ∷ [])
+      → MapJudged s in_sectors octets (record { offence = x; walk = w; fields = k })
   judged_end x e q =
-      record { offence = reached_end (not inSectors) s octets k w least here x e (q ∙ rw (sizes, sized)); ends = λ f. ends_at (not inSectors) s octets k w least here e }
+      record { offence = reached_end (not in_sectors) s octets k w least here x e (q ∙ rw (sizes, sized)); ends = λ f. ends_at (not in_sectors) s octets k w least here e }
 
   pub judged_short : (x : Offence) → k < data_fields s → is_ended w ≡ false → size < k * each + each → x ≡ offence_at 17 (k * each)
-      → MapJudged s inSectors octets (record { offence = x; walk = w; fields = k })
+      → MapJudged s in_sectors octets (record { offence = x; walk = w; fields = k })
   judged_short x h e short q =
-      let first = reached_short (not inSectors) s octets k w least here x h e (rw (sizes, sized) at short) (q ∙ rw sizes) in
+      let first = reached_short (not in_sectors) s octets k w least here x h e (rw (sizes, sized) at short) (q ∙ rw sizes) in
       record { offence = first; ends = caught q refl }
 
   pub judged_stop : (r : Stepped) → k < data_fields s → is_ended w ≡ false → k * each + each ≤ size
       → StepTaken s w least k (k * field_octets s) (field_at s octets w.original) (field_at s octets k) r → r.offence.found ≡ true
-      → MapJudged s inSectors octets (record { offence = r.offence; walk = w; fields = k })
+      → MapJudged s in_sectors octets (record { offence = r.offence; walk = w; fields = k })
   judged_stop r h e fits taken f =
-      record { offence = reached_stop (not inSectors) s octets k w least here r h e (rw (sizes, sized) at fits) taken f; ends = caught {x = r.offence} refl f }
+      record { offence = reached_stop (not in_sectors) s octets k w least here r h e (rw (sizes, sized) at fits) taken f; ends = caught {x = r.offence} refl f }
 
-  pub judged_last : (x : Offence) → data_fields s ≤ k → x ≡ first_of (last_tests w (not inSectors) (k * each) size)
-      → MapJudged s inSectors octets (record { offence = x; walk = w; fields = k })
+  pub judged_last : (x : Offence) → data_fields s ≤ k → x ≡ first_of (last_tests w (not in_sectors) (k * each) size)
+      → MapJudged s in_sectors octets (record { offence = x; walk = w; fields = k })
   unfolding pick first_of
   judged_last x h q = by_end_lem (is_ended w) refl
     where
-      by_end_lem : (ended : Bool) → is_ended w ≡ ended → MapJudged s inSectors octets (record { offence = x; walk = w; fields = k })
+      by_end_lem : (ended : Bool) → is_ended w ≡ ended → MapJudged s in_sectors octets (record { offence = x; walk = w; fields = k })
       by_end_lem true e = judged_end x e (q ∙ rw e)
       by_end_lem false e =
           let full : x ≡ offence_at 16 (k * field_octets s) = q ∙ rw (e, sizes) in
-          record { offence = reached_full (not inSectors) s octets k w least here x h e full; ends = caught full refl }
+          record { offence = reached_full (not in_sectors) s octets k w least here x h e full; ends = caught full refl }

@@ -25,27 +25,27 @@ start_few s k small h =
     let few = limits s small in
     mul-le-mul {n₁ = k} {n₂ = 8192} {m₂ = 2048} (omega (arith, few_fields s few)) (omega arith)
 
-pub loadable_before : {s : Setup} {inSectors : Bool} {octets sectors : List ℕ} {k : ℕ} (j : ℕ) → Loadable s inSectors octets sectors k → j ≤ k
-    → Loadable s inSectors octets sectors j
+pub loadable_before : {s : Setup} {in_sectors : Bool} {octets sectors : List ℕ} {k : ℕ} (j : ℕ) → Loadable s in_sectors octets sectors k → j ≤ k
+    → Loadable s in_sectors octets sectors j
 loadable_before {s} {k = k} j l h =
     let low : j * field_octets s ≤ k * field_octets s = mul-le-mul_right (field_octets s) h in
     record { limits = l.limits; room = l.room; inside = omega (arith, l.inside); whole = omega (arith, l.whole) }
 
-pub length_loaded : {s : Setup} {inSectors : Bool} {octets sectors : List ℕ} {k : ℕ} → Loadable s inSectors octets sectors k
-    → length (field_at s (string_in s inSectors octets sectors) k) ≡ field_octets s
-length_loaded {s} {inSectors} {octets} {sectors} {k} l = field_length s (string_in s inSectors octets sectors) k l.whole
+pub length_loaded : {s : Setup} {in_sectors : Bool} {octets sectors : List ℕ} {k : ℕ} → Loadable s in_sectors octets sectors k
+    → length (field_at s (string_in s in_sectors octets sectors) k) ≡ field_octets s
+length_loaded {s} {in_sectors} {octets} {sectors} {k} l = field_length s (string_in s in_sectors octets sectors) k l.whole
 
 -- ---- where it stands
 
-module _ {s : Setup} {inSectors : Bool} {octets sectors : List ℕ} {k : ℕ} (l : Loadable s inSectors octets sectors k) where
+module _ {s : Setup} {in_sectors : Bool} {octets sectors : List ℕ} {k : ℕ} (l : Loadable s in_sectors octets sectors k) where
   -- read off the last cylinder
-  pub off_the_cylinder : (field : List ℕ) → inSectors ≡ true → field ≡ field_at s (last_cylinder s sectors) k → field ≡ field_at s (string_in s inSectors octets sectors) k
+  pub off_the_cylinder : (field : List ℕ) → in_sectors ≡ true → field ≡ field_at s (last_cylinder s sectors) k → field ≡ field_at s (string_in s in_sectors octets sectors) k
   unfolding pick
   off_the_cylinder field e p = rw e p
 
   -- a window of the octets
-  module _ (at each : ℕ) (e : inSectors ≡ false) (starts : at ≡ k * field_octets s) (size : each ≡ field_octets s) where
-    pub window : take (at + each - at) (drop at octets) ≡ field_at s (string_in s inSectors octets sectors) k
+  module _ (at each : ℕ) (e : in_sectors ≡ false) (starts : at ≡ k * field_octets s) (size : each ≡ field_octets s) where
+    pub window : take (at + each - at) (drop at octets) ≡ field_at s (string_in s in_sectors octets sectors) k
     unfolding pick field_at
     window = let count : at + each - at ≡ each = omega arith in rw (count, e, starts, size)
 
@@ -53,9 +53,9 @@ module _ {s : Setup} {inSectors : Bool} {octets sectors : List ℕ} {k : ℕ} (l
     unfolding pick
     window_inside = rw (starts, size) (rw e at l.whole)
 
-pub judgeable : {s : Setup} {inSectors : Bool} {octets sectors : List ℕ} {k : ℕ} (w : Walk) (start : ℕ) (original field : List ℕ)
-    → Loadable s inSectors octets sectors k → w.set < 2 ^ 32 → w.original ≤ k → start ≡ k * field_octets s
-    → original ≡ field_at s (string_in s inSectors octets sectors) w.original → field ≡ field_at s (string_in s inSectors octets sectors) k
+pub judgeable : {s : Setup} {in_sectors : Bool} {octets sectors : List ℕ} {k : ℕ} (w : Walk) (start : ℕ) (original field : List ℕ)
+    → Loadable s in_sectors octets sectors k → w.set < 2 ^ 32 → w.original ≤ k → start ≡ k * field_octets s
+    → original ≡ field_at s (string_in s in_sectors octets sectors) w.original → field ≡ field_at s (string_in s in_sectors octets sectors) k
     → Judgeable s w start original field
 judgeable {s} {k = k} w start original field l few before e p q =
     let small = limits s l.limits in

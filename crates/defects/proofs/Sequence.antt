@@ -1,6 +1,6 @@
 -- `specs/Sequence` proved: the least address behind a list is above an address exactly where one of the list is not below it.
 -- Assumes nothing.
-use Prim.Native.Nat.{ℕ, ◌+◌, ◌<◌, ◌≤◌, max}
+use Prim.Native.Nat.{ℕ, ◌<◌}
 use mathlib.Core.Path.{◌≡◌, refl}
 use mathlib.Core.Bool.{Bool, true, false}
 use mathlib.Core.List.{List, [], ◌∷◌}
@@ -8,7 +8,7 @@ use mathlib.Core.Logic.{◌⊎◌, inl, inr, ⊎_elim}
 use native.Mathlib.Omega.{arith}
 use borrow.Author.Tests.{lt-ltb, ltb-true, ltb-false}
 use lib.Dec.{ltb}
-use Rattle.defects.specs.Defect.{address, behind, behind_all, is_out_of_sequence}
+use Rattle.defects.specs.Defect.{address, behind, behind_all}
 use Rattle.defects.specs.Sequence.{HasAbove, here, later, Sequence}
 use Rattle.defects.specs.declared.defect.Defect.{Defect}
 
@@ -26,6 +26,7 @@ module _ (d : Defect) where
   stays_below least (e ∷ defects) h = stays_below (behind least e) defects (omega arith)
 
   of_above : (least : ℕ) (defects : List Defect) → HasAbove d defects → address d < behind_all least defects
+  of_above least [] x = elim x [ ]
   of_above least (e ∷ defects) (here h) = stays_below (behind least e) defects (omega arith)
   of_above least (e ∷ defects) (later above) = of_above (behind least e) defects above
 

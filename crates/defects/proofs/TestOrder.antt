@@ -46,13 +46,12 @@ Leads [] = Unit
 Leads (test ∷ tests) = (test.holds ≡ true → Ahead test.number test.offset tests) × (test.holds ≡ false → Leads tests)
 
 pub least_of : {n offset : ℕ} {tests : List Test} → Leads tests → GivenAt n offset tests → Least n offset tests
-least_of l (here {test} {tests} e f h) =
-    rw (← e, ← f) (
-      λ holds. (omega arith, λ same. omega arith),
-      each_map (λ other. (test.offset ≤ other.offset) × (other.offset ≡ test.offset → test.number ≤ other.number))
-          (λ other. other.holds ≡ true → (test.offset ≤ other.offset) × (other.offset ≡ test.offset → test.number ≤ other.number))
-          (λ other p holds. p) tests (l.0 h),
-    )
+least_of {n} {offset} l (here {test} {tests} e f h) = (
+  λ holds. (omega arith, λ same. omega arith),
+  each_map (λ other. (test.offset ≤ other.offset) × (other.offset ≡ test.offset → test.number ≤ other.number))
+      (λ other. other.holds ≡ true → (offset ≤ other.offset) × (other.offset ≡ offset → n ≤ other.number))
+      (λ other p holds. (omega (arith, p.0), λ same. omega (arith, p.1 (omega arith)))) tests (l.0 h),
+)
 least_of l (later {test} {tests} h g) = (λ holds. absurd (true≢false (sym holds ∙ h)), least_of (l.1 h) g)
 
 pub ahead : (n offset low m : ℕ) (tests : List Test) → offset ≤ low → (low ≡ offset → n ≤ m) → From low m tests → Ahead n offset tests

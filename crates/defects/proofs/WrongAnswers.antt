@@ -3,7 +3,6 @@
 use Prim.Native.Nat.{ℕ}
 use mathlib.Core.Path.{refl, ap}
 use Rattle.laws.proofs.Differ.{differ, differ_at, never}
-use Rattle.defects.specs.Walk.{after}
 use Rattle.defects.specs.WrongAnswers.{WrongAnswers}
 use Rattle.defects.specs.declared.decoding.MapRead.{MapRead}
 use Rattle.defects.specs.declared.defect.DefectRead.{DefectRead}

@@ -2,7 +2,6 @@
 use Rattle.std.specs.Prelude.{ℕ, ◌≡◌, List, [], ◌∷◌, ◌++◌, replicate}
 use Rattle.laws.specs.Octets.{octets_of}
 use Rattle.parts.specs.declared.setup.Setup.{Setup}
-use Rattle.parts.specs.declared.setup.Place.{Place}
 use Rattle.defects.specs.Crc.{crc_of}
 use Rattle.defects.specs.Place.{place_of, place_refusal}
 use Rattle.defects.specs.Decoding.{decoded_in, defects_of}

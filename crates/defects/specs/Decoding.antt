@@ -1,5 +1,5 @@
 -- A map decoded: the first offence, or what the map tells.
-use Rattle.std.specs.Prelude.{ℕ, zero, suc, ◌/◌, ◌≡◌, true, not, List, ◌∷◌, ltb, length}
+use Rattle.std.specs.Prelude.{ℕ, ◌/◌, ◌≡◌, true, not, List, ◌∷◌, ltb, length}
 use Rattle.std.proofs.Math.Option.{Option, some, none}
 use Rattle.laws.specs.Pick.{pick}
 use Rattle.laws.specs.Lists.{written_over}

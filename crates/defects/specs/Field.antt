@@ -1,5 +1,5 @@
 -- "The format of each data field is shown below": what stands where in a data field.
-use Rattle.std.specs.Prelude.{ℕ, zero, suc, ◌+◌, ◌-◌, ◌*◌, ◌/◌, ◌%◌, Bool, not, ◌||◌, List, [], ◌∷◌, eqb, length, get_or}
+use Rattle.std.specs.Prelude.{ℕ, zero, suc, ◌+◌, ◌-◌, ◌/◌, ◌%◌, Bool, not, ◌||◌, List, [], ◌∷◌, eqb, length, get_or}
 use Rattle.laws.specs.Pick.{pick}
 use Rattle.laws.specs.Octets.{bit}
 use Rattle.defects.specs.Defect.{number_at, defect_at, is_blank}

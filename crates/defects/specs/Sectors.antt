@@ -10,7 +10,7 @@ use Rattle.defects.specs.Defect.{list_octets, refusal_in_encoded}
 use Rattle.defects.specs.Place.{field_octets, data_fields, place_of}
 use Rattle.defects.specs.Walk.{field_at, map_tests}
 use Rattle.defects.specs.Decoding.{defects_of, map_of, paper, paper_of}
-use Rattle.defects.specs.Encoding.{Value, defects_listed, sets_for, map_octets, is_encodable}
+use Rattle.defects.specs.Encoding.{defects_listed, sets_for, map_octets, is_encodable}
 use Rattle.defects.specs.declared.offence.Offence.{Offence}
 use Rattle.defects.specs.declared.decoding.MapRead.{MapRead}
 use Rattle.defects.specs.declared.defect.Encoded.{Encoded}

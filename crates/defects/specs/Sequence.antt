@@ -1,5 +1,5 @@
 -- "stored in order of increasing physical addresses": what it is to be out of sequence. `proofs/Sequence` proves it.
-use Rattle.std.specs.Prelude.{ℕ, ◌≤◌, ◌≡◌, true, List, ◌∷◌, ◌↔◌}
+use Rattle.std.specs.Prelude.{◌≤◌, ◌≡◌, true, List, ◌∷◌, ◌↔◌}
 use Rattle.defects.specs.Defect.{address, behind_all, is_out_of_sequence}
 use Rattle.defects.specs.declared.defect.Defect.{Defect}
 

@@ -45,18 +45,13 @@ pub put_padded-requires : goal.put_padded-requires
 put_padded-requires c =
     let known : let a = c.args in RunKnown a.setup a.job a.defects.now a.set c.run_of-run.result = let due = c.requires.0 in run_known (plan due.planned) due.within c.run_of-run.ensures in
     let r = c.run_of-run.result in
-    let same : length c.write_front.last.1.0 ≡ field_octets c.args.setup = c.write_front.kept.1.0 ∙ c.requires.1 in
+    let same : length c.write_front.new.field ≡ field_octets c.args.setup = c.write_front.auto.field ∙ c.requires.1 in
     omega (arith, (known).few, length-take (r.at + 12 * r.count - r.at) (drop r.at c.args.defects.now))
 
 pub returns : goal.returns
 returns c =
     let known : let a = c.args in RunKnown a.setup a.job a.defects.now a.set c.run_of-run.result = let due = c.requires.0 in run_known (plan due.planned) due.within c.run_of-run.ensures in
-    let flags = c.before.before.before in
-    let ordered = flags.before.before.before in
-    let run = ordered.before.before in
-    let octets = run.before.before in
-    let start = octets.before in
-    let r = run.run_of.result in
+    let r = c.run_of-run.result in
     let count : r.at + 12 * r.count - r.at ≡ 12 * r.count = omega arith in
-    filled start.pre.0 r _ _ start.args.field.now _ start.pre.1 (known run) (λ i. (octets.shared-slice-known.given i).fits) ordered.order-of.ensures flags.flags-for.ensures
+    filled c.requires.0 r _ _ c.args.field.now _ c.requires.1 known (search rules) c.order_of-order.ensures c.flags_for.ensures
     (rw (← count, ← c.write_front.ensures) c.put_padded.ensures)

@@ -10,7 +10,6 @@ use lib.Seq.{length-take-le, sets-eq, take-set-lt}
 use Rattle.laws.specs.Octets.{octets_of}
 use Rattle.defects.specs.EncodeSteps.{finished}
 use Rattle.defects.proofs.HighOctets.{word_high}
-use borrow.Author.Rules.{rules}
 use Rattle.defects.proofs.body.finish.Goals as goal
 
 -- two octets stored behind all others

@@ -1,20 +1,18 @@
 -- `defects::body::order_of` meets its contract: what is known of the defects passed, and those left, tell what all of them do.
 -- Assumes nothing.
-use Prim.Native.Nat.{ℕ, ◌+◌, ◌*◌, ◌≤◌, max}
+use Prim.Native.Nat.{ℕ, ◌+◌, max}
 use mathlib.Core.Path.{◌≡◌, refl, sym, ap, ◌∙◌}
 use mathlib.Core.Bool.{Bool, true, false, ◌||◌}
 use mathlib.Core.List.{List, [], ◌∷◌}
 use native.Mathlib.Omega.{arith}
 use lib.Dec.{ltb}
-use lib.ListN.{length}
-use Rattle.defects.specs.Defect.{address, behind_all}
+use Rattle.defects.specs.Defect.{address}
 use Rattle.defects.specs.Encoding.{list_from, is_unordered}
-use Rattle.defects.specs.EncodeSteps.{AllNear, Ordered}
+use Rattle.defects.specs.EncodeSteps.{Ordered}
 use Rattle.defects.specs.declared.body.Order.{Order}
 use Rattle.defects.specs.declared.defect.Defect.{Defect}
 use Rattle.defects.proofs.Listed.{listed_first}
-use borrow.Author.Rules.{rules}
-use Rattle.defects.proofs.body.order_of.Invariants.{Known, Passing}
+use Rattle.defects.proofs.body.order_of.Invariants.{Known}
 use Rattle.defects.proofs.body.order_of.Goals as goal
 
 or_later : (a b c : Bool) → a || (b || c) ≡ b || a || c
@@ -32,13 +30,13 @@ one_more {d = d} {order = order} e u n k =
       next = k.next ∙ rw (n, e);
     }
 
-or-none : (a : Bool) → a ≡ a || false
-or-none true = refl
-or-none false = refl
+or_none : (a : Bool) → a ≡ a || false
+or_none true = refl
+or_none false = refl
 
 all_passed : {least : ℕ} {all : List Defect} {order : Order} → Known least all [] order → Ordered least all order
 unfolding is_unordered
-all_passed {order = order} k = record { unordered = or-none order.unordered ∙ sym k.unordered; next = sym k.next }
+all_passed {order = order} k = record { unordered = or_none order.unordered ∙ sym k.unordered; next = sym k.next }
 
 pub loop-left-init : goal.loop-left-init
 loop-left-init c =
@@ -65,5 +63,5 @@ loop-left-preserved c =
 pub returns : goal.returns
 unfolding list_from
 returns c =
-    let none : c.loop-left.false ≡ 0 = omega arith in
+    let none : c.loop-left.left ≡ 0 = omega arith in
     all_passed (rw none at c.loop-left.invariant.known)

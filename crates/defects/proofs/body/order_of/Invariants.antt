@@ -1,19 +1,15 @@
 -- `defects::body::order_of` meets its contract: what is known of the defects passed, and those left, tell what all of them do.
 -- Assumes nothing.
-use Prim.Native.Nat.{ℕ, ◌+◌, ◌*◌, ◌≤◌, max}
-use mathlib.Core.Path.{◌≡◌, refl, sym, ap, ◌∙◌}
-use mathlib.Core.Bool.{Bool, true, false, ◌||◌}
-use mathlib.Core.List.{List, [], ◌∷◌}
-use native.Mathlib.Omega.{arith}
-use lib.Dec.{ltb}
+use Prim.Native.Nat.{ℕ, ◌+◌, ◌*◌, ◌≤◌}
+use mathlib.Core.Path.{◌≡◌}
+use mathlib.Core.Bool.{◌||◌}
+use mathlib.Core.List.{List}
 use lib.ListN.{length}
-use Rattle.defects.specs.Defect.{address, behind_all}
+use Rattle.defects.specs.Defect.{behind_all}
 use Rattle.defects.specs.Encoding.{list_from, is_unordered}
-use Rattle.defects.specs.EncodeSteps.{AllNear, Ordered}
+use Rattle.defects.specs.EncodeSteps.{AllNear}
 use Rattle.defects.specs.declared.body.Order.{Order}
 use Rattle.defects.specs.declared.defect.Defect.{Defect}
-use Rattle.defects.proofs.Listed.{listed_first}
-use borrow.Author.Rules.{rules}
 use Rattle.defects.proofs.body.order_of.Given as goal
 
 -- what is known behind some defects, with the rest to come

@@ -2,7 +2,6 @@
 -- Assumes nothing.
 use native.Mathlib.Omega.{arith}
 use borrow.Author.Tests.{lt-ltb, le-ltb}
-use borrow.Author.Rules.{rules}
 use Rattle.defects.proofs.body.order_with.Goals as goal
 
 pub returns-then-address-order : goal.returns-then-address-order

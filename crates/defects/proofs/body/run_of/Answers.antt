@@ -5,7 +5,6 @@ use mathlib.Core.Path.{◌≡◌, ap, ◌∙◌}
 use native.Mathlib.Omega.{arith}
 use Rattle.defects.specs.Field.{slots}
 use Rattle.defects.specs.Place.{field_octets}
-use borrow.Author.Rules.{rules}
 use Rattle.defects.proofs.body.run_of.Goals as goal
 
 pub overflow_mul-first : goal.overflow_mul-first

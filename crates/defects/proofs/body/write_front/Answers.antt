@@ -9,7 +9,6 @@ use lib.Seq.{sets}
 use Rattle.laws.proofs.Lists.{stored}
 use Rattle.defects.specs.EncodeSteps.{octets_in_front}
 use Rattle.defects.proofs.HighOctets.{long_octets, word_octets_lem}
-use borrow.Author.Rules.{rules}
 use Rattle.defects.proofs.body.write_front.Goals as goal
 
 pub bounds-field-1 : goal.bounds-field-1
@@ -58,7 +57,6 @@ pub returns : goal.returns
 unfolding octets_in_front
 returns c =
     let front = c.args.front in
-    let fits = c.struct_known-12-1.given in
     let opening = ap (λ (count : List ℕ). count ++ (front.flags ∷ front.copy ∷ [])) (word_octets_lem front.count (omega arith)) in
     let numbers = ap₂ ◌++◌ (ap₂ ◌++◌ opening (word_octets_lem front.sets (omega arith))) (word_octets_lem front.set (omega arith)) in
     let track = ap₂ ◌++◌ (ap₂ ◌++◌ numbers (long_octets front.cylinder (omega arith))) (word_octets_lem front.head (omega arith)) in

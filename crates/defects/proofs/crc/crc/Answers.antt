@@ -1,8 +1,7 @@
 -- `defects::crc::crc` meets its contract. The loop's invariant: the register is the CRC of the octets read so far. The measure is what is left of the length.
 -- Assumes nothing.
-use Prim.Native.Nat.{ℕ, ◌-◌, ◌<◌, ◌≤◌}
-use mathlib.Core.Path.{◌≡◌, refl}
-use mathlib.Core.List.{List}
+use Prim.Native.Nat.{◌<◌, ◌≤◌}
+use mathlib.Core.Path.{refl}
 use native.Mathlib.Numerals.{add-one}
 use native.Mathlib.Omega.{arith}
 use borrow.Author.Rules.{rules}
@@ -10,7 +9,6 @@ use lib.ListN.{length, take}
 use lib.Seq.{take-suc, take_all}
 use Rattle.laws.specs.Pick.{pick}
 use Rattle.defects.specs.Crc.{crc_of, remainder_after}
-use Rattle.defects.proofs.crc.crc.Invariants.{ReadSoFar}
 use Rattle.defects.proofs.crc.crc.Goals as goal
 
 pub loop-i-init : goal.loop-i-init

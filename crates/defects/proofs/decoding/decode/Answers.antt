@@ -10,7 +10,6 @@ use Rattle.defects.specs.declared.offence.Offence.{Offence}
 use Rattle.defects.proofs.Answers.{refused_map, told_map}
 use Rattle.defects.proofs.Decoded.{storage_inside}
 use Rattle.defects.proofs.Thirds.{third_enough}
-use borrow.Author.Rules.{rules}
 use Rattle.defects.proofs.decoding.decode.Goals as goal
 
 pub returns-then-offence : goal.returns-then-offence

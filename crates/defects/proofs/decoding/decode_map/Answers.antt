@@ -3,11 +3,10 @@
 use Rattle.defects.proofs.Promised.{map_decoded}
 use mathlib.Core.Path.{◌≡◌, refl, sym, ◌∙◌}
 use mathlib.Core.Bool.{true, false≢true}
-use borrow.Author.Tests.{lt-ltb, le-ltb, not-true, not-false}
+use borrow.Author.Tests.{lt-ltb, le-ltb}
 use Rattle.laws.specs.Pick.{pick}
 use Rattle.defects.specs.Offence.{first_of}
 use Rattle.parts.specs.Setup.{within_limits}
-use borrow.Author.Rules.{rules}
 use Rattle.defects.proofs.decoding.decode_map.Goals as goal
 
 pub returns-then-not-within_limits : goal.returns-then-not-within_limits

@@ -5,7 +5,7 @@ use Prim.Native.Nat.{◌*◌, ◌/◌, ◌≤◌}
 use mathlib.Core.Path.{◌≡◌, sym, ◌∙◌}
 use mathlib.Core.Bool.{true, false, ◌||◌}
 use native.Mathlib.Omega.{arith}
-use borrow.Author.Tests.{ltb-false, not-true, not-false}
+use borrow.Author.Tests.{ltb-false}
 use lib.Dec.{ltb}
 use lib.ListN.{length}
 use Rattle.laws.specs.Pick.{pick}
@@ -15,7 +15,6 @@ use Rattle.defects.specs.Offence.{first_of}
 use Rattle.defects.specs.Place.{field_octets, data_fields}
 use Rattle.defects.proofs.Loadables.{start_few}
 use Rattle.defects.proofs.SectorFields.{lacks_words, length_cylinder}
-use borrow.Author.Rules.{rules}
 use Rattle.defects.proofs.decoding.read_map.Goals as goal
 
 pub returns-then-not-within_limits : goal.returns-then-not-within_limits

@@ -3,7 +3,6 @@
 use borrow.Author.Tests.{lt-ltb, le-ltb}
 use Rattle.laws.specs.Pick.{pick}
 use Rattle.defects.proofs.Promised.{defect_decoded}
-use borrow.Author.Rules.{rules}
 use Rattle.defects.proofs.defect.decode_defect.Goals as goal
 
 pub returns-then-octets-lt-ENTRY_LENGTH : goal.returns-then-octets-lt-ENTRY_LENGTH

@@ -1,6 +1,5 @@
 -- `defects::defect::defect_at` meets its contract: its four numbers one by one.
 -- Assumes nothing.
-use borrow.Author.Rules.{rules}
 use Rattle.defects.proofs.defect.defect_at.Goals as goal
 
 pub returns : goal.returns

@@ -5,7 +5,6 @@ use native.Mathlib.Numerals.{towards_suc}
 use native.Mathlib.Omega.{arith}
 use Rattle.laws.proofs.Runs.{run_read}
 use Rattle.defects.specs.Defect.{number_at}
-use borrow.Author.Rules.{rules}
 use Rattle.defects.proofs.defect.long_at.Goals as goal
 
 pub returns : goal.returns

@@ -4,7 +4,6 @@ use native.Mathlib.Numerals.{add-one}
 use native.Mathlib.Omega.{arith}
 use Rattle.laws.proofs.Runs.{run_read}
 use Rattle.defects.specs.Defect.{number_at}
-use borrow.Author.Rules.{rules}
 use Rattle.defects.proofs.defect.word_at.Goals as goal
 
 pub returns : goal.returns

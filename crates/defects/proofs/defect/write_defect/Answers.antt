@@ -8,7 +8,6 @@ use lib.Seq.{sets}
 use Rattle.laws.proofs.Lists.{stored}
 use Rattle.defects.specs.Defect.{defect_octets}
 use Rattle.defects.proofs.HighOctets.{long_octets, word_octets_lem}
-use borrow.Author.Rules.{rules}
 use Rattle.defects.proofs.defect.write_defect.Goals as goal
 
 pub bounds-octets-1 : goal.bounds-octets-1
@@ -51,7 +50,6 @@ pub returns : goal.returns
 unfolding defect_octets
 returns c =
     let d = c.args.defect in
-    let fits = c.struct_known-12-1.given in
     let front = ap₂ ◌++◌ (long_octets d.cylinder (omega arith)) (word_octets_lem d.head (omega arith)) in
     let back = ap₂ ◌++◌ (ap₂ ◌++◌ front (long_octets d.offset (omega arith))) (word_octets_lem d.length (omega arith)) in
     ap (sets c.args.octets.now 0) back ∙ stored c.args.octets.now (defect_octets d) c.requires

@@ -1,11 +1,9 @@
 -- `defects::encodable::are_listable` meets its contract: those left are listable exactly if all are.
 -- Assumes nothing.
-use Prim.Native.Nat.{◌+◌, ◌-◌, ◌*◌, ◌≤◌}
+use Prim.Native.Nat.{◌+◌, ◌-◌}
 use mathlib.Core.Path.{◌≡◌, refl, sym, ◌∙◌}
 use mathlib.Core.Bool.{◌&&◌}
 use native.Mathlib.Omega.{arith}
-use borrow.Author.Tests.{not-true, not-false}
-use lib.ListN.{length}
 use Rattle.defects.specs.Encoding.{list_from, defects_listed, are_listable}
 use Rattle.defects.proofs.Listed.{listable_first}
 use borrow.Author.Rules.{rules}
@@ -20,7 +18,7 @@ returns-then-not-is_listable c =
     let l = c.loop-left in
     are_listable a.setup (defects_listed a.defects.now) ≡ c.is_listable.result && are_listable a.setup (list_from a.defects.now (l.at + 12) (l.left - 1)) = let a = c.args in
     c.loop-left.invariant.1 ∙ listable_first a.setup a.defects.now _ _ c.loop-left-test.true ∙ rw (c.is_listable.ensures, c.defect_at.ensures) in
-    sym (next ∙ rw (not-true c.is_listable.result c.if-not-is_listable.true))
+    sym (next ∙ rw c.if-not-is_listable.true)
 
 pub loop-left-preserved : goal.loop-left-preserved
 loop-left-preserved c =
@@ -28,7 +26,7 @@ loop-left-preserved c =
     let l = c.loop-left in
     are_listable a.setup (defects_listed a.defects.now) ≡ c.is_listable.result && are_listable a.setup (list_from a.defects.now (l.at + 12) (l.left - 1)) = let a = c.args in
     c.loop-left.invariant.1 ∙ listable_first a.setup a.defects.now _ _ c.loop-left-test.true ∙ rw (c.is_listable.ensures, c.defect_at.ensures) in
-    (search rules, next ∙ rw (not-false c.is_listable.result c.if-not-is_listable.false))
+    (search rules, next ∙ rw c.if-not-is_listable.false)
 
 pub returns : goal.returns
 unfolding are_listable list_from

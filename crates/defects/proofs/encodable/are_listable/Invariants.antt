@@ -1,14 +1,9 @@
 -- `defects::encodable::are_listable` meets its contract: those left are listable exactly if all are.
 -- Assumes nothing.
-use Prim.Native.Nat.{◌+◌, ◌-◌, ◌*◌, ◌≤◌}
-use mathlib.Core.Path.{◌≡◌, refl, sym, ◌∙◌}
-use mathlib.Core.Bool.{◌&&◌}
-use native.Mathlib.Omega.{arith}
-use borrow.Author.Tests.{not-true, not-false}
+use Prim.Native.Nat.{◌+◌, ◌*◌, ◌≤◌}
+use mathlib.Core.Path.{◌≡◌}
 use lib.ListN.{length}
 use Rattle.defects.specs.Encoding.{list_from, defects_listed, are_listable}
-use Rattle.defects.proofs.Listed.{listable_first}
-use borrow.Author.Rules.{rules}
 use Rattle.defects.proofs.encodable.are_listable.Given as goal
 
 abbrev pub invariant-loop-left : goal.invariant-loop-left

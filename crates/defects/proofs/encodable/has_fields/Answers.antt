@@ -7,7 +7,6 @@ use native.Mathlib.Omega.{arith}
 use borrow.Author.Tests.{le-leb, lt-leb, leb-true, leb-false}
 use lib.Dec.{leb}
 use Rattle.defects.specs.Encoding.{fits}
-use borrow.Author.Rules.{rules}
 use Rattle.defects.proofs.encodable.has_fields.Goals as goal
 
 by-thirds : (a b : ℕ) → leb a (b / 3) ≡ leb (3 * a) b

@@ -2,7 +2,6 @@
 -- Assumes nothing.
 use Rattle.defects.specs.Encoding.{is_encodable}
 use Rattle.defects.proofs.Listed.{length_listed}
-use borrow.Author.Rules.{rules}
 use Rattle.defects.proofs.encodable.is_encodable.Goals as goal
 
 pub returns : goal.returns

@@ -1,7 +1,6 @@
 -- `defects::encodable::is_listable` meets its contract.
 -- Assumes nothing.
 use Rattle.defects.specs.Encoding.{is_listable}
-use borrow.Author.Rules.{rules}
 use Rattle.defects.proofs.encodable.is_listable.Goals as goal
 
 pub returns : goal.returns

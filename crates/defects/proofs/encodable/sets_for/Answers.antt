@@ -4,7 +4,6 @@ use native.Mathlib.Omega.{arith}
 use borrow.Author.Tests.{ne_eqb}
 use Rattle.laws.proofs.Pick.{pick_f, steps}
 use Rattle.defects.specs.Encoding.{sets_for}
-use borrow.Author.Rules.{rules}
 use Rattle.defects.proofs.encodable.sets_for.Goals as goal
 
 pub returns-then-each-eq0 : goal.returns-then-each-eq0

@@ -5,7 +5,6 @@ use mathlib.Core.Path.{◌≡◌, refl, sym, ap, ◌∙◌}
 use mathlib.Core.Bool.{true, false}
 use native.Mathlib.Nat.{le-div_iff_mul-le}
 use native.Mathlib.Omega.{arith}
-use borrow.Author.Tests.{not-true, not-false}
 use lib.Dec.{ltb}
 use lib.ListN.{length}
 use Rattle.laws.specs.Pick.{pick}
@@ -16,7 +15,6 @@ use Rattle.defects.specs.declared.encoding.MapEncoded.TheVariants.{Written}
 use Rattle.defects.proofs.Plans.{plan}
 use Rattle.defects.proofs.Promised.{map_encoded}
 use Rattle.defects.proofs.EncodeRows.{Told, some_octets, length_told, lacks_octets, has_octets, planned, room_in_octets, whole_map}
-use borrow.Author.Rules.{rules}
 use Rattle.defects.proofs.encoding.encode_map.Goals as goal
 
 pub returns-then-not-within_limits : goal.returns-then-not-within_limits
@@ -59,7 +57,7 @@ overflow_cast-job c =
     let told : let a = c.args in
     Told a.setup (length a.defects.now / 12) c.field_octets-size.result c.sets_for-sets.result = record { limits = within; sized = c.field_octets-size.ensures; counted = c.sets_for-sets.ensures } in
     let ready : let a = c.args in
-    Planned a.setup (record { c = c.sets_for-sets.result; cylinder = a.storage_cylinder; head = a.storage_head; stored = false }) a.defects.now = let t = told in
+    Planned a.setup (record { sets = c.sets_for-sets.result; cylinder = a.storage_cylinder; head = a.storage_head; stored = false }) a.defects.now = let t = told in
     planned t.limits t.counted (rw c.is_encodable.ensures at c.if-defects-is_encodable.false) in
     let p = plan (ready) in
     omega (arith, p.fields, p.few)
@@ -72,7 +70,7 @@ put_sets-requires c =
     let has_room : let a = c.args in
     ltb (length a.out.now) (map_length a.setup (length a.defects.now / 12)) ≡ false = has_octets (told) _ c.if-out-size.false in
     let ready : let a = c.args in
-    Planned a.setup (record { c = c.sets_for-sets.result; cylinder = a.storage_cylinder; head = a.storage_head; stored = false }) a.defects.now = let t = told in
+    Planned a.setup (record { sets = c.sets_for-sets.result; cylinder = a.storage_cylinder; head = a.storage_head; stored = false }) a.defects.now = let t = told in
     planned t.limits t.counted (rw c.is_encodable.ensures at c.if-defects-is_encodable.false) in
     (ready, room_in_octets (ready) refl (has_room))
 
@@ -92,11 +90,8 @@ returns c =
     let has_room : let a = c.args in
     ltb (length a.out.now) (map_length a.setup (length a.defects.now / 12)) ≡ false = has_octets (told) _ c.if-out-size.false in
     let ready : let a = c.args in
-    Planned a.setup (record { c = c.sets_for-sets.result; cylinder = a.storage_cylinder; head = a.storage_head; stored = false }) a.defects.now = let t = told in
+    Planned a.setup (record { sets = c.sets_for-sets.result; cylinder = a.storage_cylinder; head = a.storage_head; stored = false }) a.defects.now = let t = told in
     planned t.limits t.counted (rw c.is_encodable.ensures at c.if-defects-is_encodable.false) in
-    let fit = c.before.before.before in
-    let room = fit.before.before in
-    let t = told room.before in
-    let small = t.limits in
-    let right = rw fit.before.is-encodable.ensures at fit.if3.left in
-    map_encoded (rw (small, has_room room, right) (ap Written (length_told t))) (rw (small, has_room room, right) (whole_map (ready fit) c.put_sets.ensures))
+    let small = told.limits in
+    let right = rw c.is_encodable.ensures at c.if-defects-is_encodable.false in
+    map_encoded (rw (small, has_room, right) (ap Written (length_told told))) (rw (small, has_room, right) (whole_map ready c.put_sets.ensures))

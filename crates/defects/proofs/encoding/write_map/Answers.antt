@@ -4,7 +4,6 @@ use Rattle.defects.proofs.Promised.{map_wrote}
 use mathlib.Core.Path.{◌≡◌, refl, sym, ◌∙◌}
 use mathlib.Core.Bool.{true, false}
 use native.Mathlib.Omega.{arith}
-use borrow.Author.Tests.{not-true, not-false}
 use lib.Dec.{ltb}
 use lib.ListN.{length}
 use Rattle.laws.specs.Pick.{pick}
@@ -13,7 +12,6 @@ use Rattle.defects.specs.EncodeSteps.{Planned}
 use Rattle.defects.proofs.Plans.{plan}
 use Rattle.defects.proofs.SectorFields.{lacks_words}
 use Rattle.defects.proofs.EncodeRows.{planned, room_in_words}
-use borrow.Author.Rules.{rules}
 use Rattle.defects.proofs.encoding.write_map.Goals as goal
 
 pub returns-then-not-within_limits : goal.returns-then-not-within_limits
@@ -46,7 +44,7 @@ pub overflow_cast-job : goal.overflow_cast-job
 overflow_cast-job c =
     let within : within_limits c.args.setup ≡ true = sym c.within_limits.ensures ∙ c.if-not-within_limits.false in
     let ready : let a = c.args in
-    Planned a.setup (record { c = c.sets_for-sets.result; cylinder = a.storage_cylinder; head = a.storage_head; stored = true }) a.defects.now = planned (within) c.sets_for-sets.ensures (rw c.is_encodable.ensures at c.if-defects-is_encodable.false) in
+    Planned a.setup (record { sets = c.sets_for-sets.result; cylinder = a.storage_cylinder; head = a.storage_head; stored = true }) a.defects.now = planned (within) c.sets_for-sets.ensures (rw c.is_encodable.ensures at c.if-defects-is_encodable.false) in
     let p = plan (ready) in
     omega (arith, p.fields, p.few)
 
@@ -58,7 +56,7 @@ put_sets-requires c =
     let has_room : let a = c.args in
     ltb (length a.sectors.now) (all_words a.setup) ≡ false = sym (told) ∙ c.if-lacks_room.false in
     let ready : let a = c.args in
-    Planned a.setup (record { c = c.sets_for-sets.result; cylinder = a.storage_cylinder; head = a.storage_head; stored = true }) a.defects.now = planned (within) c.sets_for-sets.ensures (rw c.is_encodable.ensures at c.if-defects-is_encodable.false) in
+    Planned a.setup (record { sets = c.sets_for-sets.result; cylinder = a.storage_cylinder; head = a.storage_head; stored = true }) a.defects.now = planned (within) c.sets_for-sets.ensures (rw c.is_encodable.ensures at c.if-defects-is_encodable.false) in
     (ready, room_in_words refl (has_room))
 
 pub returns : goal.returns
@@ -69,8 +67,6 @@ returns c =
     c.lacks_room.result ≡ ltb (length a.sectors.now) (all_words a.setup) = c.lacks_room.ensures ∙ lacks_words _ _ _ (within) c.sector_words.ensures in
     let has_room : let a = c.args in
     ltb (length a.sectors.now) (all_words a.setup) ≡ false = sym (told) ∙ c.if-lacks_room.false in
-    let fit = c.before.before.before in
-    let room = fit.before.before.before in
-    let small = within room.before.before.before in
-    let right = rw fit.before.is-encodable.ensures at fit.if3.left in
-    map_wrote (rw (small, has_room room, right)) (rw (small, has_room room, right, ← fit.before.before.sets-for.ensures) (c.put_sets.ensures.words refl))
+    let small = within in
+    let right = rw c.is_encodable.ensures at c.if-defects-is_encodable.false in
+    map_wrote (rw (small, has_room, right)) (rw (small, has_room, right, ← c.sets_for-sets.ensures) (c.put_sets.ensures.words refl))

@@ -2,7 +2,6 @@
 -- Assumes nothing.
 use Rattle.defects.specs.Defect.{address}
 use native.Mathlib.Omega.{arith}
-use borrow.Author.Rules.{rules}
 use Rattle.defects.proofs.entries.address_of.Goals as goal
 
 pub returns : goal.returns

@@ -5,11 +5,10 @@ use mathlib.Core.Path.{◌≡◌, ap}
 use lib.ListN.{length}
 use Rattle.defects.specs.Field.{slots}
 use Rattle.defects.specs.Defect.{defect_at, is_blank}
-use Prim.Native.Nat.{◌-◌}
 use native.Mathlib.Omega.{arith}
 use borrow.Author.Rules.{rules}
 use mathlib.Core.Path.{refl, sym, ◌∙◌}
-use Rattle.defects.proofs.EntriesLeft.{Left, left_start, left_none, left_stop, left_next, blank_left, none_left}
+use Rattle.defects.proofs.EntriesLeft.{left_start, left_none, left_stop, left_next, blank_left, none_left}
 use Rattle.defects.proofs.entries.entries_offence.Goals as goal
 
 pub loop-i-init : goal.loop-i-init

@@ -1,12 +1,11 @@
 -- `defects::entries::judge_entry` meets its contract: each way it goes is one row.
 -- Assumes nothing.
 use native.Mathlib.Omega.{arith}
-use mathlib.Core.Logic.{⊎_elim}
 use Rattle.parts.proofs.Bounds.{limits}
 use Rattle.defects.specs.Judging.{entry_tests}
 use Rattle.defects.proofs.Offences.{judged, found}
-use borrow.Author.Rules.{rules}
 use Rattle.defects.proofs.entries.judge_entry.Goals as goal
+use Rattle.defects.proofs.entries.judge_entry.Goals.{then-address-least, else-address-least}
 
 pub returns-then-setup-d : goal.returns-then-setup-d
 unfolding entry_tests
@@ -29,4 +28,4 @@ pub returns : goal.returns
 unfolding entry_tests
 returns c =
     let told = c.address_of-address.ensures.0 in
-    record { offence = rw (← told) (search judged depth 9); next = λ none. rw (← told) (⊎_elim (λ w. omega arith) (λ w. omega arith) c.if-address-least.branch) }
+    record { offence = rw (← told) (search judged depth 9); next = λ none. rw (← told) (elim c.if-address-least.branch [ then-address-least w ↦ omega arith | else-address-least w ↦ omega arith ]) }

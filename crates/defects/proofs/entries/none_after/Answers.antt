@@ -1,6 +1,5 @@
 -- `defects::entries::none_after_lem` meets its contract.
 -- Assumes nothing.
-use borrow.Author.Rules.{rules}
 use Rattle.defects.proofs.entries.none_after.Goals as goal
 
 pub returns : goal.returns

@@ -6,7 +6,6 @@ use Rattle.defects.proofs.Offences.{first_miss}
 use Rattle.defects.proofs.Offences.{judged}
 use Rattle.laws.specs.Pick.{pick}
 use Rattle.defects.specs.Judging.{front_tests}
-use borrow.Author.Rules.{rules}
 use Rattle.defects.proofs.front.front_offence.Goals as goal
 
 pub returns-then-front-size : goal.returns-then-front-size

@@ -12,7 +12,6 @@ use native.Mathlib.Omega.{arith}
 use Rattle.defects.proofs.Offences.{judged}
 use Rattle.laws.proofs.Pick.{told}
 use Rattle.defects.specs.Judging.{later_tests}
-use borrow.Author.Rules.{rules}
 use Rattle.defects.proofs.front.later_offence.Goals as goal
 
 pub returns-then-has_wrong_flags : goal.returns-then-has_wrong_flags

@@ -3,7 +3,6 @@
 use Rattle.defects.proofs.Offences.{judged}
 use Rattle.laws.proofs.Pick.{told}
 use Rattle.defects.specs.Judging.{opening_tests}
-use borrow.Author.Rules.{rules}
 use Rattle.defects.proofs.front.opening_offence.Goals as goal
 
 pub returns-then-has_wrong_flags : goal.returns-then-has_wrong_flags

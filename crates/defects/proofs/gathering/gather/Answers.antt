@@ -1,23 +1,15 @@
 -- `defects::gathering::gather` meets its contract: the defects listed so far, before those of the data fields left, are all of them.
 -- Assumes nothing.
-use Prim.Native.Nat.{ℕ, ◌+◌, ◌-◌, ◌*◌, ◌≤◌}
-use mathlib.Core.Path.{◌≡◌, refl, sym, ◌∙◌}
-use mathlib.Core.Bool.{Bool}
-use mathlib.Core.List.{List}
+use Prim.Native.Nat.{◌+◌, ◌*◌, ◌≤◌}
+use mathlib.Core.Path.{◌≡◌, refl}
 use native.Mathlib.Nat.{mul-le-mul_right, add-mul, one-mul}
 use native.Mathlib.Omega.{arith}
 use borrow.Author.Rules.{rules}
-use lib.ListN.{length, take}
-use lib.Seq.{length-take-le}
-use Rattle.parts.specs.declared.setup.Setup.{Setup}
-use Rattle.parts.proofs.Bounds.{limits}
+use lib.ListN.{length}
 use Rattle.defects.specs.Place.{field_octets}
 use Rattle.defects.specs.Walk.{field_at}
 use Rattle.defects.specs.Steps.{string_in, own_defects, Loadable}
-use Rattle.defects.proofs.Fields.{some_field}
-use Rattle.defects.proofs.Loadables.{length_loaded}
-use Rattle.defects.proofs.Gathers.{Gathering, gathering_start, gathering_next, own_room}
-use Rattle.defects.proofs.gathering.gather.Invariants.{Gathered}
+use Rattle.defects.proofs.Gathers.{gathering_start, gathering_next, own_room}
 use Rattle.defects.proofs.gathering.gather.Goals as goal
 
 pub loop-k-init : goal.loop-k-init

@@ -1,28 +1,19 @@
 -- `defects::gathering::gather` meets its contract: the defects listed so far, before those of the data fields left, are all of them.
 -- Assumes nothing.
-use Prim.Native.Nat.{ℕ, ◌+◌, ◌-◌, ◌*◌, ◌≤◌}
-use mathlib.Core.Path.{◌≡◌, refl, sym, ◌∙◌}
+use Prim.Native.Nat.{ℕ, ◌-◌, ◌≤◌}
+use mathlib.Core.Path.{◌≡◌}
 use mathlib.Core.Bool.{Bool}
 use mathlib.Core.List.{List}
-use native.Mathlib.Nat.{mul-le-mul_right, add-mul, one-mul}
-use native.Mathlib.Omega.{arith}
-use borrow.Author.Rules.{rules}
-use lib.ListN.{length, take}
-use lib.Seq.{length-take-le}
+use lib.ListN.{length}
 use Rattle.parts.specs.declared.setup.Setup.{Setup}
-use Rattle.parts.proofs.Bounds.{limits}
-use Rattle.defects.specs.Place.{field_octets}
-use Rattle.defects.specs.Walk.{field_at}
-use Rattle.defects.specs.Steps.{string_in, own_defects, Loadable}
-use Rattle.defects.proofs.Fields.{some_field}
-use Rattle.defects.proofs.Loadables.{length_loaded}
-use Rattle.defects.proofs.Gathers.{Gathering, gathering_start, gathering_next, own_room}
+use Rattle.defects.specs.Steps.{string_in}
+use Rattle.defects.proofs.Gathers.{Gathering}
 use Rattle.defects.proofs.gathering.gather.Given as goal
 
 -- the data fields before k are listed
-pub record Gathered (setup : Setup) (inSectors : Bool) (octets sectors : List ℕ) (fields : ℕ) (field₀ defects₀ field defects : List ℕ) (count copy k : ℕ) : Type 0 where
+pub record Gathered (setup : Setup) (in_sectors : Bool) (octets sectors : List ℕ) (fields : ℕ) (field₀ defects₀ field defects : List ℕ) (count copy k : ℕ) : Type 0 where
   pub within : k ≤ fields
-  pub gathered : Gathering setup (string_in setup inSectors octets sectors) defects₀ defects count copy k
+  pub gathered : Gathering setup (string_in setup in_sectors octets sectors) defects₀ defects count copy k
   pub fields' : length field ≡ length field₀
 
 abbrev pub invariant-loop-k : goal.invariant-loop-k

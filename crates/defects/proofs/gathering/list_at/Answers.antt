@@ -1,14 +1,13 @@
 -- `defects::gathering::list_at` meets its contract: either way it is the data field that is listed.
 -- Assumes nothing.
 use Prim.Native.Nat.{◌*◌}
-use mathlib.Core.Path.{◌≡◌, refl, sym, ap, ◌∙◌}
+use mathlib.Core.Path.{sym}
 use native.Mathlib.Omega.{arith}
-use lib.ListN.{length, take}
+use lib.ListN.{take}
 use lib.Seq.{length-take-le}
 use Rattle.parts.proofs.Bounds.{limits}
 use Rattle.defects.proofs.Fields.{some_field}
 use Rattle.defects.proofs.Loadables.{start_few, length_loaded, off_the_cylinder, window, window_inside}
-use borrow.Author.Rules.{rules}
 use Rattle.defects.proofs.gathering.list_at.Goals as goal
 
 pub load-requires : goal.load-requires
@@ -19,21 +18,23 @@ load-requires c =
 pub slice_bounds-list_field-end : goal.slice_bounds-list_field-end
 slice_bounds-list_field-end c =
     let few = limits _ c.requires.0.limits in
-    omega (arith, c.field_octets-each.ensures, c.load.kept, c.requires.2)
+    omega (arith, c.field_octets-each.ensures, c.load.auto.field, c.requires.2)
 
 pub slice_bounds-list_field-end-then-in_sectors : goal.slice_bounds-list_field-end-then-in_sectors
-slice_bounds-list_field-end-then-in_sectors c = sym (length-take-le _ _ (slice-reshare-prefix-list-field c.before))
+slice_bounds-list_field-end-then-in_sectors c =
+    let few = limits _ c.requires.0.limits in
+    sym (length-take-le _ _ (omega (arith, c.field_octets-each.ensures, c.load.auto.field, c.requires.2)))
 
 pub list_field-requires : goal.list_field-requires
 list_field-requires c =
     let l = c.requires.0 in
     let some = some_field c.args.setup c.args.k l.inside in
-    let there = off_the_cylinder l (take c.field_octets-each.result c.load.last.1.1.1.0) c.if-in_sectors.true (rw c.field_octets-each.ensures c.load.ensures) in
+    let there = off_the_cylinder l (take c.field_octets-each.result c.load.new.field) c.if-in_sectors.true (rw c.field_octets-each.ensures c.load.ensures) in
     (rw (there, length_loaded l) (omega arith), rw there c.requires.1)
 
 pub returns-then-in_sectors : goal.returns-then-in_sectors
 returns-then-in_sectors c =
-    let there = off_the_cylinder c.requires.0 (take c.field_octets-each.result c.load.last.1.1.1.0) c.if-in_sectors.true (rw c.field_octets-each.ensures c.load.ensures) in
+    let there = off_the_cylinder c.requires.0 (take c.field_octets-each.result c.load.new.field) c.if-in_sectors.true (rw c.field_octets-each.ensures c.load.ensures) in
     rw (← there) c.list_field.ensures
 
 pub overflow_mul-at : goal.overflow_mul-at

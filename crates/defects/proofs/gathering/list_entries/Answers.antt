@@ -6,12 +6,11 @@ use Rattle.defects.specs.Field.{slots}
 use Rattle.defects.specs.Defect.{defect_at, defect_octets, is_blank}
 use Rattle.defects.proofs.EntriesLeft.{blank_left, none_left}
 use Rattle.laws.proofs.Windows.{part_back}
-use Prim.Native.Nat.{◌+◌, ◌-◌, ◌*◌, ◌≤◌, ◌<◌}
+use Prim.Native.Nat.{◌+◌, ◌*◌, ◌≤◌, ◌<◌}
 use mathlib.Core.Path.{◌≡◌, sym, ap, ◌∙◌}
 use native.Mathlib.Omega.{arith}
-use borrow.Author.Rules.{rules}
 use lib.ListN.{length}
-use Rattle.defects.proofs.Listing.{Listing, listing_start, listing_none, listing_next}
+use Rattle.defects.proofs.Listing.{listing_start, listing_none, listing_next}
 use Rattle.defects.proofs.gathering.list_entries.Goals as goal
 
 pub loop-i-init : goal.loop-i-init
@@ -19,26 +18,26 @@ loop-i-init c = listing_start _ _ _ _ c.slots_of-slots.ensures
 
 pub returns-then-is_blank : goal.returns-then-is_blank
 returns-then-is_blank c =
-    let in-slot : c.loop-i.i < slots (length c.args.field.now) = omega (arith, c.loop-i.invariant.counted) in
-    let blank-told : is_blank (defect_at (14 + 12 * c.loop-i.i) c.args.field.now) ≡ c.is_blank.result = sym (c.is_blank.ensures ∙ ap is_blank c.defect_at-d.ensures) in
-    listing_none _ _ _ _ _ _ c.loop-i.invariant (blank_left _ _ _ (in-slot) (blank-told ∙ c.if-is_blank.true))
+    let in_slot : c.loop-i.i < slots (length c.args.field.now) = omega (arith, c.loop-i.invariant.counted) in
+    let blank_told : is_blank (defect_at (14 + 12 * c.loop-i.i) c.args.field.now) ≡ c.is_blank.result = sym (c.is_blank.ensures ∙ ap is_blank c.defect_at-d.ensures) in
+    listing_none _ _ _ _ _ _ c.loop-i.invariant (blank_left _ _ _ (in_slot) (blank_told ∙ c.if-is_blank.true))
 
 pub write_defect-requires : goal.write_defect-requires
 write_defect-requires c =
-    let in-slot : c.loop-i.i < slots (length c.args.field.now) = omega (arith, c.loop-i.invariant.counted) in
-    let blank-told : is_blank (defect_at (14 + 12 * c.loop-i.i) c.args.field.now) ≡ c.is_blank.result = sym (c.is_blank.ensures ∙ ap is_blank c.defect_at-d.ensures) in
-    let has_room : 12 * (c.args.count + c.loop-i.i) + 12 ≤ length c.loop-i.defects = let next = listing_next _ _ _ _ _ _ c.loop-i.invariant (in-slot) (blank-told ∙ c.if-is_blank.false) c.requires.1 in
+    let in_slot : c.loop-i.i < slots (length c.args.field.now) = omega (arith, c.loop-i.invariant.counted) in
+    let blank_told : is_blank (defect_at (14 + 12 * c.loop-i.i) c.args.field.now) ≡ c.is_blank.result = sym (c.is_blank.ensures ∙ ap is_blank c.defect_at-d.ensures) in
+    let has_room : 12 * (c.args.count + c.loop-i.i) + 12 ≤ length c.loop-i.defects = let next = listing_next _ _ _ _ _ _ c.loop-i.invariant (in_slot) (blank_told ∙ c.if-is_blank.false) c.requires.1 in
     omega (arith, next.many, c.loop-i.invariant.kept, c.requires.1) in
     let at = 12 * (c.args.count + c.loop-i.i) in
     rw (rest_whole c.loop-i.defects at) (simp length-drop (omega (arith, has_room)))
 
 pub loop-i-preserved : goal.loop-i-preserved
 loop-i-preserved c =
-    let in-slot : c.loop-i.i < slots (length c.args.field.now) = omega (arith, c.loop-i.invariant.counted) in
-    let blank-told : is_blank (defect_at (14 + 12 * c.loop-i.i) c.args.field.now) ≡ c.is_blank.result = sym (c.is_blank.ensures ∙ ap is_blank c.defect_at-d.ensures) in
+    let in_slot : c.loop-i.i < slots (length c.args.field.now) = omega (arith, c.loop-i.invariant.counted) in
+    let blank_told : is_blank (defect_at (14 + 12 * c.loop-i.i) c.args.field.now) ≡ c.is_blank.result = sym (c.is_blank.ensures ∙ ap is_blank c.defect_at-d.ensures) in
     let at = 12 * (c.args.count + c.loop-i.i) in
-    let written = part_back c.loop-i.defects at c.write_defect.new.1.0 (defect_octets (defect_at (14 + 12 * c.loop-i.i) c.args.field.now)) (c.write_defect.ensures ∙ rw c.defect_at-d.ensures) in
-    rw written (listing_next _ _ _ _ _ _ c.loop-i.invariant (in-slot) (blank-told ∙ c.if-is_blank.false) c.requires.1)
+    let written = part_back c.loop-i.defects at c.write_defect.new.octets (defect_octets (defect_at (14 + 12 * c.loop-i.i) c.args.field.now)) (c.write_defect.ensures ∙ rw c.defect_at-d.ensures) in
+    rw written (listing_next _ _ _ _ _ _ c.loop-i.invariant (in_slot) (blank_told ∙ c.if-is_blank.false) c.requires.1)
 
 pub returns : goal.returns
 returns c =

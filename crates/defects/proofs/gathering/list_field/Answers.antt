@@ -6,7 +6,6 @@ use native.Mathlib.Nat.{add-zero}
 use borrow.Author.Tests.{eq-eqb, ne_eqb}
 use Rattle.laws.specs.Pick.{pick}
 use Rattle.laws.proofs.Windows.{written_none}
-use borrow.Author.Rules.{rules}
 use Rattle.defects.proofs.gathering.list_field.Goals as goal
 
 pub returns-then-field : goal.returns-then-field

@@ -13,7 +13,6 @@ use Rattle.defects.specs.Offence.{◌at◌when◌, first_of, tests_over}
 use Rattle.defects.specs.Judging.{same_test}
 use Rattle.defects.specs.declared.offence.Offence.{Offence}
 use Rattle.defects.proofs.Offences.{first_hit, first_miss, stops, goes_on}
-use borrow.Author.Rules.{rules}
 use Rattle.defects.proofs.judging.copy_offence.Goals as goal
 
 pub returns-then-front : goal.returns-then-front
@@ -29,18 +28,18 @@ returns-then-field-walk c =
 
 pub returns-then-rest : goal.returns-then-rest
 returns-then-rest c =
-    let up-to-crc : let a = c.args in
+    let up_to_crc : let a = c.args in
     c.same_offence-rest.result ≡ first_of (tests_over (same_test a.start a.field.now a.original.now) 0 3 ++ (20 at a.start + 3 when not (eqb (get_or a.field.now 3 0) a.walk.copy) ∷ tests_over (same_test a.start a.field.now a.original.now) 4 (length a.field.now - 6))) = let a = c.args in
     let left : length a.field.now - 3 - 1 - 2 ≡ length a.field.now - 6 = omega arith in
     goes_on _ _ _ _ c.same_offence-front.ensures c.if-front.false
     (first_miss _ _ _ (not_f _ (eq-eqb _ _ c.if-field-walk.false)) (c.same_offence-rest.ensures ∙ ap (λ (n : ℕ). first_of (tests_over (same_test a.start a.field.now a.original.now) 4 n)) left)) in
-    stops _ _ _ (up-to-crc) c.if-rest.true
+    stops _ _ _ (up_to_crc) c.if-rest.true
 
 pub returns : goal.returns
 returns c =
-    let up-to-crc : let a = c.args in
+    let up_to_crc : let a = c.args in
     c.same_offence-rest.result ≡ first_of (tests_over (same_test a.start a.field.now a.original.now) 0 3 ++ (20 at a.start + 3 when not (eqb (get_or a.field.now 3 0) a.walk.copy) ∷ tests_over (same_test a.start a.field.now a.original.now) 4 (length a.field.now - 6))) = let a = c.args in
     let left : length a.field.now - 3 - 1 - 2 ≡ length a.field.now - 6 = omega arith in
     goes_on _ _ _ _ c.same_offence-front.ensures c.if-front.false
     (first_miss _ _ _ (not_f _ (eq-eqb _ _ c.if-field-walk.false)) (c.same_offence-rest.ensures ∙ ap (λ (n : ℕ). first_of (tests_over (same_test a.start a.field.now a.original.now) 4 n)) left)) in
-    goes_on _ _ _ _ (up-to-crc) c.if-rest.false c.crc_offence.ensures
+    goes_on _ _ _ _ (up_to_crc) c.if-rest.false c.crc_offence.ensures

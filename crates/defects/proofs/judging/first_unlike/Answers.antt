@@ -1,6 +1,6 @@
 -- `defects::judging::first_unlike` meets its contract: the first octet that differs is the one that the loop stops at.
 -- Assumes nothing.
-use Prim.Native.Nat.{ℕ, ◌+◌, ◌-◌, ◌≤◌}
+use Prim.Native.Nat.{ℕ, ◌+◌, ◌-◌}
 use mathlib.Core.Path.{◌≡◌, refl, ap}
 use native.Mathlib.Omega.{arith}
 use borrow.Author.Rules.{rules}

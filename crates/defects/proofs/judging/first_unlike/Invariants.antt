@@ -1,14 +1,9 @@
 -- `defects::judging::first_unlike` meets its contract: the first octet that differs is the one that the loop stops at.
 -- Assumes nothing.
-use Prim.Native.Nat.{ℕ, ◌+◌, ◌-◌, ◌≤◌}
-use mathlib.Core.Path.{◌≡◌, refl, ap}
-use native.Mathlib.Omega.{arith}
-use borrow.Author.Rules.{rules}
-use borrow.Author.Tests.{eq-eqb, ne_eqb}
-use Rattle.laws.proofs.Pick.{not_t, not_f}
+use Prim.Native.Nat.{◌+◌, ◌-◌, ◌≤◌}
+use mathlib.Core.Path.{◌≡◌}
 use Rattle.defects.specs.Offence.{first_of, tests_over}
 use Rattle.defects.specs.Judging.{same_test}
-use Rattle.defects.proofs.Offences.{over_next, over_hit, over_end}
 use Rattle.defects.proofs.judging.first_unlike.Given as goal
 
 abbrev pub invariant-loop-i : goal.invariant-loop-i

@@ -1,17 +1,10 @@
 -- `defects::judging::is_alike` meets its contract: as long as all octets were alike, the tests left are all that can hold.
 -- Assumes nothing.
 use Prim.Native.Nat.{ℕ, ◌+◌, ◌-◌, ◌≤◌}
-use mathlib.Core.Path.{◌≡◌, refl, sym, ap}
+use mathlib.Core.Path.{◌≡◌}
 use mathlib.Core.Bool.{true}
-use native.Mathlib.Omega.{arith}
-use borrow.Author.Rules.{rules}
-use lib.Dec.{eqb}
-use lib.ListN.{get_or}
-use Rattle.laws.proofs.Pick.{not_f}
-use Rattle.laws.proofs.Tests.{and_l, and_r}
 use Rattle.defects.specs.Offence.{first_of, tests_over}
 use Rattle.defects.specs.Judging.{same_test}
-use Rattle.defects.proofs.Offences.{over_next, over_end}
 use Rattle.defects.proofs.judging.is_alike.Given as goal
 
 abbrev pub invariant-loop-i : goal.invariant-loop-i

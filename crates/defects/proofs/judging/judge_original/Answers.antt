@@ -10,7 +10,6 @@ use Rattle.defects.proofs.EntriesLeft.{entries_few}
 use Rattle.defects.proofs.Originals.{in_front, in_entries, in_padding, in_crc}
 use mathlib.Core.Path.{◌≡◌, refl, ap, ◌∙◌}
 use Rattle.defects.proofs.Offences.{caught}
-use borrow.Author.Rules.{rules}
 use Rattle.defects.proofs.judging.judge_original.Goals as goal
 
 pub returns-then-fore : goal.returns-then-fore

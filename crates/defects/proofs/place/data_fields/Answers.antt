@@ -5,7 +5,6 @@ use native.Mathlib.Nat.{mul-le-mul}
 use native.Mathlib.Omega.{arith}
 use Rattle.laws.proofs.Pick.{steps}
 use Rattle.defects.specs.Place.{data_fields}
-use borrow.Author.Rules.{rules}
 use Rattle.defects.proofs.place.data_fields.Goals as goal
 
 pub returns-then-setup-lt-LEAST_FIELD_WORDS : goal.returns-then-setup-lt-LEAST_FIELD_WORDS

@@ -2,11 +2,10 @@
 -- Assumes nothing.
 use mathlib.Core.Path.{◌≡◌, sym, ◌∙◌}
 use mathlib.Core.Bool.{true}
-use borrow.Author.Tests.{le-leb, lt-leb, not-true, not-false}
+use borrow.Author.Tests.{le-leb, lt-leb}
 use Rattle.laws.specs.Pick.{pick}
 use Rattle.parts.specs.Setup.{within_limits}
 use Rattle.defects.proofs.Promised.{placed}
-use borrow.Author.Rules.{rules}
 use Rattle.defects.proofs.place.map_place.Goals as goal
 
 pub returns-then-not-within_limits : goal.returns-then-not-within_limits

@@ -2,7 +2,6 @@
 -- Assumes nothing.
 use Rattle.defects.specs.Sectors.{field_start}
 use Rattle.defects.proofs.Places.{places}
-use borrow.Author.Rules.{rules}
 use Rattle.defects.proofs.sectors.field_start.Goals as goal
 
 pub sector_start-requires : goal.sector_start-requires

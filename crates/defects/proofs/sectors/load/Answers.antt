@@ -5,7 +5,6 @@ use native.Mathlib.Omega.{arith}
 use Rattle.parts.proofs.Bounds.{limits}
 use Rattle.defects.specs.Sectors.{sector_field}
 use Rattle.defects.proofs.SectorFields.{field_in_room, field_of_cylinder}
-use borrow.Author.Rules.{rules}
 use Rattle.defects.proofs.sectors.load.Goals as goal
 
 pub load_words-requires : goal.load_words-requires

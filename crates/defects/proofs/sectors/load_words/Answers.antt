@@ -1,12 +1,11 @@
 -- `defects::sectors::load_words` meets its contract: after i turns, the words of i more octets are loaded.
 -- Assumes nothing.
 use Rattle.defects.proofs.Loading.{word_loaded}
-use Prim.Native.Nat.{◌+◌, ◌-◌, ◌*◌, ◌≤◌}
+use Prim.Native.Nat.{◌+◌}
 use mathlib.Core.Path.{◌≡◌, refl}
 use native.Mathlib.Omega.{arith}
 use borrow.Author.Rules.{rules}
-use lib.ListN.{length, take, drop, length-set}
-use Rattle.defects.specs.Sectors.{word_octets}
+use lib.ListN.{length-set}
 use Rattle.defects.proofs.sectors.load_words.Goals as goal
 
 pub loop-i-init : goal.loop-i-init
@@ -14,7 +13,7 @@ loop-i-init c = (search rules, refl, refl)
 
 pub overflow_cast-field : goal.overflow_cast-field
 overflow_cast-field c =
-    omega (arith, c.shared_slice_known-1.given (c.args.start + c.loop-i.i))
+    omega (arith, c.type_inv.sectors (c.args.start + c.loop-i.i))
 
 pub bounds-field-i-in-loop-i : goal.bounds-field-i-in-loop-i
 bounds-field-i-in-loop-i c = simp length-set (omega arith)

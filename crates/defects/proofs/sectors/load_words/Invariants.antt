@@ -1,11 +1,8 @@
 -- `defects::sectors::load_words` meets its contract: after i turns, the words of i more octets are loaded.
 -- Assumes nothing.
-use Rattle.defects.proofs.Loading.{word_loaded}
-use Prim.Native.Nat.{◌+◌, ◌-◌, ◌*◌, ◌≤◌}
-use mathlib.Core.Path.{◌≡◌, refl}
-use native.Mathlib.Omega.{arith}
-use borrow.Author.Rules.{rules}
-use lib.ListN.{length, take, drop, length-set}
+use Prim.Native.Nat.{◌-◌, ◌*◌, ◌≤◌}
+use mathlib.Core.Path.{◌≡◌}
+use lib.ListN.{length, take, drop}
 use Rattle.defects.specs.Sectors.{word_octets}
 use Rattle.defects.proofs.sectors.load_words.Given as goal
 

@@ -4,7 +4,6 @@ use mathlib.Core.Path.{refl}
 use native.Mathlib.Omega.{arith}
 use Rattle.parts.specs.Setup.{sector_number}
 use Rattle.parts.proofs.Bounds.{few_words, in_range, inside, limits}
-use borrow.Author.Rules.{rules}
 use Rattle.defects.proofs.sectors.sector_number.Goals as goal
 
 pub overflow_mul-track : goal.overflow_mul-track

@@ -4,7 +4,6 @@ use Prim.Native.Nat.{◌*◌, ◌<◌, ◌^◌}
 use native.Mathlib.Omega.{arith}
 use Rattle.parts.specs.Setup.{sector_start}
 use Rattle.parts.proofs.Bounds.{inside, limits, start_small}
-use borrow.Author.Rules.{rules}
 use Rattle.defects.proofs.sectors.sector_start.Goals as goal
 
 pub overflow_mul-result : goal.overflow_mul-result

@@ -1,20 +1,12 @@
 -- `defects::sets::put_sets` meets its contract: after so many sets, three times as many data fields are in their places.
 -- Assumes nothing.
-use Prim.Native.Nat.{ℕ, ◌+◌, ◌-◌, ◌*◌, ◌≤◌}
+use Prim.Native.Nat.{◌+◌, ◌*◌}
 use mathlib.Core.Path.{◌≡◌, refl, ◌∙◌}
-use mathlib.Core.List.{List}
 use native.Mathlib.Omega.{arith}
-use lib.ListN.{length}
-use Rattle.parts.specs.declared.setup.Setup.{Setup}
-use Rattle.defects.specs.Defect.{behind_all}
 use Rattle.defects.specs.Field.{slots}
 use Rattle.defects.specs.Place.{field_octets}
-use Rattle.defects.specs.Encoding.{map_octets, defects_before_set}
-use Rattle.defects.specs.EncodeSteps.{value_in, FieldsPut}
-use Rattle.defects.specs.declared.body.Job.{Job}
 use Rattle.defects.proofs.Stored.{none_put}
 use borrow.Author.Rules.{rules}
-use Rattle.defects.proofs.sets.put_sets.Invariants.{Walked}
 use Rattle.defects.proofs.sets.put_sets.Goals as goal
 
 pub loop-set-init : goal.loop-set-init
@@ -39,9 +31,9 @@ loop-set-preserved c =
     record {
       within = search rules;
       above = done.next;
-      same_out = c.put_set-least.kept.1.1.1.1.1.0 ∙ inv.same_out;
-      same_sectors = c.put_set-least.kept.1.1.1.1.1.1.0 ∙ inv.same_sectors;
-      c = rw more (done.put _ _ inv.put);
+      same_out = c.put_set-least.auto.out ∙ inv.same_out;
+      same_sectors = c.put_set-least.auto.sectors ∙ inv.same_sectors;
+      put = rw more (done.put _ _ inv.put);
     }
 
 pub returns : goal.returns

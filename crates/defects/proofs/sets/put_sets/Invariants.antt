@@ -1,19 +1,14 @@
 -- `defects::sets::put_sets` meets its contract: after so many sets, three times as many data fields are in their places.
 -- Assumes nothing.
-use Prim.Native.Nat.{ℕ, ◌+◌, ◌-◌, ◌*◌, ◌≤◌}
-use mathlib.Core.Path.{◌≡◌, refl, ◌∙◌}
+use Prim.Native.Nat.{ℕ, ◌-◌, ◌*◌, ◌≤◌}
+use mathlib.Core.Path.{◌≡◌}
 use mathlib.Core.List.{List}
-use native.Mathlib.Omega.{arith}
 use lib.ListN.{length}
 use Rattle.parts.specs.declared.setup.Setup.{Setup}
 use Rattle.defects.specs.Defect.{behind_all}
-use Rattle.defects.specs.Field.{slots}
-use Rattle.defects.specs.Place.{field_octets}
 use Rattle.defects.specs.Encoding.{map_octets, defects_before_set}
 use Rattle.defects.specs.EncodeSteps.{value_in, FieldsPut}
 use Rattle.defects.specs.declared.body.Job.{Job}
-use Rattle.defects.proofs.Stored.{none_put}
-use borrow.Author.Rules.{rules}
 use Rattle.defects.proofs.sets.put_sets.Given as goal
 
 pub record Walked (s : Setup) (job : Job) (octets out₀ sectors₀ out sectors : List ℕ) (set least : ℕ) : Type 0 where

@@ -2,7 +2,6 @@
 -- Assumes nothing.
 use mathlib.Core.Path.{sym}
 use lib.ListN.{get_or-eq_default}
-use borrow.Author.Rules.{rules}
 use Rattle.defects.proofs.storing.octet_or_zero.Goals as goal
 
 pub returns-else-i-octets : goal.returns-else-i-octets

@@ -7,7 +7,6 @@ use native.Mathlib.Omega.{arith}
 use lib.ListN.{length}
 use Rattle.defects.proofs.WordOctets.{length_words}
 use Rattle.defects.proofs.SectorFields.{field_in_room}
-use borrow.Author.Rules.{rules}
 use Rattle.defects.proofs.storing.put_field.Goals as goal
 
 pub field_start-requires : goal.field_start-requires
@@ -17,8 +16,6 @@ field_start-requires c =
 
 pub store-requires : goal.store-requires
 store-requires c =
-    let room : let a = c.args in
-    a.k * length a.field.now + length a.field.now ≤ length a.out.now = let has = c.requires in rw has.size (has.in_octets c.if-stored.false) in
     let has = c.requires in
     let there = has.in_words c.if-stored.true in
     let room = field_in_room _ _ has.limits there.0 in
@@ -38,8 +35,8 @@ put-requires c =
 
 pub returns-then-stored : goal.returns-then-stored
 returns-then-stored c =
-    record { octets = λ e. absurd (true≢false (sym c.if-stored.true ∙ e)); c = λ e. rw c.field_start.ensures at c.store.ensures }
+    record { octets = λ e. absurd (true≢false (sym c.if-stored.true ∙ e)); words = λ e. rw c.field_start.ensures at c.store.ensures }
 
 pub returns-else-stored : goal.returns-else-stored
 returns-else-stored c =
-    record { c = λ e. rw (← c.requires.size) c.put.ensures; words = λ e. absurd (false≢true (sym c.if-stored.false ∙ e)) }
+    record { octets = λ e. rw (← c.requires.size) c.put.ensures; words = λ e. absurd (false≢true (sym c.if-stored.false ∙ e)) }

@@ -1,11 +1,11 @@
 -- `defects::storing::store` meets its contract: after i turns, i words are pasted.
 -- Assumes nothing.
-use Prim.Native.Nat.{◌+◌, ◌-◌, ◌<◌, ◌≤◌}
+use Prim.Native.Nat.{◌+◌, ◌<◌}
 use mathlib.Core.Path.{◌≡◌, refl, sym, ◌∙◌}
 use native.Mathlib.Numerals.{add-one}
 use native.Mathlib.Omega.{arith}
 use lib.ListN.{length, length-set}
-use lib.Seq.{paste, paste-zero, paste-suc, take-length}
+use lib.Seq.{paste-zero, paste-suc, take-length}
 use Rattle.defects.specs.Sectors.{octet_words}
 use Rattle.defects.proofs.WordOctets.{length_words, word_there}
 use borrow.Author.Rules.{rules}

@@ -1,14 +1,10 @@
 -- `defects::storing::store` meets its contract: after i turns, i words are pasted.
 -- Assumes nothing.
-use Prim.Native.Nat.{◌+◌, ◌-◌, ◌<◌, ◌≤◌}
-use mathlib.Core.Path.{◌≡◌, refl, sym, ◌∙◌}
-use native.Mathlib.Numerals.{add-one}
-use native.Mathlib.Omega.{arith}
-use lib.ListN.{length, length-set}
-use lib.Seq.{paste, paste-zero, paste-suc, take-length}
+use Prim.Native.Nat.{◌-◌, ◌≤◌}
+use mathlib.Core.Path.{◌≡◌}
+use lib.ListN.{length}
+use lib.Seq.{paste}
 use Rattle.defects.specs.Sectors.{octet_words}
-use Rattle.defects.proofs.WordOctets.{length_words, word_there}
-use borrow.Author.Rules.{rules}
 use Rattle.defects.proofs.storing.store.Given as goal
 
 abbrev pub invariant-loop-i : goal.invariant-loop-i

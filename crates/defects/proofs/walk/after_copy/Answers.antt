@@ -2,7 +2,6 @@
 -- Assumes nothing.
 use borrow.Author.Tests.{eq-eqb, ne_eqb}
 use Rattle.laws.specs.Pick.{pick}
-use borrow.Author.Rules.{rules}
 use Rattle.defects.proofs.walk.after_copy.Goals as goal
 
 pub returns-then-walk-eq-LAST_COPY : goal.returns-then-walk-eq-LAST_COPY

@@ -5,7 +5,6 @@ use borrow.Author.Tests.{eq-eqb, ne_eqb}
 use Rattle.laws.specs.Pick.{pick}
 use Rattle.defects.specs.Offence.{first_of}
 use Rattle.defects.specs.Walk.{after}
-use borrow.Author.Rules.{rules}
 use Rattle.defects.proofs.walk.step.Goals as goal
 
 pub returns-then-field : goal.returns-then-field

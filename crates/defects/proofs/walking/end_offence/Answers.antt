@@ -1,7 +1,6 @@
 -- `defects::walking::end_offence` meets its contract.
 -- Assumes nothing.
 use Rattle.defects.proofs.Offences.{first_hit, first_miss, first_none}
-use borrow.Author.Rules.{rules}
 use Rattle.defects.proofs.walking.end_offence.Goals as goal
 
 pub returns-then-alone-start : goal.returns-then-alone-start

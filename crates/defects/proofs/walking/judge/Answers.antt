@@ -2,25 +2,19 @@
 -- Assumes nothing.
 use Rattle.parts.proofs.Bounds.{limits}
 use Prim.Native.Nat.{◌*◌, ◌+◌, ◌^◌, ◌<◌, ◌≤◌}
-use Prim.Native.Nat.{ℕ, ◌-◌}
 use mathlib.Core.Path.{◌≡◌, refl, ◌∙◌}
-use mathlib.Core.Bool.{Bool, not, false}
-use mathlib.Core.List.{List}
+use mathlib.Core.Bool.{not, false}
 use native.Mathlib.Omega.{arith}
-use borrow.Author.Rules.{rules}
 use lib.ListN.{length}
 use Rattle.laws.proofs.Pick.{told}
-use Rattle.parts.specs.declared.setup.Setup.{Setup}
 use Rattle.defects.specs.Place.{field_octets, data_fields}
 use Rattle.defects.specs.Steps.{string_in}
 use Rattle.defects.specs.Walk.{is_ended}
-use Rattle.defects.specs.declared.walk.Walk.{Walk}
 use Rattle.defects.proofs.Thirds.{counted}
 use Rattle.defects.proofs.Fields.{few_fields}
 use Rattle.defects.proofs.Loadables.{start_few}
-use Rattle.defects.proofs.Reaching.{Reached, reached_outset, reached_next}
+use Rattle.defects.proofs.Reaching.{reached_outset, reached_next}
 use Rattle.defects.proofs.Judgements.{judged_end, judged_short, judged_stop, judged_last}
-use Rattle.defects.proofs.walking.judge.Invariants.{Judging}
 use Rattle.defects.proofs.walking.judge.Goals as goal
 
 pub loop-k-init : goal.loop-k-init
@@ -63,12 +57,12 @@ turn-next-requires c =
     k * field_octets a.setup + field_octets a.setup ≤ length (string_in a.setup a.in_sectors a.octets.now a.sectors.now) = rw (← c.loop-k.invariant.sized, ← c.requires.0.sized) c.if-size-start.false in
     let a = c.args in
     let octets = string_in a.setup a.in_sectors a.octets.now a.sectors.now in
-    let c = counted a.setup octets c.loop-k.k in
+    let so_far = counted a.setup octets c.loop-k.k in
     let at = c.loop-k.invariant.reached in
     let many = few_fields a.setup (limits a.setup c.requires.0.limits) in (
       record { limits = c.requires.0.limits; room = c.requires.0.room; inside = one_more; whole = is_whole },
-      rw at.walk (omega (arith, c.fields, at.within, many)),
-      rw at.walk c.original,
+      rw at.walk (omega (arith, so_far.fields, at.within, many)),
+      rw at.walk so_far.original,
       omega (arith, c.loop-k.invariant.originals, c.requires.1),
       omega (arith, c.loop-k.invariant.fields, c.requires.2),
     )
@@ -90,8 +84,8 @@ loop-k-preserved c =
       counted = c.loop-k.invariant.counted;
       sized = c.loop-k.invariant.sized;
       reached = reached_next _ _ _ _ _ _ c.loop-k.invariant.reached _ (one_more) (going) (is_whole) c.turn-next.ensures c.if-offence.false;
-      originals = c.turn-next.auto.1.1.1.1.1.1.1.0 ∙ c.loop-k.invariant.originals;
-      fields = c.turn-next.auto.1.1.1.1.1.1.1.1.0 ∙ c.loop-k.invariant.fields;
+      originals = c.turn-next.auto.original ∙ c.loop-k.invariant.originals;
+      fields = c.turn-next.auto.field ∙ c.loop-k.invariant.fields;
     }
 
 pub overflow_mul-k : goal.overflow_mul-k

@@ -1,32 +1,22 @@
 -- `defects::walking::judge` meets its contract: after so many turns the walk stands where the definition has it, and no offence is behind it.
 -- Assumes nothing.
-use Rattle.parts.proofs.Bounds.{limits}
-use Prim.Native.Nat.{◌*◌, ◌+◌, ◌^◌, ◌<◌, ◌≤◌}
 use Prim.Native.Nat.{ℕ, ◌-◌}
-use mathlib.Core.Path.{◌≡◌, refl, ◌∙◌}
-use mathlib.Core.Bool.{Bool, not, false}
+use mathlib.Core.Path.{◌≡◌}
+use mathlib.Core.Bool.{Bool, not}
 use mathlib.Core.List.{List}
-use native.Mathlib.Omega.{arith}
-use borrow.Author.Rules.{rules}
 use lib.ListN.{length}
-use Rattle.laws.proofs.Pick.{told}
 use Rattle.parts.specs.declared.setup.Setup.{Setup}
 use Rattle.defects.specs.Place.{field_octets, data_fields}
 use Rattle.defects.specs.Steps.{string_in}
-use Rattle.defects.specs.Walk.{is_ended}
 use Rattle.defects.specs.declared.walk.Walk.{Walk}
-use Rattle.defects.proofs.Thirds.{counted}
-use Rattle.defects.proofs.Fields.{few_fields}
-use Rattle.defects.proofs.Loadables.{start_few}
-use Rattle.defects.proofs.Reaching.{Reached, reached_outset, reached_next}
-use Rattle.defects.proofs.Judgements.{judged_end, judged_short, judged_stop, judged_last}
+use Rattle.defects.proofs.Reaching.{Reached}
 use Rattle.defects.proofs.walking.judge.Given as goal
 
 -- no test before data field k holds
-pub record Judging (setup : Setup) (inSectors : Bool) (octets sectors original₀ field₀ : List ℕ) (count each : ℕ) (original field : List ℕ) (walk : Walk) (least k : ℕ) : Type 0 where
+pub record Judging (setup : Setup) (in_sectors : Bool) (octets sectors original₀ field₀ : List ℕ) (count each : ℕ) (original field : List ℕ) (walk : Walk) (least k : ℕ) : Type 0 where
   pub counted : count ≡ data_fields setup
   pub sized : each ≡ field_octets setup
-  pub reached : Reached (not inSectors) setup (string_in setup inSectors octets sectors) k walk least
+  pub reached : Reached (not in_sectors) setup (string_in setup in_sectors octets sectors) k walk least
   pub originals : length original ≡ length original₀
   pub fields : length field ≡ length field₀
 

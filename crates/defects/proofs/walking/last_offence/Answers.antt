@@ -4,7 +4,6 @@ use mathlib.Core.Path.{refl}
 use Rattle.laws.proofs.Pick.{told}
 use Rattle.laws.specs.Pick.{pick}
 use Rattle.defects.proofs.Offences.{first_hit}
-use borrow.Author.Rules.{rules}
 use Rattle.defects.proofs.walking.last_offence.Goals as goal
 
 pub returns-then-is_ended : goal.returns-then-is_ended

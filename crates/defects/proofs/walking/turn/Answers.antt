@@ -2,14 +2,16 @@
 -- Assumes nothing.
 use Prim.Native.Nat.{ℕ, ◌+◌, ◌-◌, ◌*◌, ◌≤◌}
 use mathlib.Core.Path.{◌≡◌, sym}
+use mathlib.Core.Bool.{Bool}
+use mathlib.Core.List.{List}
 use native.Mathlib.Omega.{arith}
 use lib.ListN.{length, take, drop}
 use lib.Seq.{length-take-le}
 use Rattle.parts.proofs.Bounds.{limits}
+use Rattle.parts.specs.declared.setup.Setup.{Setup}
 use Rattle.defects.specs.Walk.{field_at}
 use Rattle.defects.specs.Steps.{string_in}
 use Rattle.defects.proofs.Loadables.{start_few, loadable_before, off_the_cylinder, window, window_inside, judgeable}
-use borrow.Author.Rules.{rules}
 use Rattle.defects.proofs.walking.turn.Goals as goal
 
 pub overflow_mul-at : goal.overflow_mul-at
@@ -31,26 +33,32 @@ pub slice_bounds-step-end : goal.slice_bounds-step-end
 slice_bounds-step-end c =
     let fits : c.field_octets-each.result ≤ 2048 = let few = limits _ c.requires.0.limits in
     omega (arith, c.field_octets-each.ensures) in
-    omega (arith, fits, c.load.kept, c.requires.3)
-
-pub slice_bounds-step-end-then-in_sectors : goal.slice_bounds-step-end-then-in_sectors
-slice_bounds-step-end-then-in_sectors c = sym (length-take-le _ _ (slice-reshare-prefix-step c.before))
+    omega (arith, fits, c.load.auto.field, c.requires.3)
 
 pub slice_bounds-step-end-then-in_sectors-2 : goal.slice_bounds-step-end-then-in_sectors-2
 slice_bounds-step-end-then-in_sectors-2 c =
     let fits : c.field_octets-each.result ≤ 2048 = let few = limits _ c.requires.0.limits in
     omega (arith, c.field_octets-each.ensures) in
-    omega (arith, fits, c.load-then-in_sectors.kept, c.requires.4)
+    omega (arith, fits, c.load-then-in_sectors.auto.field, c.requires.4)
+
+pub slice_bounds-step-end-then-in_sectors : goal.slice_bounds-step-end-then-in_sectors
+slice_bounds-step-end-then-in_sectors c =
+    let fits : c.field_octets-each.result ≤ 2048 = let few = limits _ c.requires.0.limits in
+    omega (arith, c.field_octets-each.ensures) in
+    sym (length-take-le _ _ (omega (arith, fits, c.load.auto.field, c.requires.3)))
 
 pub slice_bounds-step-end-then-in_sectors-3 : goal.slice_bounds-step-end-then-in_sectors-3
-slice_bounds-step-end-then-in_sectors-3 c = sym (length-take-le _ _ (slice-reshare-prefix-step-2 c.before))
+slice_bounds-step-end-then-in_sectors-3 c =
+    let fits : c.field_octets-each.result ≤ 2048 = let few = limits _ c.requires.0.limits in
+    omega (arith, c.field_octets-each.ensures) in
+    sym (length-take-le _ _ (omega (arith, fits, c.load-then-in_sectors.auto.field, c.requires.4)))
 
 pub step-requires : goal.step-requires
 step-requires c =
     let loaded : let a = c.args in
     let string = string_in a.setup a.in_sectors a.octets.now a.sectors.now in
     let each = c.field_octets-each.result in
-    (take each c.load.new.1.1.1.0 ≡ field_at a.setup string a.walk.original) × (take each c.load-then-in_sectors.new.1.1.1.0 ≡ field_at a.setup string a.k) = let pre = c.requires in (
+    (take each c.load.new.field ≡ field_at a.setup string a.walk.original) × (take each c.load-then-in_sectors.new.field ≡ field_at a.setup string a.k) = let pre = c.requires in (
       off_the_cylinder (loadable_before _ pre.0 pre.2) _ c.if-in_sectors.true (rw c.field_octets-each.ensures c.load.ensures),
       off_the_cylinder pre.0 _ c.if-in_sectors.true (rw c.field_octets-each.ensures c.load-then-in_sectors.ensures),
     ) in
@@ -62,7 +70,7 @@ returns-then-in_sectors c =
     let loaded : let a = c.args in
     let string = string_in a.setup a.in_sectors a.octets.now a.sectors.now in
     let each = c.field_octets-each.result in
-    (take each c.load.new.1.1.1.0 ≡ field_at a.setup string a.walk.original) × (take each c.load-then-in_sectors.new.1.1.1.0 ≡ field_at a.setup string a.k) = let pre = c.requires in (
+    (take each c.load.new.field ≡ field_at a.setup string a.walk.original) × (take each c.load-then-in_sectors.new.field ≡ field_at a.setup string a.k) = let pre = c.requires in (
       off_the_cylinder (loadable_before _ pre.0 pre.2) _ c.if-in_sectors.true (rw c.field_octets-each.ensures c.load.ensures),
       off_the_cylinder pre.0 _ c.if-in_sectors.true (rw c.field_octets-each.ensures c.load-then-in_sectors.ensures),
     ) in
@@ -75,93 +83,93 @@ overflow_mul-first c =
     rw c.field_octets-each.ensures (omega arith)
 
 -- where copy 0 of the set and the data field are in the octets
-record Windows (start : tie.Start) (each : ℕ) : Type 0 where
-  begun : take (start.args.walk.original * each + each - start.args.walk.original * each) (drop (start.args.walk.original * each) start.args.octets.now) ≡ field_at start.args.setup (string_in start.args.setup start.args.in-sectors start.args.octets.now start.args.sectors.now) start.args.walk.original
-  begun-inside : start.args.walk.original * each + each ≤ length start.args.octets.now
-  this : take (start.args.k * each + each - start.args.k * each) (drop (start.args.k * each) start.args.octets.now) ≡ field_at start.args.setup (string_in start.args.setup start.args.in-sectors start.args.octets.now start.args.sectors.now) start.args.k
-  this-inside : start.args.k * each + each ≤ length start.args.octets.now
+record Windows (s : Setup) (in_sectors : Bool) (octets sectors : List ℕ) (original k each : ℕ) : Type 0 where
+  begun : take (original * each + each - original * each) (drop (original * each) octets) ≡ field_at s (string_in s in_sectors octets sectors) original
+  begun_inside : original * each + each ≤ length octets
+  this : take (k * each + each - k * each) (drop (k * each) octets) ≡ field_at s (string_in s in_sectors octets sectors) k
+  this_inside : k * each + each ≤ length octets
 
 pub overflow_add-begun : goal.overflow_add-begun
 overflow_add-begun c =
-    let windows : Windows c.before.before.before.before.before.before c.field_octets-each.result = let l = c.requires.0 in
+    let windows : let a = c.args in Windows a.setup a.in_sectors a.octets.now a.sectors.now a.walk.original a.k c.field_octets-each.result = let l = c.requires.0 in
     let first = loadable_before c.args.walk.original l c.requires.2 in
     let each = c.field_octets-each.result in
     let size = c.field_octets-each.ensures in
     record {
       begun = window first (c.args.walk.original * each) each c.if-in_sectors.false (rw size) size;
-      begun-inside = window_inside first (c.args.walk.original * each) each c.if-in_sectors.false (rw size) size;
+      begun_inside = window_inside first (c.args.walk.original * each) each c.if-in_sectors.false (rw size) size;
       this = window l (c.args.k * each) each c.if-in_sectors.false (rw size) size;
-      this-inside = window_inside l (c.args.k * each) each c.if-in_sectors.false (rw size) size;
+      this_inside = window_inside l (c.args.k * each) each c.if-in_sectors.false (rw size) size;
     } in
-    omega (arith, (windows).begun-inside)
+    omega (arith, (windows).begun_inside)
 
 pub slice_bounds-begun-end : goal.slice_bounds-begun-end
 slice_bounds-begun-end c =
-    let windows : Windows c.before.before.before.before.before.before c.field_octets-each.result = let l = c.requires.0 in
+    let windows : let a = c.args in Windows a.setup a.in_sectors a.octets.now a.sectors.now a.walk.original a.k c.field_octets-each.result = let l = c.requires.0 in
     let first = loadable_before c.args.walk.original l c.requires.2 in
     let each = c.field_octets-each.result in
     let size = c.field_octets-each.ensures in
     record {
       begun = window first (c.args.walk.original * each) each c.if-in_sectors.false (rw size) size;
-      begun-inside = window_inside first (c.args.walk.original * each) each c.if-in_sectors.false (rw size) size;
+      begun_inside = window_inside first (c.args.walk.original * each) each c.if-in_sectors.false (rw size) size;
       this = window l (c.args.k * each) each c.if-in_sectors.false (rw size) size;
-      this-inside = window_inside l (c.args.k * each) each c.if-in_sectors.false (rw size) size;
+      this_inside = window_inside l (c.args.k * each) each c.if-in_sectors.false (rw size) size;
     } in
-    (windows).begun-inside
+    (windows).begun_inside
 
 pub overflow_add-at : goal.overflow_add-at
 overflow_add-at c =
-    let windows : Windows c.before.before.before.before.before.before c.field_octets-each.result = let l = c.requires.0 in
+    let windows : let a = c.args in Windows a.setup a.in_sectors a.octets.now a.sectors.now a.walk.original a.k c.field_octets-each.result = let l = c.requires.0 in
     let first = loadable_before c.args.walk.original l c.requires.2 in
     let each = c.field_octets-each.result in
     let size = c.field_octets-each.ensures in
     record {
       begun = window first (c.args.walk.original * each) each c.if-in_sectors.false (rw size) size;
-      begun-inside = window_inside first (c.args.walk.original * each) each c.if-in_sectors.false (rw size) size;
+      begun_inside = window_inside first (c.args.walk.original * each) each c.if-in_sectors.false (rw size) size;
       this = window l (c.args.k * each) each c.if-in_sectors.false (rw size) size;
-      this-inside = window_inside l (c.args.k * each) each c.if-in_sectors.false (rw size) size;
+      this_inside = window_inside l (c.args.k * each) each c.if-in_sectors.false (rw size) size;
     } in
-    omega (arith, (windows).this-inside)
+    omega (arith, (windows).this_inside)
 
 pub slice_bounds-step-end-2 : goal.slice_bounds-step-end-2
 slice_bounds-step-end-2 c =
-    let windows : Windows c.before.before.before.before.before.before c.field_octets-each.result = let l = c.requires.0 in
+    let windows : let a = c.args in Windows a.setup a.in_sectors a.octets.now a.sectors.now a.walk.original a.k c.field_octets-each.result = let l = c.requires.0 in
     let first = loadable_before c.args.walk.original l c.requires.2 in
     let each = c.field_octets-each.result in
     let size = c.field_octets-each.ensures in
     record {
       begun = window first (c.args.walk.original * each) each c.if-in_sectors.false (rw size) size;
-      begun-inside = window_inside first (c.args.walk.original * each) each c.if-in_sectors.false (rw size) size;
+      begun_inside = window_inside first (c.args.walk.original * each) each c.if-in_sectors.false (rw size) size;
       this = window l (c.args.k * each) each c.if-in_sectors.false (rw size) size;
-      this-inside = window_inside l (c.args.k * each) each c.if-in_sectors.false (rw size) size;
+      this_inside = window_inside l (c.args.k * each) each c.if-in_sectors.false (rw size) size;
     } in
-    (windows).this-inside
+    (windows).this_inside
 
 pub step-requires-2 : goal.step-requires-2
 step-requires-2 c =
-    let windows : Windows c.before.before.before.before.before.before c.field_octets-each.result = let l = c.requires.0 in
+    let windows : let a = c.args in Windows a.setup a.in_sectors a.octets.now a.sectors.now a.walk.original a.k c.field_octets-each.result = let l = c.requires.0 in
     let first = loadable_before c.args.walk.original l c.requires.2 in
     let each = c.field_octets-each.result in
     let size = c.field_octets-each.ensures in
     record {
       begun = window first (c.args.walk.original * each) each c.if-in_sectors.false (rw size) size;
-      begun-inside = window_inside first (c.args.walk.original * each) each c.if-in_sectors.false (rw size) size;
+      begun_inside = window_inside first (c.args.walk.original * each) each c.if-in_sectors.false (rw size) size;
       this = window l (c.args.k * each) each c.if-in_sectors.false (rw size) size;
-      this-inside = window_inside l (c.args.k * each) each c.if-in_sectors.false (rw size) size;
+      this_inside = window_inside l (c.args.k * each) each c.if-in_sectors.false (rw size) size;
     } in
     let pre = c.requires in
     judgeable _ _ _ _ pre.0 pre.1 pre.2 (rw c.field_octets-each.ensures) (windows).begun (windows).this
 
 pub returns : goal.returns
 returns c =
-    let windows : Windows c.before.before.before.before.before.before c.field_octets-each.result = let l = c.requires.0 in
+    let windows : let a = c.args in Windows a.setup a.in_sectors a.octets.now a.sectors.now a.walk.original a.k c.field_octets-each.result = let l = c.requires.0 in
     let first = loadable_before c.args.walk.original l c.requires.2 in
     let each = c.field_octets-each.result in
     let size = c.field_octets-each.ensures in
     record {
       begun = window first (c.args.walk.original * each) each c.if-in_sectors.false (rw size) size;
-      begun-inside = window_inside first (c.args.walk.original * each) each c.if-in_sectors.false (rw size) size;
+      begun_inside = window_inside first (c.args.walk.original * each) each c.if-in_sectors.false (rw size) size;
       this = window l (c.args.k * each) each c.if-in_sectors.false (rw size) size;
-      this-inside = window_inside l (c.args.k * each) each c.if-in_sectors.false (rw size) size;
+      this_inside = window_inside l (c.args.k * each) each c.if-in_sectors.false (rw size) size;
     } in
     rw (← (windows).begun, ← (windows).this, ← c.field_octets-each.ensures) c.step-2.ensures
