@@ -25,19 +25,19 @@ unfolding owner_line pick
 nobody's owner p q = rw (ne_eqb owner 0 p, ne_eqb owner 1 q)
 
 pub put-requires : goal.put-requires
-put-requires c κs = let b = c.before.before in omega (arith, b.before.before.requires, ap length (port-0 _ b.match.keys1))
+put-requires c = omega (arith, c.requires, ap length (port-0 _ c.in-0.is))
 
 pub put-requires-in-1 : goal.put-requires-in-1
-put-requires-in-1 c κs = let b = c.before.before in omega (arith, b.before.before.requires, ap length (port-1 _ b.match.keys2))
+put-requires-in-1 c = omega (arith, c.requires, ap length (port-1 _ c.in-1.is))
 
 pub put-requires-in_default : goal.put-requires-in_default
-put-requires-in_default c κs = let b = c.before.before in omega (arith, b.before.before.requires, ap length (nobody's _ b.match.rest.0.1 b.match.rest.1))
+put-requires-in_default c = omega (arith, c.requires, ap length (nobody's _ c.in_default.in_default-own.rest.0.1 c.in_default.in_default-own.rest.1))
 
 pub returns-in-0 : goal.returns-in-0
-returns-in-0 c = let b = c.before.before.before.before.before in rw (port-0 _ b.match.keys1) c.put.ensures
+returns-in-0 c = rw (port-0 _ c.in-0.is) c.put.ensures
 
 pub returns-in-1 : goal.returns-in-1
-returns-in-1 c = let b = c.before.before.before.before.before in rw (port-1 _ b.match.keys2) c.put-in-1.ensures
+returns-in-1 c = rw (port-1 _ c.in-1.is) c.put-in-1.ensures
 
 pub returns-in_default : goal.returns-in_default
-returns-in_default c = let b = c.before.before.before.before.before in rw (nobody's _ b.match.rest.0.1 b.match.rest.1) c.put-in_default.ensures
+returns-in_default c = rw (nobody's _ c.in_default.in_default-own.rest.0.1 c.in_default.in_default-own.rest.1) c.put-in_default.ensures

@@ -28,7 +28,7 @@ put_line-end-requires c =
     let records = start.records.now in
     Going start.text.now start.at (lines_of_run 1 (machine start.bench start.sectors.now start.staging.now) (events_of records)) c.loop-i.text c.loop-i.end
     (line_of (c.loop-i.i + 1) c.event_at-event.result.port c.handle-outcome.result.answer
-    ++ left records (length records / 8) (c.loop-i.i + 1) (machine c.handle-outcome.result.drive c.handle-outcome.new.1.1.0 c.handle-outcome.new.1.1.1.0)) = let records = c.args.records.now in
+    ++ left records (length records / 8) (c.loop-i.i + 1) (machine c.handle-outcome.result.drive c.handle-outcome.new.sectors c.handle-outcome.new.staging)) = let records = c.args.records.now in
     rw (left_next records (length records / 8) c.loop-i.i c.loop-i-test.true c.event_at-event.ensures c.handle-outcome.ensures) at c.loop-i.invariant.4 in
     omega (arith, simp length-append at (going).room)
 
@@ -38,13 +38,13 @@ loop-i-preserved c =
     let records = start.records.now in
     Going start.text.now start.at (lines_of_run 1 (machine start.bench start.sectors.now start.staging.now) (events_of records)) c.loop-i.text c.loop-i.end
     (line_of (c.loop-i.i + 1) c.event_at-event.result.port c.handle-outcome.result.answer
-    ++ left records (length records / 8) (c.loop-i.i + 1) (machine c.handle-outcome.result.drive c.handle-outcome.new.1.1.0 c.handle-outcome.new.1.1.1.0)) = let records = c.args.records.now in
+    ++ left records (length records / 8) (c.loop-i.i + 1) (machine c.handle-outcome.result.drive c.handle-outcome.new.sectors c.handle-outcome.new.staging)) = let records = c.args.records.now in
     rw (left_next records (length records / 8) c.loop-i.i c.loop-i-test.true c.event_at-event.ensures c.handle-outcome.ensures) at c.loop-i.invariant.4 in
     let loop = c.loop-i in (
       omega (arith, c.loop-i-test.true),
-      c.put_line-end.auto.0 ∙ loop.invariant.1,
-      c.handle-outcome.auto.1.1.0 ∙ loop.invariant.2,
-      c.handle-outcome.auto.1.1.1.0 ∙ loop.invariant.3,
+      c.put_line-end.auto.text ∙ loop.invariant.1,
+      c.handle-outcome.auto.sectors ∙ loop.invariant.2,
+      c.handle-outcome.auto.staging ∙ loop.invariant.3,
       going_on_lem (going) c.put_line-end.ensures,
     )
 

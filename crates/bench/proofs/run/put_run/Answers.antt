@@ -21,7 +21,7 @@ put_numbered-at-requires c = omega (arith, simp length-append at (rw (run_report
 pub put_lines-requires : goal.put_lines-requires
 put_lines-requires c =
     let going : let a = c.args in
-    Going a.text.now 0 (run_report a.records.now) c.put_numbered-at.new.0 c.put_numbered-at.result (lines_of_run 1 bench_at_rest (events_of a.records.now)) = let room : 0 + length (run_report c.args.records.now) ≤ length c.args.text.now = omega (arith, c.requires) in
+    Going a.text.now 0 (run_report a.records.now) c.put_numbered-at.new.text c.put_numbered-at.result (lines_of_run 1 bench_at_rest (events_of a.records.now)) = let room : 0 + length (run_report c.args.records.now) ≤ length c.args.text.now = omega (arith, c.requires) in
     going_on_lem (going_from (run_report_lem c.args.records.now) room) c.put_numbered-at.ensures in
     let up : c.power_up-powered.result ≡ Up (at_rest bench) = bench_is_up c.power_up-powered.ensures in
     let rests : c.in-Up.bench ≡ at_rest bench = cc (up, c.in-Up.is) in
@@ -30,7 +30,7 @@ put_lines-requires c =
 pub returns-in-Up : goal.returns-in-Up
 returns-in-Up c =
     let going : let a = c.args in
-    Going a.text.now 0 (run_report a.records.now) c.put_numbered-at.new.0 c.put_numbered-at.result (lines_of_run 1 bench_at_rest (events_of a.records.now)) = let room : 0 + length (run_report c.args.records.now) ≤ length c.args.text.now = omega (arith, c.requires) in
+    Going a.text.now 0 (run_report a.records.now) c.put_numbered-at.new.text c.put_numbered-at.result (lines_of_run 1 bench_at_rest (events_of a.records.now)) = let room : 0 + length (run_report c.args.records.now) ≤ length c.args.text.now = omega (arith, c.requires) in
     going_on_lem (going_from (run_report_lem c.args.records.now) room) c.put_numbered-at.ensures in
     let up : c.power_up-powered.result ≡ Up (at_rest bench) = bench_is_up c.power_up-powered.ensures in
     let rests : c.in-Up.bench ≡ at_rest bench = cc (up, c.in-Up.is) in

@@ -7,10 +7,10 @@ use borrow.Author.Rules.{rules}
 use Rattle.bench.proofs.text.put_field.Goals as goal
 
 pub put_decimal-end-requires : goal.put_decimal-end-requires
-put_decimal-end-requires c κs = let h = simp length-append at c.requires in omega arith
+put_decimal-end-requires c = let h = simp length-append at c.requires in omega arith
 
 pub put_octet-requires : goal.put_octet-requires
-put_octet-requires c κs = let h = simp length-append at c.requires in omega (arith, c.put_decimal-end.ensures.behind)
+put_octet-requires c = let h = simp length-append at c.requires in omega (arith, c.put_decimal-end.ensures.behind)
 
 pub returns : goal.returns
 returns c = put_both c.put_decimal-end.ensures c.put_octet.ensures

@@ -19,11 +19,11 @@ put-number_at-requires c =
 
 pub put_decimal-end-requires : goal.put_decimal-end-requires
 unfolding numbered_line
-put_decimal-end-requires c κs = let first =
+put_decimal-end-requires c =
     let room : c.args.at + length c.args.word.now + length (decimal c.args.n) + 1 ≤ length c.args.text.now = let word = c.args.word.now in
     let digits = decimal c.args.n in
     omega (arith, c.requires, length-append (word ++ digits) (newline ∷ []), length-append word digits) in
-    c.before.before.before in omega (arith, room first.before.before.before.before, first.put.ensures.behind)
+    omega (arith, room, c.put-number_at.ensures.behind)
 
 pub put_octet-requires : goal.put_octet-requires
 unfolding numbered_line
