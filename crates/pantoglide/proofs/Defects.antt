@@ -151,6 +151,7 @@ none_found (test ∷ tests) e = by_test test.holds e (none_found tests)
 
 -- an answer that tells an offence: the first one, with a number that is not 0, since no test's is
 given_number : {n offset : ℕ} (tests : List Test) → From 0 1 tests → GivenAt n offset tests → Refusing n
+given_number [] from g = elim g [ ]
 given_number (test ∷ tests) from (here e f h) = rw (← e) (by_size test.number from.0.1)
   where
     by_size : (n : ℕ) → 1 ≤ n → Refusing n
