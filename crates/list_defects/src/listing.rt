@@ -97,17 +97,13 @@ fn say_each(rt: &impl Print, count: usize, defects: &[u8]) -> io::Result<()>
     for i in 0..count {
         let at = DEFECT_LENGTH * i;
         let end = at + DEFECT_LENGTH;
-        say_octets(rt, &defects[at..end])?;
+        match defects::decode_defect(&defects[at..end]) {
+            DefectRead::Decoded(defect) => say_defect(rt, defect)?,
+            // Twelve octets are never refused.
+            DefectRead::Refused(_) => unreachable!(),
+        }
     }
     Ok(())
-}
-
-fn say_octets(rt: &impl Print, octets: &[u8]) -> io::Result<()> {
-    match defects::decode_defect(octets) {
-        DefectRead::Decoded(defect) => say_defect(rt, defect),
-        // Twelve octets are never refused.
-        DefectRead::Refused(_) => Err(io::Error::from(io::ErrorKind::InvalidData)),
-    }
 }
 
 fn say_defect(rt: &impl Print, defect: Defect) -> io::Result<()> {
