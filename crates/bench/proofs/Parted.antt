@@ -13,7 +13,7 @@ use Rattle.laws.specs.Pick.{pick}
 use Rattle.laws.proofs.Lists.{each_one_of}
 use Rattle.parts.specs.declared.setup.Setup.{Setup}
 use Rattle.drive.specs.Answer.{paper}
-use Rattle.drive.specs.Run.{Machine, machine, answers, final}
+use Rattle.drive.specs.Run.{Machine, answers, final}
 use Rattle.drive.specs.AnswerWords.{answer_words, words_of_answers}
 use Rattle.drive.specs.Batch.{event_of, events_in, events_of, record_count}
 use Rattle.drive.specs.Bounded.{statuses, Bounded, AllBounded}

@@ -12,7 +12,7 @@ use Rattle.parts.specs.Setup.{is_place, is_target, no_target, following}
 use Rattle.parts.specs.Pending.{OneBit, bit7, bit6, bit5, bit4, with_bit, pending_of, noticed, faulted, nothing_pending}
 use Rattle.drive.specs.State.{at_place, with_place, with_target, pending_on, posted_on}
 use Rattle.drive.specs.Request.{octet2_cleared}
-use Rattle.drive.specs.Drive.{selected, head_stepped, at_its_target}
+use Rattle.drive.specs.Drive.{head_stepped, at_its_target}
 use Rattle.parts.specs.Tests.{has_stray_bit}
 use Rattle.parts.specs.declared.pending.Pending.{Pending}
 use Rattle.parts.specs.declared.setup.Setup.{Setup}

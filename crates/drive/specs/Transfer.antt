@@ -1,5 +1,5 @@
 -- "Data controls": the words of an open write or read.
-use Rattle.std.specs.Prelude.{ℕ, ◌+◌, Bool, not, ◌&&◌, List, [], eqb, take, drop, set, get_or}
+use Rattle.std.specs.Prelude.{ℕ, ◌+◌, Bool, not, ◌&&◌, List, eqb, take, drop, set, get_or}
 use Rattle.std.proofs.Math.Seq.{paste}
 use Rattle.laws.specs.Pick.{pick}
 use Rattle.laws.specs.Lists.{same_list}

@@ -12,7 +12,7 @@ use lib.Seq.{take_at, take-append_seam}
 use Rattle.laws.specs.Pick.{pick}
 use Rattle.parts.specs.declared.event.Event.{Event}
 use Rattle.drive.specs.Answer.{refusal_in}
-use Rattle.drive.specs.Run.{Machine, machine, answer_to, after, answers, final}
+use Rattle.drive.specs.Run.{Machine, answer_to, after, answers, final}
 use Rattle.drive.specs.Batch.{events_of}
 use Rattle.drive.specs.AnswerWords.{answer_words, words_of_answers}
 use Rattle.drive.specs.declared.drive.Drive.{Drive}

@@ -4,12 +4,7 @@ ghost use Rattle.pantoglide.specs.Capture.{CaptureFound, CaptureMade};
 use capture::{CaptureEncoded, CaptureRead};
 
 // 0, where the first record starts and how many there are; or the refusal and nothing changed.
-#[unsafe(no_mangle)]
-pub extern "C" fn pg_capture(
-    octets: &[u8],
-    first_record: &mut usize,
-    record_count: &mut usize,
-) -> u8
+pub fn pg_capture(octets: &[u8], first_record: &mut usize, record_count: &mut usize) -> u8
     ensures { CaptureFound octets.now first_record.old record_count.old result first_record.new record_count.new }
 {
     match capture::decode_capture(octets) {
@@ -23,13 +18,7 @@ pub extern "C" fn pg_capture(
 }
 
 // 0, the capture at the front of `out` and its size; or the refusal and nothing changed.
-#[unsafe(no_mangle)]
-pub extern "C" fn pg_make_capture(
-    notes: &[u8],
-    records: &[u8],
-    out: &mut [u8],
-    size: &mut usize,
-) -> u8
+pub fn pg_make_capture(notes: &[u8], records: &[u8], out: &mut [u8], size: &mut usize) -> u8
     ensures { CaptureMade notes.now records.now out.old size.old result out.new size.new }
 {
     match capture::encode_capture(notes, records, out) {

@@ -6,8 +6,7 @@ use defects::{Defect, DefectRead, Encoded, MapPlace};
 use parts::Setup;
 
 // 0 and the four numbers of the defect; or the refusal and nothing changed.
-#[unsafe(no_mangle)]
-pub extern "C" fn pg_decode_defect(
+pub fn pg_decode_defect(
     octets: &[u8],
     cylinder: &mut u32,
     head: &mut u16,
@@ -29,14 +28,7 @@ pub extern "C" fn pg_decode_defect(
 }
 
 // 0 and the defect at the front of `octets`; or the refusal and nothing changed.
-#[unsafe(no_mangle)]
-pub extern "C" fn pg_encode_defect(
-    cylinder: u32,
-    head: u16,
-    offset: u32,
-    length: u16,
-    octets: &mut [u8],
-) -> u8
+pub fn pg_encode_defect(cylinder: u32, head: u16, offset: u32, length: u16, octets: &mut [u8]) -> u8
     ensures { DefectMade cylinder head offset length octets.old result octets.new }
 {
     let defect = Defect {
@@ -52,8 +44,7 @@ pub extern "C" fn pg_encode_defect(
 }
 
 // 0 and the place of a data field of the map, counted from 0; or the refusal and nothing changed.
-#[unsafe(no_mangle)]
-pub extern "C" fn pg_map_place(
+pub fn pg_map_place(
     cylinders: u16,
     heads: u16,
     sectors: u16,

@@ -3,8 +3,7 @@ ghost use Rattle.events.specs.Event.{event_of_octets, EventOnWords};
 
 use parts::Event;
 
-#[unsafe(no_mangle)]
-pub extern "C" fn pg_event(
+pub fn pg_event(
     state: &mut [u16],
     port: u8,
     kind: u8,

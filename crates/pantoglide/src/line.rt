@@ -15,8 +15,7 @@ const HISTORY: u8 = 32;
 
 const LOST: u8 = 64;
 
-#[unsafe(no_mangle)]
-pub extern "C" fn pg_line(follower: &mut [u8], setting: u8) -> u8
+pub fn pg_line(follower: &mut [u8], setting: u8) -> u8
     ensures { LineFollowed follower.old setting result follower.new }
 {
     if follower.len() < 1 {

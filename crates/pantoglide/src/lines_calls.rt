@@ -7,8 +7,7 @@ ghost use Rattle.pantoglide.specs.Lines.{octet_left, LinesRead};
 use crate::line;
 use lines::{Follower, Traced};
 
-#[unsafe(no_mangle)]
-pub extern "C" fn pg_lines(follower: &mut [u8], trace: &[u8], answers: &mut [u8]) -> u8
+pub fn pg_lines(follower: &mut [u8], trace: &[u8], answers: &mut [u8]) -> u8
     ensures { LinesRead step_by_step follower.old trace.now answers.old result follower.new answers.new }
 {
     if follower.len() < 1 {
@@ -23,8 +22,7 @@ pub extern "C" fn pg_lines(follower: &mut [u8], trace: &[u8], answers: &mut [u8]
     }
 }
 
-#[unsafe(no_mangle)]
-pub extern "C" fn pg_lines_plain(follower: &mut [u8], trace: &[u8], answers: &mut [u8]) -> u8
+pub fn pg_lines_plain(follower: &mut [u8], trace: &[u8], answers: &mut [u8]) -> u8
     ensures { LinesRead read_plainly follower.old trace.now answers.old result follower.new answers.new }
 {
     if follower.len() < 1 {

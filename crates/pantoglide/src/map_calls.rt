@@ -6,8 +6,7 @@ use defects::{Encoded, MapEncoded, MapRead};
 use parts::Setup;
 
 // 0, the defects at the front of `defects`, how many they are and the storage track; or the first offence and where it lies.
-#[unsafe(no_mangle)]
-pub extern "C" fn pg_decode_map(
+pub fn pg_decode_map(
     cylinders: u16,
     heads: u16,
     sectors: u16,
@@ -55,8 +54,7 @@ pub extern "C" fn pg_decode_map(
 }
 
 // 0, the map at the front of `out` and its size; or the refusal and nothing changed.
-#[unsafe(no_mangle)]
-pub extern "C" fn pg_encode_map(
+pub fn pg_encode_map(
     cylinders: u16,
     heads: u16,
     sectors: u16,
@@ -91,8 +89,7 @@ pub extern "C" fn pg_encode_map(
 }
 
 // As `pg_decode_map`, off the sector words; what stands behind the map is passed over.
-#[unsafe(no_mangle)]
-pub extern "C" fn pg_read_map(
+pub fn pg_read_map(
     cylinders: u16,
     heads: u16,
     sectors: u16,
@@ -140,8 +137,7 @@ pub extern "C" fn pg_read_map(
 }
 
 // 0 and the map in field 1 of the last cylinder's sectors, all other words as they were; or the refusal and nothing changed.
-#[unsafe(no_mangle)]
-pub extern "C" fn pg_write_map(
+pub fn pg_write_map(
     cylinders: u16,
     heads: u16,
     sectors: u16,

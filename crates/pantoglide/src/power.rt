@@ -2,8 +2,7 @@
 ghost use Rattle.drive.specs.Power.{setup_of};
 ghost use Rattle.events.specs.Power.{PoweredUpOnWords};
 
-#[unsafe(no_mangle)]
-pub extern "C" fn pg_power_up(
+pub fn pg_power_up(
     cylinders: u16,
     heads: u16,
     sectors: u16,

@@ -4,8 +4,7 @@ ghost use Rattle.pantoglide.specs.Replay.{ReplayOnWords};
 use events::Part;
 
 // 0 and how many events were run; or the refusal and nothing changed.
-#[unsafe(no_mangle)]
-pub extern "C" fn pg_replay(
+pub fn pg_replay(
     state: &mut [u16],
     records: &[u8],
     from: usize,

@@ -1,8 +1,7 @@
 // Events on the words of the state: many at once.
 ghost use Rattle.events.specs.Run.{RunOnWords};
 
-#[unsafe(no_mangle)]
-pub extern "C" fn pg_run(
+pub fn pg_run(
     state: &mut [u16],
     records: &[u8],
     sectors: &mut [u16],

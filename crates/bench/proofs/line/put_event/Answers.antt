@@ -3,7 +3,6 @@
 use native.Mathlib.Omega.{arith}
 use Rattle.bench.proofs.Pieces.{put_both}
 use Rattle.bench.proofs.Lines.{fields_size}
-use borrow.Author.Rules.{rules}
 use Rattle.bench.proofs.line.put_event.Goals as goal
 
 pub put_field-port_at-requires : goal.put_field-port_at-requires

@@ -4,7 +4,6 @@ use native.Mathlib.Omega.{arith}
 use Rattle.bench.specs.Line.{line_of}
 use Rattle.bench.proofs.Pieces.{put_both}
 use Rattle.bench.proofs.Lines.{line_end_lem}
-use borrow.Author.Rules.{rules}
 use Rattle.bench.proofs.line.put_line.Goals as goal
 
 pub put_event-end-requires : goal.put_event-end-requires

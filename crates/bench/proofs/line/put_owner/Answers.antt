@@ -9,7 +9,6 @@ use lib.ListN.{length}
 use Rattle.laws.specs.Pick.{pick}
 use Rattle.bench.specs.Line.{owner_word, none_word, owner_line}
 use Rattle.bench.specs.Text.{digit, newline}
-use borrow.Author.Rules.{rules}
 use Rattle.bench.proofs.line.put_owner.Goals as goal
 
 port-0 : (owner : ℕ) → owner ≡ 0 → owner_line owner ≡ owner_word ++ (digit 0 ∷ []) ++ (newline ∷ [])

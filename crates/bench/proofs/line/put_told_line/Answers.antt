@@ -4,7 +4,6 @@ use native.Mathlib.Omega.{arith}
 use Rattle.bench.specs.Told.{told_line}
 use Rattle.bench.proofs.Pieces.{put_both}
 use Rattle.bench.proofs.Told.{told_line_size}
-use borrow.Author.Rules.{rules}
 use Rattle.bench.proofs.line.put_told_line.Goals as goal
 
 pub put_event-space_at-requires : goal.put_event-space_at-requires

@@ -3,7 +3,6 @@
 use Rattle.laws.specs.Pick.{pick}
 use Rattle.drive.specs.Answer.{paper}
 use Rattle.bench.specs.Text.{hex_digit}
-use borrow.Author.Rules.{rules}
 use Rattle.bench.proofs.line.status_text.Goals as goal
 
 pub returns-in-Refused : goal.returns-in-Refused

@@ -3,7 +3,6 @@
 use borrow.Author.Tests.{eq-eqb, ne_eqb}
 use Rattle.laws.specs.Pick.{pick}
 use Rattle.bench.specs.Told.{status_told_by}
-use borrow.Author.Rules.{rules}
 use Rattle.bench.proofs.line.status_told_by.Goals as goal
 
 pub returns-then-word-eq-ABSENT : goal.returns-then-word-eq-ABSENT

@@ -1,13 +1,11 @@
 -- `bench::part::put_lines` meets its contract: at each turn, whoever writes what is left writes the whole.
 -- Assumes nothing.
 use Prim.Native.Nat.{◌+◌, ◌-◌, ◌*◌, ◌≤◌}
-use mathlib.Core.Path.{◌≡◌, refl}
-use native.Mathlib.Omega.{arith}
-use borrow.Author.Rules.{rules}
-use lib.ListN.{length, drop, length-append}
+use mathlib.Core.Path.{◌≡◌}
+use lib.ListN.{length, drop}
 use Rattle.bench.specs.Told.{told_lines}
-use Rattle.bench.proofs.Pieces.{Going, going_from, going_on_lem, finished}
-use Rattle.bench.proofs.Told.{told_left, told_all, told_next, told_none}
+use Rattle.bench.proofs.Pieces.{Going}
+use Rattle.bench.proofs.Told.{told_left}
 use Rattle.bench.proofs.part.put_lines.Given as goal
 
 abbrev pub invariant-loop-i : goal.invariant-loop-i

@@ -3,7 +3,6 @@
 use borrow.Author.Tests.{lt-ltb, le-ltb}
 use Rattle.laws.specs.Pick.{pick}
 use Rattle.bench.specs.Part.{next_line}
-use borrow.Author.Rules.{rules}
 use Rattle.bench.proofs.part.put_next.Goals as goal
 
 pub put_numbered-requires : goal.put_numbered-requires

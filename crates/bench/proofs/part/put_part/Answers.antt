@@ -5,7 +5,6 @@ use mathlib.Core.Path.{◌≡◌}
 use native.Mathlib.Omega.{arith}
 use lib.ListN.{length}
 use Rattle.events.specs.Part.{part_of}
-use borrow.Author.Rules.{rules}
 use Rattle.bench.proofs.part.put_part.Goals as goal
 
 pub put_told-requires : goal.put_told-requires

@@ -6,7 +6,6 @@ use lib.ListN.{length, drop}
 use Rattle.bench.proofs.Pieces.{put_both}
 use Rattle.bench.specs.Told.{told_lines}
 use Rattle.bench.proofs.Lines.{text_size}
-use borrow.Author.Rules.{rules}
 use Rattle.bench.proofs.part.put_told.Goals as goal
 
 pub put_numbered-at-requires : goal.put_numbered-at-requires

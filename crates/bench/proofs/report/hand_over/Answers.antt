@@ -4,7 +4,6 @@ use borrow.Author.Tests.{lt-ltb, le-ltb}
 use Rattle.laws.specs.Pick.{pick}
 use Rattle.bench.proofs.Promised.{reported}
 use Rattle.bench.proofs.Pieces.{put_over}
-use borrow.Author.Rules.{rules}
 use Rattle.bench.proofs.report.hand_over.Goals as goal
 
 pub returns-then-text-report : goal.returns-then-text-report

@@ -1,7 +1,6 @@
 -- `bench::report::put_part_report` meets its contract: bad arguments, or the report of the part.
 -- Assumes nothing.
 use mathlib.Core.Path.{sym, ◌∙◌}
-use borrow.Author.Rules.{rules}
 use Rattle.bench.proofs.report.put_part_report.Goals as goal
 
 pub returns-in-Is-number_of : goal.returns-in-Is-number_of

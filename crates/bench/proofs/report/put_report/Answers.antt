@@ -6,7 +6,6 @@ use Rattle.laws.specs.Pick.{pick}
 use Rattle.bench.specs.Report.{report_of}
 use Rattle.bench.proofs.Captured.{report_refused, report_run, records_short, records_whole}
 use Rattle.bench.proofs.Fits.{report_fits}
-use borrow.Author.Rules.{rules}
 use Rattle.bench.proofs.report.put_report.Goals as goal
 
 pub returns-then-octets-gt-LONGEST_CAPTURE : goal.returns-then-octets-gt-LONGEST_CAPTURE

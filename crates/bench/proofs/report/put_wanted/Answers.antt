@@ -1,6 +1,5 @@
 -- `bench::report::put_wanted` meets its contract, as it is wanted.
 -- Assumes nothing.
-use borrow.Author.Rules.{rules}
 use Rattle.bench.proofs.report.put_wanted.Goals as goal
 
 pub put_run-requires : goal.put_run-requires

@@ -4,7 +4,6 @@ use mathlib.Core.Path.{ap}
 use native.Mathlib.Omega.{arith}
 use lib.ListN.{length}
 use Rattle.bench.proofs.Pieces.{put_front}
-use borrow.Author.Rules.{rules}
 use Rattle.bench.proofs.report.replay.Goals as goal
 
 pub slice_bounds-report-end : goal.slice_bounds-report-end

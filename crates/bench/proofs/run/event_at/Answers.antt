@@ -11,7 +11,6 @@ use Rattle.laws.proofs.Runs.{rest_whole}
 use Rattle.capture.specs.Record.{record_of, record_rows}
 use Rattle.capture.specs.declared.«record».RecordRead.TheVariants.{Decoded}
 use Rattle.drive.specs.Batch.{event_of}
-use borrow.Author.Rules.{rules}
 use Rattle.bench.proofs.run.event_at.Goals as goal
 
 -- the drive's event of a record is the capture's, without the tick

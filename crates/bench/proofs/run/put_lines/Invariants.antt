@@ -1,17 +1,13 @@
 -- `bench::run::put_lines` meets its contract: at each turn, whoever writes what is left writes the whole.
 -- Assumes nothing.
-use Prim.Native.Nat.{◌+◌, ◌-◌, ◌/◌, ◌≤◌}
-use mathlib.Core.Path.{◌≡◌, refl, ◌∙◌}
-use mathlib.Core.List.{◌++◌}
-use native.Mathlib.Omega.{arith}
-use borrow.Author.Rules.{rules}
-use lib.ListN.{length, length-append}
+use Prim.Native.Nat.{◌-◌, ◌≤◌}
+use mathlib.Core.Path.{◌≡◌}
+use lib.ListN.{length}
 use Rattle.drive.specs.Run.{machine}
-use Rattle.bench.specs.Line.{line_of, owner_line}
 use Rattle.drive.specs.Batch.{events_of}
 use Rattle.bench.specs.Run.{lines_of_run}
-use Rattle.bench.proofs.Pieces.{Going, going_from, going_on_lem}
-use Rattle.bench.proofs.Lines.{left, left_next, left_none, left_all}
+use Rattle.bench.proofs.Pieces.{Going}
+use Rattle.bench.proofs.Lines.{left}
 use Rattle.bench.proofs.run.put_lines.Given as goal
 
 abbrev pub invariant-loop-i : goal.invariant-loop-i

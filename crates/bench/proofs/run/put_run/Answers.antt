@@ -12,7 +12,6 @@ use Rattle.bench.specs.Run.{bench_at_rest, lines_of_run, run_report}
 use Rattle.bench.proofs.Pieces.{Going, going_from, going_on_lem}
 use Rattle.bench.proofs.Lines.{run_report_lem}
 use Rattle.bench.proofs.Bench.{bench_is_up}
-use borrow.Author.Rules.{rules}
 use Rattle.bench.proofs.run.put_run.Goals as goal
 
 pub put_numbered-at-requires : goal.put_numbered-at-requires

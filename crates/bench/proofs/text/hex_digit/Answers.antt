@@ -1,6 +1,5 @@
 -- `bench::text::hex_digit` meets its contract.
 -- Assumes nothing.
-use borrow.Author.Rules.{rules}
 use borrow.Author.Tests.{lt-ltb, le-ltb}
 use Rattle.laws.specs.Pick.{pick}
 use Rattle.bench.specs.Text.{hex_digit}

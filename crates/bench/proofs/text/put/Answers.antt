@@ -1,13 +1,13 @@
 -- `bench::text::put` meets its contract: at each turn, whoever writes the octets that are left writes them all.
 -- Assumes nothing.
-use Prim.Native.Nat.{◌-◌, ◌<◌, ◌≤◌}
+use Prim.Native.Nat.{◌<◌}
 use mathlib.Core.Path.{◌≡◌, refl}
 use native.Mathlib.Numerals.{add-one}
 use native.Mathlib.Omega.{arith}
 use borrow.Author.Rules.{rules}
-use lib.ListN.{length, drop, length-drop}
+use lib.ListN.{length, length-drop}
 use lib.Seq.{drop-cons, drop-length}
-use Rattle.bench.proofs.Pieces.{Going, going_from, going_on_lem, finished}
+use Rattle.bench.proofs.Pieces.{going_from, going_on_lem, finished}
 use Rattle.bench.proofs.text.put.Goals as goal
 
 pub loop-i-init : goal.loop-i-init

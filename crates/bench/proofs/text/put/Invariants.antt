@@ -1,13 +1,9 @@
 -- `bench::text::put` meets its contract: at each turn, whoever writes the octets that are left writes them all.
 -- Assumes nothing.
-use Prim.Native.Nat.{◌-◌, ◌<◌, ◌≤◌}
-use mathlib.Core.Path.{◌≡◌, refl}
-use native.Mathlib.Numerals.{add-one}
-use native.Mathlib.Omega.{arith}
-use borrow.Author.Rules.{rules}
-use lib.ListN.{length, drop, length-drop}
-use lib.Seq.{drop-cons, drop-length}
-use Rattle.bench.proofs.Pieces.{Going, going_from, going_on_lem, finished}
+use Prim.Native.Nat.{◌-◌, ◌≤◌}
+use mathlib.Core.Path.{◌≡◌}
+use lib.ListN.{length, drop}
+use Rattle.bench.proofs.Pieces.{Going}
 use Rattle.bench.proofs.text.put.Given as goal
 
 abbrev pub invariant-loop-i : goal.invariant-loop-i

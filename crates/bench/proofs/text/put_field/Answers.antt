@@ -3,7 +3,6 @@
 use native.Mathlib.Omega.{arith}
 use lib.ListN.{length-append}
 use Rattle.bench.proofs.Pieces.{put_both}
-use borrow.Author.Rules.{rules}
 use Rattle.bench.proofs.text.put_field.Goals as goal
 
 pub put_decimal-end-requires : goal.put_decimal-end-requires

@@ -6,7 +6,6 @@ use mathlib.Core.List.{[], ◌∷◌, ◌++◌}
 use lib.ListN.{length, length-append}
 use Rattle.bench.specs.Text.{newline, decimal, numbered_line}
 use Rattle.bench.proofs.Pieces.{put_both}
-use borrow.Author.Rules.{rules}
 use Rattle.bench.proofs.text.put_numbered.Goals as goal
 
 pub put-number_at-requires : goal.put-number_at-requires

@@ -4,7 +4,6 @@ use mathlib.Core.Path.{refl}
 use mathlib.Core.List.{[], ◌∷◌}
 use native.Mathlib.Omega.{arith}
 use lib.Seq.{sets-eq}
-use borrow.Author.Rules.{rules}
 use Rattle.bench.proofs.text.put_octet.Goals as goal
 
 pub returns : goal.returns

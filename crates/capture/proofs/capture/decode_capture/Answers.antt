@@ -13,7 +13,6 @@ use Rattle.laws.specs.Octets.{number_of}
 use Rattle.laws.specs.Lists.{same_list}
 use Rattle.capture.specs.Capture.{mark, has_mark, distance_of, capture_refusal}
 use Rattle.laws.proofs.Runs.{rest_whole}
-use borrow.Author.Rules.{rules}
 use Rattle.capture.proofs.Promised.{capture_decoded}
 use Rattle.capture.proofs.capture.decode_capture.Goals as goal
 

@@ -2,7 +2,6 @@
 -- Assumes nothing.
 use native.Mathlib.Omega.{arith}
 use Rattle.laws.proofs.Runs.{run_read}
-use borrow.Author.Rules.{rules}
 use Rattle.capture.proofs.capture.distance_of.Goals as goal
 
 pub returns : goal.returns

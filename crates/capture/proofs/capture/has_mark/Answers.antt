@@ -3,7 +3,6 @@
 use mathlib.Core.Bool.{and_assoc, and-true}
 use native.Mathlib.Omega.{arith}
 use Rattle.laws.proofs.Runs.{rest_read}
-use borrow.Author.Rules.{rules}
 use Rattle.capture.proofs.capture.has_mark.Goals as goal
 
 pub returns : goal.returns

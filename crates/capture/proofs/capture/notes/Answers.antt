@@ -1,7 +1,6 @@
 -- `capture::capture::notes` meets its contract: the octets before the first record, or none.
 -- Assumes nothing.
 use mathlib.Core.Path.{sym}
-use borrow.Author.Rules.{rules}
 use native.Mathlib.Omega.{arith}
 use lib.Seq.{length-take-le}
 use Rattle.capture.proofs.Decoding.{Whole, whole, whole_parts, no_parts}

@@ -3,7 +3,6 @@
 use Prim.Native.Nat.{◌-◌, ◌≤◌}
 use mathlib.Core.Path.{sym}
 use native.Mathlib.Omega.{arith}
-use borrow.Author.Rules.{rules}
 use lib.ListN.{length}
 use Rattle.capture.proofs.Decoding.{Whole, whole, whole_parts, no_parts}
 use Rattle.capture.proofs.capture.records.Goals as goal

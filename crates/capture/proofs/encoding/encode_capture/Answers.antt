@@ -9,7 +9,6 @@ use lib.Dec.{eqb, ltb}
 use lib.ListN.{length}
 use Rattle.laws.specs.Pick.{pick}
 use Rattle.laws.proofs.Pick.{told}
-use borrow.Author.Rules.{rules}
 use Rattle.capture.specs.Encoding.{capture_length}
 use Rattle.laws.proofs.Tests.{or_r}
 use Rattle.capture.proofs.Promised.{capture_encoded}

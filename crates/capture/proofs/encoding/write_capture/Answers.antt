@@ -4,7 +4,6 @@ use mathlib.Core.Path.{◌∙◌}
 use Rattle.capture.specs.Encoding.{trailer_for}
 use lib.ListN.{length}
 use Rattle.capture.proofs.Pieces.{three_written}
-use borrow.Author.Rules.{rules}
 use Rattle.capture.proofs.encoding.write_capture.Goals as goal
 
 pub returns : goal.returns

@@ -5,7 +5,6 @@ use Rattle.laws.specs.Pick.{pick}
 use Rattle.capture.specs.Record.{record_of}
 use Rattle.laws.proofs.Runs.{run_read}
 use native.Mathlib.Omega.{arith}
-use borrow.Author.Rules.{rules}
 use Rattle.capture.proofs.Promised.{record_decoded}
 use Rattle.capture.proofs.record.decode_record.Goals as goal
 

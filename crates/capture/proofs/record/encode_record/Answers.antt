@@ -8,7 +8,6 @@ use borrow.Author.Tests.{lt-ltb, le-ltb}
 use Rattle.laws.specs.Pick.{pick}
 use Rattle.laws.proofs.Lists.{stored}
 use Rattle.capture.specs.Record.{record_octets}
-use borrow.Author.Rules.{rules}
 use Rattle.capture.proofs.Promised.{record_encoded}
 use Rattle.capture.proofs.record.encode_record.Goals as goal
 

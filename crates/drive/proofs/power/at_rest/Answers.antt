@@ -1,6 +1,5 @@
 -- `at_rest_lem` meets its contract.
 -- Assumes nothing.
-use borrow.Author.Rules.{rules}
 use Rattle.drive.proofs.power.at_rest.Goals as goal
 
 pub returns : goal.returns

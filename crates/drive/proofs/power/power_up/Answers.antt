@@ -4,8 +4,6 @@ use Rattle.parts.specs.Setup.{lacks_room}
 use Rattle.drive.specs.Power.{powered_up}
 use Rattle.drive.specs.Refusal.{row10}
 use Rattle.laws.specs.Pick.{pick}
-use borrow.Author.Rules.{rules}
-use borrow.Author.Tests.{not-false, not-true}
 use Rattle.drive.specs.declared.power.Powered.TheVariants.{Up}
 use mathlib.Core.Path.{ap, ◌∙◌, sym}
 use Rattle.drive.proofs.Step.{powered_as_promised}

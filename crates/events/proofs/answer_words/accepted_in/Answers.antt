@@ -1,6 +1,6 @@
 -- `accepted_in` meets its contract.
 -- Assumes nothing.
-use Rattle.std.proofs.Common.{rules, eq-eqb}
+use Rattle.std.proofs.Common.{eq-eqb}
 use Rattle.laws.specs.Pick.{pick}
 use Rattle.laws.proofs.Pick.{steps}
 use Rattle.events.proofs.answer_words.accepted_in.Goals as goal

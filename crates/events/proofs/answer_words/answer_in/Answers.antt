@@ -2,7 +2,6 @@
 -- Assumes nothing.
 use Rattle.drive.specs.AnswerWords.{answer_in}
 use Rattle.events.proofs.ToldWords.{refused_in}
-use Rattle.std.proofs.Common.{rules}
 use Rattle.events.proofs.answer_words.answer_in.Goals as goal
 
 pub returns-then-refusal-ne0 : goal.returns-then-refusal-ne0

@@ -1,6 +1,6 @@
 -- `put_last_word` meets its contract.
 -- Assumes nothing.
-use Rattle.std.proofs.Common.{arith, length-set, rules}
+use Rattle.std.proofs.Common.{arith, length-set}
 use Rattle.events.proofs.ToldWords.{last_word_over}
 use Rattle.events.proofs.answer_words.put_last_word.Goals as goal
 

@@ -1,7 +1,6 @@
 -- `put_refused` meets its contract.
 -- Assumes nothing.
 use Rattle.events.proofs.ToldWords.{refused_over}
-use Rattle.std.proofs.Common.{rules}
 use Rattle.events.proofs.answer_words.put_refused.Goals as goal
 
 pub returns : goal.returns

@@ -1,6 +1,6 @@
 -- `put_response` meets its contract.
 -- Assumes nothing.
-use Rattle.std.proofs.Common.{arith, length-set, rules}
+use Rattle.std.proofs.Common.{arith, length-set}
 use Rattle.events.proofs.ToldWords.{response_over}
 use Rattle.events.proofs.answer_words.put_response.Goals as goal
 

@@ -1,7 +1,6 @@
 -- `put_status` meets its contract.
 -- Assumes nothing.
 use Rattle.events.proofs.ToldWords.{status_over}
-use Rattle.std.proofs.Common.{rules}
 use Rattle.events.proofs.answer_words.put_status.Goals as goal
 
 pub returns : goal.returns

@@ -1,7 +1,7 @@
 -- `tell` meets its contract.
 -- Assumes nothing.
 use Rattle.events.proofs.ToldWords.{accepted_told, refusal_kept, refusal_told}
-use Rattle.std.proofs.Common.{refl, rules}
+use Rattle.std.proofs.Common.{refl}
 use Rattle.events.proofs.answer_words.tell.Goals as goal
 
 pub returns-then-not-telling : goal.returns-then-not-telling

@@ -1,9 +1,8 @@
 -- `each` meets its contract.
 -- Assumes nothing.
-use Rattle.std.proofs.Common.{◌≡◌, ℕ, ◌+◌, ◌-◌, ◌*◌, ◌<◌, ◌≤◌, Bool, List, length, sym, refl, arith, rules}
+use Rattle.std.proofs.Common.{◌≡◌, ◌+◌, ◌-◌, sym, refl, arith, rules}
 use Rattle.drive.proofs.Turns.{passable}
-use Rattle.events.proofs.Batches.{Going, going_start, going_next, going_stopped, going_ended}
-use Rattle.events.proofs.batch.each.Invariants.{Left}
+use Rattle.events.proofs.Batches.{going_start, going_next, going_stopped, going_ended}
 use Rattle.events.proofs.batch.each.Goals as goal
 
 pub loop-telling-init : goal.loop-telling-init

@@ -1,8 +1,7 @@
 -- `each` meets its contract.
 -- Assumes nothing.
-use Rattle.std.proofs.Common.{◌≡◌, ℕ, ◌+◌, ◌-◌, ◌*◌, ◌<◌, ◌≤◌, Bool, List, length, sym, refl, arith, rules}
-use Rattle.drive.proofs.Turns.{passable}
-use Rattle.events.proofs.Batches.{Going, going_start, going_next, going_stopped, going_ended}
+use Rattle.std.proofs.Common.{◌≡◌, ℕ, ◌-◌, ◌*◌, ◌<◌, ◌≤◌, Bool, List, length}
+use Rattle.events.proofs.Batches.{Going}
 use Rattle.events.proofs.batch.each.Given as goal
 
 -- so many events are left, and the others are answered

@@ -1,7 +1,7 @@
 -- `refuse_all` meets its contract.
 -- Assumes nothing.
-use Rattle.std.proofs.Common.{◌≡◌, ◌-◌, ◌≤◌, length, refl, arith, rules}
-use Rattle.events.proofs.Batches.{Refusing, refusing_start, refusing_next, refusing_ended}
+use Rattle.std.proofs.Common.{refl, arith, rules}
+use Rattle.events.proofs.Batches.{refusing_start, refusing_next, refusing_ended}
 use Rattle.events.proofs.batch.refuse_all.Goals as goal
 
 pub loop-i-init : goal.loop-i-init

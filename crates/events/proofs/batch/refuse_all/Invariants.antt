@@ -1,7 +1,7 @@
 -- `refuse_all` meets its contract.
 -- Assumes nothing.
-use Rattle.std.proofs.Common.{◌≡◌, ◌-◌, ◌≤◌, length, refl, arith, rules}
-use Rattle.events.proofs.Batches.{Refusing, refusing_start, refusing_next, refusing_ended}
+use Rattle.std.proofs.Common.{◌≡◌, ◌-◌, ◌≤◌, length}
+use Rattle.events.proofs.Batches.{Refusing}
 use Rattle.events.proofs.batch.refuse_all.Given as goal
 
 abbrev pub invariant-loop-i : goal.invariant-loop-i

@@ -1,6 +1,6 @@
 -- `work` meets its contract.
 -- Assumes nothing.
-use Rattle.std.proofs.Common.{sym, ◌∙◌, rules}
+use Rattle.std.proofs.Common.{sym, ◌∙◌}
 use Rattle.events.proofs.Batches.{refused_all, refused_quietly}
 use Rattle.events.proofs.batch.work.Goals as goal
 

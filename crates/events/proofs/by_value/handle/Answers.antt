@@ -1,6 +1,6 @@
 -- `handle` meets its contract.
 -- Assumes nothing.
-use Rattle.std.proofs.Common.{◌≡◌, ℕ, ◌≤◌, List, length, ap, ◌∙◌, arith, rules}
+use Rattle.std.proofs.Common.{◌≡◌, ◌≤◌, length, ap, ◌∙◌, arith}
 use Rattle.drive.specs.Bounded.{AreOctets}
 use Rattle.drive.proofs.Posted.{OnBoth}
 use Rattle.events.specs.State.{drive_in, moving_words, state_words}

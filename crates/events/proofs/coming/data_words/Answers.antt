@@ -1,6 +1,6 @@
 -- `data_words` meets its contract.
 -- Assumes nothing.
-use Rattle.std.proofs.Common.{arith, rules}
+use Rattle.std.proofs.Common.{arith}
 use Rattle.parts.specs.Control.{data_words}
 use Rattle.events.specs.State.{drive_in}
 use Rattle.events.proofs.coming.data_words.Goals as goal

@@ -1,6 +1,6 @@
 -- `field_words` meets its contract.
 -- Assumes nothing.
-use Rattle.std.proofs.Common.{arith, rules}
+use Rattle.std.proofs.Common.{arith}
 use Rattle.events.proofs.coming.field_words.Goals as goal
 
 pub returns : goal.returns

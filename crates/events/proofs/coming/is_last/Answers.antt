@@ -1,7 +1,6 @@
 -- `is_last` meets its contract: with field 1 or without.
 -- Assumes nothing.
-use Rattle.std.proofs.Common.{◌≡◌, ℕ, ◌+◌, ◌<◌, Bool, true, false, eqb, sym, ap, ◌∙◌, arith, rules, ne_eqb}
-use borrow.Author.Tests.{not-false, not-true}
+use Rattle.std.proofs.Common.{◌≡◌, ℕ, ◌+◌, ◌<◌, Bool, true, false, eqb, sym, ap, ◌∙◌, arith, ne_eqb}
 use Rattle.laws.specs.Pick.{pick}
 use Rattle.parts.specs.Control.{control_of, is_write, names_field1, names_field2, part, words_to_come}
 use Rattle.parts.specs.declared.setup.Setup.{Setup}

@@ -1,6 +1,6 @@
 -- `is_through` meets its contract: words that do not fill field 1 are fewer than those to come.
 -- Assumes nothing.
-use Rattle.std.proofs.Common.{◌≡◌, ℕ, true, false, ◌&&◌, ltb, leb, sym, arith, rules, ltb-true}
+use Rattle.std.proofs.Common.{◌≡◌, ℕ, true, false, ◌&&◌, ltb, leb, sym, arith, ltb-true}
 use borrow.Author.Tests.{lt-leb}
 use Rattle.laws.specs.Pick.{pick}
 use Rattle.laws.proofs.Tests.{and_l, and_r}

@@ -1,6 +1,6 @@
 -- `read_words` meets its contract.
 -- Assumes nothing.
-use Rattle.std.proofs.Common.{arith, rules}
+use Rattle.std.proofs.Common.{arith}
 use Rattle.parts.specs.Control.{data_words}
 use Rattle.parts.proofs.Bounds.{read_passes}
 use Rattle.events.specs.State.{drive_in}

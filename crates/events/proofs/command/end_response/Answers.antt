@@ -1,6 +1,6 @@
 -- `end_response` meets its contract.
 -- Assumes nothing.
-use Rattle.std.proofs.Common.{refl, ◌∙◌, length-set, rules, eq-eqb, ne_eqb}
+use Rattle.std.proofs.Common.{refl, ◌∙◌, length-set, eq-eqb, ne_eqb}
 use Rattle.laws.specs.Pick.{pick}
 use Rattle.drive.specs.Command.{status_cleared}
 use Rattle.events.specs.Open.{transfer_on}

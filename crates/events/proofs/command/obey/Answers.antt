@@ -1,6 +1,6 @@
 -- `obey` meets its contract.
 -- Assumes nothing.
-use Rattle.std.proofs.Common.{sym, rules}
+use Rattle.std.proofs.Common.{sym}
 use Rattle.events.specs.State.{drive_in}
 use Rattle.events.proofs.Done.{did_as}
 use Rattle.events.proofs.Exchanges.{obeyed_01, obeyed_04, obeyed_05, obeyed_06, obeyed_07}

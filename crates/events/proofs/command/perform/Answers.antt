@@ -1,6 +1,6 @@
 -- `perform` meets its contract.
 -- Assumes nothing.
-use Rattle.std.proofs.Common.{sym, refl, ◌∙◌, rules}
+use Rattle.std.proofs.Common.{sym, refl, ◌∙◌}
 use Rattle.parts.specs.declared.command.Function.TheVariants.{PriorityReserve, Reserve, Release, NoOperation, Recalibrate, ActsOnMore, NotListed}
 use Rattle.events.proofs.Changes.{cylinder_zeroed}
 use Rattle.events.proofs.Done.{did_nothing, known}

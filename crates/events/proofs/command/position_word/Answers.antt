@@ -1,6 +1,6 @@
 -- `position_word` meets its contract.
 -- Assumes nothing.
-use Rattle.std.proofs.Common.{◌≡◌, arith, rules}
+use Rattle.std.proofs.Common.{◌≡◌, arith}
 use Rattle.events.specs.State.{drive_in}
 use Rattle.events.proofs.command.position_word.Goals as goal
 

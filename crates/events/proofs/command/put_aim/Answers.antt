@@ -1,6 +1,6 @@
 -- `put_aim` meets its contract.
 -- Assumes nothing.
-use Rattle.std.proofs.Common.{arith, length-set, rules}
+use Rattle.std.proofs.Common.{arith, length-set}
 use Rattle.events.proofs.Changes.{aim_put}
 use Rattle.events.proofs.Done.{known}
 use Rattle.events.proofs.command.put_aim.Goals as goal

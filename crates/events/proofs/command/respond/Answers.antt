@@ -1,6 +1,6 @@
 -- `respond` meets its contract.
 -- Assumes nothing.
-use Rattle.std.proofs.Common.{sym, refl, ap, ◌∙◌, arith, rules, eq-eqb, ne_eqb}
+use Rattle.std.proofs.Common.{sym, refl, ap, ◌∙◌, arith, eq-eqb, ne_eqb}
 use Rattle.parts.proofs.Bounds.{code_words, parameters_few}
 use Rattle.drive.specs.Command.{response_taken}
 use Rattle.drive.specs.declared.answer.Answer.TheVariants.{Word, LastWord}

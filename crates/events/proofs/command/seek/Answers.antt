@@ -6,7 +6,6 @@ use Rattle.drive.specs.Command.{seeking}
 use Rattle.events.specs.State.{drive_in}
 use Rattle.events.proofs.Done.{did_second}
 use Rattle.events.proofs.Exchanges.{sought_by, did_seek, did_bad}
-use Rattle.std.proofs.Common.{rules}
 use Rattle.events.proofs.command.seek.Goals as goal
 
 pub returns-then-high-is_place : goal.returns-then-high-is_place

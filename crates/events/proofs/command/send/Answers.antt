@@ -1,6 +1,6 @@
 -- `send` meets its contract.
 -- Assumes nothing.
-use Rattle.std.proofs.Common.{◌≡◌, ◌+◌, sym, refl, ◌∙◌, arith, length-set, rules, eq-eqb, ne_eqb}
+use Rattle.std.proofs.Common.{◌≡◌, ◌+◌, sym, refl, ◌∙◌, arith, length-set, eq-eqb, ne_eqb}
 use Rattle.parts.specs.Command.{parameter_words}
 use Rattle.parts.proofs.Bounds.{code_words, parameters_few}
 use Rattle.drive.specs.Command.{obeyed, parameter_sent}

@@ -4,7 +4,6 @@ use Rattle.parts.specs.Tests.{transferring}
 use Rattle.drive.specs.Command.{obeyed}
 use Rattle.drive.specs.declared.drive.Drive.{Drive}
 use Rattle.events.proofs.Asking.{closed_fit, did_closed}
-use Rattle.std.proofs.Common.{rules}
 use Rattle.events.proofs.command.send_only.Goals as goal
 
 pub obey-requires : goal.obey-requires

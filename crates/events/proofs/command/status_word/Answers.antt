@@ -2,7 +2,6 @@
 -- Assumes nothing.
 use Rattle.events.proofs.Changes.{pending_at}
 use Rattle.events.proofs.Exchanges.{zeros_later}
-use Rattle.std.proofs.Common.{rules}
 use Rattle.events.proofs.command.status_word.Goals as goal
 
 pub returns-in-0 : goal.returns-in-0

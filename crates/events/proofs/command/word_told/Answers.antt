@@ -1,6 +1,6 @@
 -- `word_told` meets its contract.
 -- Assumes nothing.
-use Rattle.std.proofs.Common.{◌≡◌, ◌<◌, arith, rules, ne_eqb}
+use Rattle.std.proofs.Common.{◌≡◌, ◌<◌, arith, ne_eqb}
 use Rattle.laws.specs.Pick.{pick}
 use Rattle.parts.specs.Command.{parameter_words}
 use Rattle.parts.proofs.Bounds.{parameters_few}

@@ -2,7 +2,7 @@
 -- Assumes nothing.
 use Rattle.events.proofs.Promises.{no_state, no_room_for_answer, event_worked}
 use Rattle.drive.specs.Batch.{event_of}
-use Rattle.std.proofs.Common.{refl, rules}
+use Rattle.std.proofs.Common.{refl}
 use Rattle.events.proofs.event.answer_event.Goals as goal
 
 pub returns-then-state-lt-STATE_WORDS : goal.returns-then-state-lt-STATE_WORDS

@@ -1,7 +1,6 @@
 -- `refuse_short` meets its contract: what an event with no staging words is refused with, and nothing changed.
 -- Assumes nothing.
 use Rattle.events.proofs.Batches.{refused_short}
-use Rattle.std.proofs.Common.{rules}
 use Rattle.events.proofs.event.refuse_short.Goals as goal
 
 pub returns : goal.returns

@@ -2,7 +2,7 @@
 -- Assumes nothing.
 use Rattle.events.proofs.Batches.{worked_none}
 use Rattle.events.proofs.Promises.{run_not_whole, run_room, run_short, run_worked}
-use Rattle.std.proofs.Common.{true≢false, arith, rules}
+use Rattle.std.proofs.Common.{true≢false, arith}
 use Rattle.events.proofs.event.run_records.Goals as goal
 
 pub returns-then-state-out : goal.returns-then-state-out

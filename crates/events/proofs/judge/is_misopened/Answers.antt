@@ -1,6 +1,6 @@
 -- `is_misopened` meets its contract.
 -- Assumes nothing.
-use Rattle.std.proofs.Common.{sym, ◌∙◌, rules, eq-eqb, ne_eqb}
+use Rattle.std.proofs.Common.{sym, ◌∙◌, eq-eqb, ne_eqb}
 use Rattle.laws.specs.Pick.{pick}
 use Rattle.events.specs.Unsound.{is_misopened}
 use Rattle.events.proofs.Unsoundness.{write_amiss, read_amiss, data_amiss, code_amiss}

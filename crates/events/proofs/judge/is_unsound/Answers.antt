@@ -1,6 +1,6 @@
 -- `is_unsound` meets its contract.
 -- Assumes nothing.
-use Rattle.std.proofs.Common.{◌≡◌, ◌||◌, rules}
+use Rattle.std.proofs.Common.{◌≡◌, ◌||◌}
 use Rattle.drive.specs.Refusal.{row11}
 use Rattle.events.specs.State.{drive_in}
 use Rattle.events.proofs.Unsoundness.{misopened, misheld, strays, misplaced, unsound_with}

@@ -1,6 +1,6 @@
 -- `judge` meets its contract: 11, then 10.
 -- Assumes nothing.
-use Rattle.std.proofs.Common.{sym, ◌∙◌, rules}
+use Rattle.std.proofs.Common.{sym, ◌∙◌}
 use Rattle.laws.specs.Pick.{pick}
 use Rattle.parts.specs.Setup.{lacks_room}
 use Rattle.drive.specs.Refusal.{row10}

@@ -1,6 +1,6 @@
 -- `on_deselect` meets its contract.
 -- Assumes nothing.
-use Rattle.std.proofs.Common.{refl, ◌∙◌, rules}
+use Rattle.std.proofs.Common.{refl, ◌∙◌}
 use Rattle.events.proofs.Done.{did_accepted, did_refused}
 use Rattle.events.proofs.Timely.{number_as, timely_told}
 use Rattle.parts.specs.Kind.{Deselect}

@@ -1,6 +1,6 @@
 -- `on_end` meets its contract.
 -- Assumes nothing.
-use Rattle.std.proofs.Common.{sym, ◌∙◌, rules}
+use Rattle.std.proofs.Common.{sym, ◌∙◌}
 use Rattle.parts.specs.Kind.{End, Use}
 use Rattle.events.specs.State.{drive_in}
 use Rattle.events.proofs.Done.{did_accepted, did_refused}

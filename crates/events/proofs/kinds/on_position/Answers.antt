@@ -3,7 +3,7 @@
 use Rattle.events.proofs.Done.{did_accepted, did_refused}
 use Rattle.events.proofs.Timely.{number_as, timely_told}
 use Rattle.parts.specs.Kind.{Use, Position}
-use Rattle.std.proofs.Common.{true, refl, rules}
+use Rattle.std.proofs.Common.{true, refl}
 use Rattle.events.proofs.kinds.on_position.Goals as goal
 
 pub returns-then-n-ne0 : goal.returns-then-n-ne0

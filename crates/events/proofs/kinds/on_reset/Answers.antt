@@ -1,6 +1,6 @@
 -- `on_reset` meets its contract.
 -- Assumes nothing.
-use Rattle.std.proofs.Common.{refl, ◌∙◌, arith, rules}
+use Rattle.std.proofs.Common.{refl, ◌∙◌, arith}
 use Rattle.events.proofs.Done.{did_refused, did_accepted}
 use Rattle.parts.specs.Kind.{Reset}
 use Rattle.laws.specs.Pick.{pick}

@@ -2,7 +2,7 @@
 -- Assumes nothing.
 use Rattle.events.proofs.Done.{did_refused, did_accepted}
 use Rattle.parts.specs.Kind.{Select}
-use Rattle.std.proofs.Common.{refl, ◌∙◌, rules}
+use Rattle.std.proofs.Common.{refl, ◌∙◌}
 use Rattle.events.proofs.kinds.on_select.Goals as goal
 
 pub returns-then-n-ne0 : goal.returns-then-n-ne0

@@ -3,7 +3,6 @@
 use Rattle.events.proofs.Done.{did_accepted, did_refused}
 use Rattle.events.proofs.Timely.{number_as, timely_told}
 use Rattle.parts.specs.Kind.{Use, Target}
-use Rattle.std.proofs.Common.{rules}
 use Rattle.events.proofs.kinds.on_target.Goals as goal
 
 pub returns-then-n-ne0 : goal.returns-then-n-ne0

@@ -1,7 +1,7 @@
 -- `put_gaps` meets its contract.
 -- Assumes nothing.
 use Rattle.std.proofs.Common.{◌≡◌, ◌+◌, ◌-◌, arith, rules}
-use Rattle.events.proofs.Parts.{Gapping, gapping_start, gapping_next, gapping_ended}
+use Rattle.events.proofs.Parts.{gapping_start, gapping_next, gapping_ended}
 use Rattle.events.proofs.part.put_gaps.Goals as goal
 
 pub loop-i-init : goal.loop-i-init

@@ -1,7 +1,7 @@
 -- `put_gaps` meets its contract.
 -- Assumes nothing.
-use Rattle.std.proofs.Common.{◌≡◌, ◌+◌, ◌-◌, arith, rules}
-use Rattle.events.proofs.Parts.{Gapping, gapping_start, gapping_next, gapping_ended}
+use Rattle.std.proofs.Common.{◌-◌}
+use Rattle.events.proofs.Parts.{Gapping}
 use Rattle.events.proofs.part.put_gaps.Given as goal
 
 abbrev pub invariant-loop-i : goal.invariant-loop-i

@@ -1,6 +1,6 @@
 -- `replay_part` meets its contract.
 -- Assumes nothing.
-use Rattle.std.proofs.Common.{true≢false, arith, length-drop, rules}
+use Rattle.std.proofs.Common.{true≢false, arith, length-drop}
 use Rattle.laws.proofs.Runs.{rest_whole}
 use Rattle.events.proofs.Parts.{part_short, part_not_whole, part_none, part_room, part_worked}
 use Rattle.events.proofs.part.replay_part.Goals as goal

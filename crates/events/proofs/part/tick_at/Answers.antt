@@ -1,6 +1,6 @@
 -- `tick_at` meets its contract.
 -- Assumes nothing.
-use Rattle.std.proofs.Common.{sym, ◌∙◌, rules}
+use Rattle.std.proofs.Common.{sym, ◌∙◌}
 use Rattle.events.proofs.Parts.{tick_read}
 use Rattle.events.proofs.part.tick_at.Goals as goal
 

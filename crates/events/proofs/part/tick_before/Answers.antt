@@ -1,6 +1,6 @@
 -- `tick_before` meets its contract.
 -- Assumes nothing.
-use Rattle.std.proofs.Common.{◌≡◌, ◌-◌, sym, ap, ◌∙◌, arith, rules}
+use Rattle.std.proofs.Common.{◌≡◌, ◌-◌, sym, ap, ◌∙◌, arith}
 use Rattle.events.specs.Part.{tick_at}
 use Rattle.events.proofs.part.tick_before.Goals as goal
 

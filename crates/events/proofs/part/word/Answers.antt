@@ -1,7 +1,6 @@
 -- `word` meets its contract.
 -- Assumes nothing.
 use Rattle.events.proofs.Parts.{changed_over}
-use Rattle.std.proofs.Common.{rules}
 use Rattle.events.proofs.part.word.Goals as goal
 
 pub returns : goal.returns

@@ -3,7 +3,7 @@
 use Rattle.events.proofs.Done.{known}
 use Rattle.events.proofs.Changes.{pending_at, posted}
 use Rattle.drive.specs.Request.{bad_request}
-use Rattle.std.proofs.Common.{refl, rules}
+use Rattle.std.proofs.Common.{refl}
 use Rattle.events.proofs.pending.fault.Goals as goal
 
 pub returns : goal.returns

@@ -1,6 +1,6 @@
 -- `take_up` meets its contract.
 -- Assumes nothing.
-use Rattle.std.proofs.Common.{◌≡◌, ℕ, ◌+◌, ◌/◌, ◌≤◌, true, false, List, get_or, set, sym, refl, ap, ◌∙◌, rules, eq-eqb, ne_eqb}
+use Rattle.std.proofs.Common.{◌≡◌, ℕ, ◌+◌, ◌/◌, ◌≤◌, true, false, List, get_or, set, sym, refl, ap, ◌∙◌, eq-eqb, ne_eqb}
 use Rattle.laws.specs.Pick.{pick}
 use Rattle.parts.specs.Pending.{pending_of, nothing_pending}
 use Rattle.drive.specs.State.{pending_on, posted_on}

@@ -5,7 +5,6 @@ use Rattle.events.proofs.Changes.{pending_at, posted}
 use Rattle.events.specs.State.{pending_word}
 use Rattle.drive.specs.Request.{status_read}
 use Rattle.parts.specs.Pending.{nothing_pending}
-use Rattle.std.proofs.Common.{rules}
 use Rattle.events.proofs.pending.tell_status.Goals as goal
 
 pub returns : goal.returns

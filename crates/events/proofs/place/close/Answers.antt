@@ -1,6 +1,6 @@
 -- `close` meets its contract.
 -- Assumes nothing.
-use Rattle.std.proofs.Common.{◌∙◌, rules}
+use Rattle.std.proofs.Common.{◌∙◌}
 use Rattle.drive.specs.Drive.{closed}
 use Rattle.events.proofs.Changes.{transfer_put}
 use Rattle.events.proofs.Done.{known}

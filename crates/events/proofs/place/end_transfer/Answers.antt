@@ -1,6 +1,6 @@
 -- `end_transfer` meets its contract.
 -- Assumes nothing.
-use Rattle.std.proofs.Common.{refl, ◌∙◌, length-set, rules}
+use Rattle.std.proofs.Common.{refl, ◌∙◌, length-set}
 use Rattle.events.specs.Open.{transfer_on}
 use Rattle.events.proofs.Changes.{transfer_ended}
 use Rattle.events.proofs.Done.{known}

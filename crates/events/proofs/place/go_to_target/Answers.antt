@@ -2,7 +2,6 @@
 -- Assumes nothing.
 use Rattle.events.proofs.Done.{known}
 use Rattle.events.proofs.Changes.{target_reached}
-use Rattle.std.proofs.Common.{rules}
 use Rattle.events.proofs.place.go_to_target.Goals as goal
 
 pub returns : goal.returns

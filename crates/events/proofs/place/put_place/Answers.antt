@@ -2,7 +2,7 @@
 -- Assumes nothing.
 use Rattle.events.proofs.Done.{known}
 use Rattle.events.proofs.Changes.{place_put}
-use Rattle.std.proofs.Common.{arith, length-set, rules}
+use Rattle.std.proofs.Common.{arith, length-set}
 use Rattle.events.proofs.place.put_place.Goals as goal
 
 pub bounds-state-11 : goal.bounds-state-11

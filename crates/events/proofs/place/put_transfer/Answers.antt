@@ -1,6 +1,6 @@
 -- `put_transfer` meets its contract.
 -- Assumes nothing.
-use Rattle.std.proofs.Common.{refl, arith, length-set, rules}
+use Rattle.std.proofs.Common.{refl, arith, length-set}
 use Rattle.events.specs.Open.{transfer_on}
 use Rattle.events.proofs.place.put_transfer.Goals as goal
 

@@ -2,7 +2,6 @@
 -- Assumes nothing.
 use Rattle.events.proofs.Done.{known}
 use Rattle.events.proofs.Changes.{head_moved}
-use Rattle.std.proofs.Common.{rules}
 use Rattle.events.proofs.place.step_head.Goals as goal
 
 pub returns : goal.returns

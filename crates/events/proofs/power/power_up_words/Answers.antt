@@ -1,6 +1,6 @@
 -- `power_up_words` meets its contract: what the drive answers, and the words of the state.
 -- Assumes nothing.
-use Rattle.std.proofs.Common.{sym, ◌∙◌, rules}
+use Rattle.std.proofs.Common.{sym, ◌∙◌}
 use Rattle.events.proofs.PowerUp.{power_refused, no_room_for_state, powered}
 use Rattle.events.proofs.power.power_up_words.Goals as goal
 

@@ -3,8 +3,8 @@
 use Rattle.events.proofs.Done.{did_first, did_second, known}
 use Rattle.events.proofs.Changes.{target_put}
 use Rattle.drive.specs.Request.{aimed, targeted}
-use Rattle.std.proofs.Common.{refl, rules}
-use borrow.Author.Tests.{not-true, not-false}
+use Rattle.std.proofs.Common.{refl}
+use borrow.Author.Tests.{not-false}
 use Rattle.events.proofs.Asking.{heard_fit, did_heard, did_stopped}
 use Rattle.events.proofs.request.aim_at.Goals as goal
 

@@ -1,7 +1,7 @@
 -- `ask` meets its contract.
 -- Assumes nothing.
-use Rattle.std.proofs.Common.{sym, refl, rules, eq-eqb, ne_eqb}
-use borrow.Author.Tests.{not-true, not-false}
+use Rattle.std.proofs.Common.{sym, refl, eq-eqb, ne_eqb}
+use borrow.Author.Tests.{not-false}
 use Rattle.parts.proofs.ByBits.{response_low}
 use Rattle.parts.specs.Control.{control_of}
 use Rattle.drive.proofs.Outcomes.{status_responds}

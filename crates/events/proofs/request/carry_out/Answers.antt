@@ -1,6 +1,6 @@
 -- `carry_out` meets its contract.
 -- Assumes nothing.
-use Rattle.std.proofs.Common.{◌≡◌, ℕ, ◌<◌, true, false, ◌||◌, ◌⊎◌, List, sym, refl, ◌∙◌, inl, inr, arith, rules}
+use Rattle.std.proofs.Common.{◌≡◌, ℕ, ◌<◌, true, false, ◌||◌, ◌⊎◌, List, sym, refl, ◌∙◌, inl, inr, arith}
 use denote.Enum.Declared.{tag_of}
 use Rattle.parts.specs.contracts.control.Control.{the_type}
 use Rattle.parts.proofs.ByBits.{write_is_data, read_is_data, command_low, response_low}

@@ -2,8 +2,8 @@
 -- Assumes nothing.
 use Rattle.events.proofs.Done.{did_first, did_second}
 use Rattle.drive.specs.Request.{placed, positioned}
-use Rattle.std.proofs.Common.{refl, rules}
-use borrow.Author.Tests.{not-true, not-false}
+use Rattle.std.proofs.Common.{refl}
+use borrow.Author.Tests.{not-false}
 use Rattle.events.proofs.Asking.{heard_fit, did_heard, did_stopped}
 use Rattle.events.proofs.request.move_to.Goals as goal
 

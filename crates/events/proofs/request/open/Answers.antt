@@ -1,6 +1,6 @@
 -- `open` meets its contract.
 -- Assumes nothing.
-use Rattle.std.proofs.Common.{sym, refl, ◌∙◌, arith, rules, eq-eqb, ne_eqb}
+use Rattle.std.proofs.Common.{sym, refl, ◌∙◌, arith, eq-eqb, ne_eqb}
 use Rattle.parts.proofs.Bounds.{limits, data_words_lem, words_few}
 use Rattle.drive.proofs.Sound.{sound}
 use Rattle.drive.specs.Request.{opened}

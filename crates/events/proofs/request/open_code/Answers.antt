@@ -1,6 +1,6 @@
 -- `open_code` meets its contract.
 -- Assumes nothing.
-use Rattle.std.proofs.Common.{sym, refl, ◌∙◌, rules}
+use Rattle.std.proofs.Common.{sym, refl, ◌∙◌}
 use Rattle.parts.proofs.Bounds.{code_words}
 use Rattle.drive.proofs.Outcomes.{code_words_come}
 use Rattle.drive.specs.Request.{opened}

@@ -1,7 +1,6 @@
 -- `open_there` meets its contract.
 -- Assumes nothing.
-use Rattle.std.proofs.Common.{sym, refl, rules, eq-eqb, ne_eqb}
-use borrow.Author.Tests.{not-false, not-true}
+use Rattle.std.proofs.Common.{sym, refl, eq-eqb, ne_eqb}
 use Rattle.drive.specs.Request.{opening}
 use Rattle.events.specs.State.{drive_in}
 use Rattle.events.proofs.Asking.{at_target_fit, did_at_target}

@@ -2,7 +2,7 @@
 -- Assumes nothing.
 use Rattle.parts.proofs.Bounds.{few_words, in_range, inside, limits}
 use Rattle.parts.specs.Setup.{sector_number}
-use Rattle.std.proofs.Common.{refl, arith, rules}
+use Rattle.std.proofs.Common.{refl, arith}
 use Rattle.events.proofs.sizes.sector_number.Goals as goal
 
 -- Assumes nothing.

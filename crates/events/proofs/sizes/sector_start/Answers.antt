@@ -2,7 +2,7 @@
 -- Assumes nothing.
 use Rattle.parts.proofs.Bounds.{inside, limits, start_small}
 use Rattle.parts.specs.Setup.{sector_start}
-use Rattle.std.proofs.Common.{arith, rules}
+use Rattle.std.proofs.Common.{arith}
 use Rattle.events.proofs.sizes.sector_start.Goals as goal
 
 -- Assumes nothing.

@@ -1,7 +1,6 @@
 -- `drive_in` meets its contract.
 -- Assumes nothing.
 use Rattle.events.specs.State.{drive_in}
-use Rattle.std.proofs.Common.{rules}
 use Rattle.events.proofs.state.drive_in.Goals as goal
 
 pub returns : goal.returns

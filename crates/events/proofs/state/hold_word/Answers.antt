@@ -1,7 +1,6 @@
 -- `hold_word` meets its contract.
 -- Assumes nothing.
 use Rattle.events.specs.State.{hold_word}
-use Rattle.std.proofs.Common.{rules}
 use Rattle.events.proofs.state.hold_word.Goals as goal
 
 pub returns-in-None : goal.returns-in-None

@@ -1,6 +1,6 @@
 -- `pending_in` meets its contract.
 -- Assumes nothing.
-use Rattle.std.proofs.Common.{refl, rules}
+use Rattle.std.proofs.Common.{refl}
 use Rattle.events.specs.State.{pending_in}
 use Rattle.events.proofs.state.pending_in.Goals as goal
 

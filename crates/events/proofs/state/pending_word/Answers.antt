@@ -1,6 +1,6 @@
 -- `pending_word` meets its contract.
 -- Assumes nothing.
-use Rattle.std.proofs.Common.{refl, rules}
+use Rattle.std.proofs.Common.{refl}
 use Rattle.events.specs.State.{pending_word}
 use Rattle.events.proofs.state.pending_word.Goals as goal
 

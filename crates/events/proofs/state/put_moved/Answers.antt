@@ -1,6 +1,6 @@
 -- `put_moved` meets its contract: fourteen stores behind the set-up.
 -- Assumes nothing.
-use Rattle.std.proofs.Common.{refl, arith, length-set, rules}
+use Rattle.std.proofs.Common.{refl, arith, length-set}
 use lib.Seq.{sets-eq}
 use Rattle.events.specs.State.{moving_words, moved_to}
 use Rattle.events.proofs.state.put_moved.Goals as goal

@@ -1,6 +1,6 @@
 -- `put_state` meets its contract: the words that events change, and the set-up's at the front.
 -- Assumes nothing.
-use Rattle.std.proofs.Common.{ℕ, List, ap, ◌∙◌, arith, length-set, rules}
+use Rattle.std.proofs.Common.{ℕ, List, ap, ◌∙◌, arith, length-set}
 use lib.Seq.{sets}
 use Rattle.events.specs.State.{setup_words}
 use Rattle.events.proofs.Stores.{all_written}

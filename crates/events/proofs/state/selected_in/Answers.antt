@@ -1,6 +1,6 @@
 -- `selected_in` meets its contract.
 -- Assumes nothing.
-use Rattle.std.proofs.Common.{get_or, arith, rules, le-ltb, lt-ltb}
+use Rattle.std.proofs.Common.{get_or, arith, le-ltb, lt-ltb}
 use Rattle.laws.specs.Pick.{pick}
 use Rattle.events.specs.State.{selected_in}
 use Rattle.events.proofs.state.selected_in.Goals as goal

@@ -1,7 +1,7 @@
 -- `setup_in` meets its contract.
 -- Assumes nothing.
 use Rattle.events.specs.State.{drive_in}
-use Rattle.std.proofs.Common.{refl, rules}
+use Rattle.std.proofs.Common.{refl}
 use Rattle.events.proofs.state.setup_in.Goals as goal
 
 pub returns : goal.returns

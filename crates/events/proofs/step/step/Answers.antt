@@ -4,7 +4,7 @@ use Rattle.events.proofs.Answering.{step_told}
 use Rattle.events.proofs.Steps.{refused_1, refused_8, stepped, stepped_in}
 use Rattle.parts.specs.Kind.{DataControl, Deselect, End, Position, ReadStatus, Reset, Select, TakeWord, Target, Use, WordFromHost, kind_of}
 use Rattle.laws.specs.Pick.{pick}
-use Rattle.std.proofs.Common.{refl, rules, le-ltb, lt-ltb, ne_eqb}
+use Rattle.std.proofs.Common.{refl, le-ltb, lt-ltb, ne_eqb}
 use Rattle.events.proofs.step.step.Goals as goal
 
 pub returns-then-event-gt-LAST_PORT : goal.returns-then-event-gt-LAST_PORT

@@ -2,7 +2,6 @@
 -- Assumes nothing.
 use Rattle.events.proofs.Timely.{timely_told}
 use Rattle.events.specs.State.{drive_in}
-use Rattle.std.proofs.Common.{rules}
 use Rattle.events.proofs.timing.is_one_open.Goals as goal
 
 pub returns : goal.returns

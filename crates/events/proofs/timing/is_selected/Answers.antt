@@ -3,7 +3,6 @@
 use Rattle.events.proofs.Done.{known}
 use Rattle.events.specs.State.{drive_in, selected_in}
 use Rattle.laws.specs.Pick.{pick}
-use Rattle.std.proofs.Common.{rules}
 use Rattle.events.proofs.timing.is_selected.Goals as goal
 
 pub returns : goal.returns

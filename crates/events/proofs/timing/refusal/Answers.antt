@@ -2,7 +2,6 @@
 -- Assumes nothing.
 use Rattle.events.specs.State.{drive_in}
 use Rattle.laws.proofs.Pick.{flags, steps}
-use Rattle.std.proofs.Common.{rules}
 use Rattle.events.proofs.timing.refusal.Goals as goal
 
 pub returns-then-not-formed : goal.returns-then-not-formed

@@ -1,7 +1,6 @@
 -- `stranger` meets its contract.
 -- Assumes nothing.
 use Rattle.laws.proofs.Pick.{flags, steps}
-use Rattle.std.proofs.Common.{rules}
 use Rattle.events.proofs.timing.stranger.Goals as goal
 
 pub returns-then-not-formed : goal.returns-then-not-formed

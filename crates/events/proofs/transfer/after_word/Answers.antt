@@ -4,7 +4,7 @@ use Rattle.events.proofs.Changes.{word_moved}
 use Rattle.events.proofs.Done.{did_as_in, fit, known}
 use Rattle.events.proofs.Transfers.{differs, has_room, last_word, one_of_more, placed}
 use Rattle.events.specs.State.{drive_in}
-use Rattle.std.proofs.Common.{sym, refl, ◌∙◌, rules}
+use Rattle.std.proofs.Common.{sym, refl, ◌∙◌}
 use Rattle.events.proofs.transfer.after_word.Goals as goal
 
 pub returns-then-header_miscompares : goal.returns-then-header_miscompares

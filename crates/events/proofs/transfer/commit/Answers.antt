@@ -1,6 +1,6 @@
 -- `commit` meets its contract.
 -- Assumes nothing.
-use Rattle.std.proofs.Common.{Bool, ap, ◌∙◌, rules}
+use Rattle.std.proofs.Common.{Bool, ap, ◌∙◌}
 use Rattle.parts.specs.Control.{part}
 use Rattle.events.proofs.Committing.{committed_so}
 use Rattle.events.proofs.transfer.commit.Goals as goal

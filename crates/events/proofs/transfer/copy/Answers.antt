@@ -1,8 +1,7 @@
 -- `copy` meets its contract: after k words, those before k are in their places.
 -- Assumes nothing.
-use Rattle.std.proofs.Common.{inl, inr, ◌≡◌, ℕ, ◌-◌, ◌<◌, ◌≤◌, List, length, refl, length-set, rules}
-use Rattle.events.proofs.Committing.{Committing, Turned, all_in, committing_next, committing_start, place_within}
-use Rattle.events.proofs.transfer.copy.Invariants.{Copied}
+use Rattle.std.proofs.Common.{inl, inr, ◌≡◌, ◌<◌, length, refl, length-set, rules}
+use Rattle.events.proofs.Committing.{Turned, all_in, committing_next, committing_start, place_within}
 use Rattle.events.proofs.transfer.copy.Goals as goal
 use Rattle.events.proofs.transfer.copy.Goals.{then-k-header, else-k-header}
 

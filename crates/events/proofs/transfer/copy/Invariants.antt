@@ -1,7 +1,7 @@
 -- `copy` meets its contract: after k words, those before k are in their places.
 -- Assumes nothing.
-use Rattle.std.proofs.Common.{◌≡◌, ℕ, ◌-◌, ◌<◌, ◌≤◌, List, length, refl, length-set, rules}
-use Rattle.events.proofs.Committing.{Committing, all_in, committing_next, committing_start, place_within}
+use Rattle.std.proofs.Common.{◌≡◌, ℕ, ◌-◌, ◌≤◌, List, length}
+use Rattle.events.proofs.Committing.{Committing}
 use Rattle.events.proofs.transfer.copy.Given as goal
 
 -- so many words are in their places

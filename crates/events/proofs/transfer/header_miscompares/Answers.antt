@@ -1,8 +1,7 @@
 -- `header_miscompares` meets its contract.
 -- Assumes nothing.
-use Rattle.std.proofs.Common.{◌≡◌, ℕ, Bool, true, not, List, get_or, take, drop, sym, refl, ◌∙◌, arith, rules, eq-eqb, ne_eqb}
+use Rattle.std.proofs.Common.{◌≡◌, ℕ, Bool, true, not, List, get_or, take, drop, sym, refl, ◌∙◌, arith, eq-eqb, ne_eqb}
 use mathlib.Core.Bool.{and-false}
-use borrow.Author.Tests.{not-true, not-false}
 use Rattle.parts.specs.Control.{verifies_header}
 use Rattle.parts.specs.declared.setup.Setup.{Setup}
 use Rattle.laws.specs.Lists.{same_list}

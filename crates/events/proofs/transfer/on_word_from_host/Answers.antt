@@ -1,6 +1,6 @@
 -- `on_word_from_host` meets its contract.
 -- Assumes nothing.
-use Rattle.std.proofs.Common.{not, refl, ap, arith, rules}
+use Rattle.std.proofs.Common.{not, refl, ap, arith}
 use Rattle.parts.specs.Kind.{Use, WordFromHost}
 use Rattle.events.specs.State.{drive_in}
 use Rattle.events.proofs.Done.{did_accepted_in, did_refused_in, fit}

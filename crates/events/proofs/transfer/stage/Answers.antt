@@ -1,6 +1,6 @@
 -- `stage` meets its contract.
 -- Assumes nothing.
-use Rattle.std.proofs.Common.{arith, rules}
+use Rattle.std.proofs.Common.{arith}
 use Rattle.drive.specs.Transfer.{word_staged}
 use Rattle.events.specs.State.{drive_in}
 use Rattle.events.proofs.Transfers.{write_moving, staging_set}

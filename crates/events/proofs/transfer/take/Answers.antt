@@ -4,7 +4,7 @@ use Rattle.events.proofs.Changes.{word_moved}
 use Rattle.events.proofs.Done.{did_as, fit, known}
 use Rattle.events.proofs.Transfers.{has_room, last_taken_lem, moving, one_taken, placed}
 use Rattle.events.specs.State.{drive_in}
-use Rattle.std.proofs.Common.{sym, refl, ◌∙◌, arith, rules}
+use Rattle.std.proofs.Common.{sym, refl, ◌∙◌, arith}
 use Rattle.parts.proofs.Bounds.{data_words_lem}
 use Rattle.parts.proofs.ByBits.{read_is_data}
 use Rattle.events.proofs.transfer.take.Goals as goal

@@ -2,7 +2,7 @@
 -- Assumes nothing.
 use Rattle.drive.proofs.Reading.{at_fields, at_header}
 use Rattle.parts.specs.Control.{part}
-use Rattle.std.proofs.Common.{Bool, sym, ap, ◌∙◌, rules}
+use Rattle.std.proofs.Common.{Bool, sym, ap, ◌∙◌}
 use Rattle.parts.proofs.Bounds.{read_passes}
 use Rattle.events.proofs.transfer.word_offset.Goals as goal
 

@@ -1,7 +1,6 @@
 -- `walk` meets its contract: the words walked over are alike, and those that are left decide.
 -- Assumes nothing.
-use Rattle.std.proofs.Common.{◌≡◌, ℕ, suc, ◌+◌, ◌-◌, ◌<◌, ◌≤◌, List, ◌∷◌, length, get_or, take, drop, ◌∙◌, arith, rules, eq-eqb, ne_eqb, eqb-true}
-use borrow.Author.Tests.{eqb-false}
+use Rattle.std.proofs.Common.{◌≡◌, ℕ, suc, ◌+◌, ◌-◌, ◌<◌, ◌≤◌, List, ◌∷◌, length, get_or, take, drop, ◌∙◌, arith, rules, eq-eqb, ne_eqb}
 use Rattle.laws.proofs.Windows.{cut}
 use Rattle.events.specs.Words.{alike}
 use Rattle.events.proofs.OneWalk.{one_more, none_alike, at_the_end}

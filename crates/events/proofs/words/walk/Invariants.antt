@@ -1,10 +1,7 @@
 -- `walk` meets its contract: the words walked over are alike, and those that are left decide.
 -- Assumes nothing.
-use Rattle.std.proofs.Common.{◌≡◌, ℕ, suc, ◌+◌, ◌-◌, ◌<◌, ◌≤◌, List, ◌∷◌, length, get_or, take, drop, ◌∙◌, arith, rules, eq-eqb, ne_eqb, eqb-true}
-use borrow.Author.Tests.{eqb-false}
-use Rattle.laws.proofs.Windows.{cut}
+use Rattle.std.proofs.Common.{◌≡◌, ℕ, ◌+◌, ◌-◌, ◌≤◌, List, take, drop}
 use Rattle.events.specs.Words.{alike}
-use Rattle.events.proofs.OneWalk.{one_more, none_alike, at_the_end}
 use Rattle.events.proofs.words.walk.Given as goal
 
 -- How many of the words that are left are alike.

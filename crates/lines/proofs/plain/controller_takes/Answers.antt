@@ -2,7 +2,6 @@
 -- Assumes nothing.
 use mathlib.Core.Path.{sym, ap, ◌∙◌}
 use mathlib.Core.Bool.{Bool, not, ◌&&◌}
-use borrow.Author.Rules.{rules}
 use Rattle.laws.proofs.Pick.{pick_t, pick_f}
 use Rattle.lines.specs.Follower.{lacks_history}
 use Rattle.lines.specs.Turns.{takes}

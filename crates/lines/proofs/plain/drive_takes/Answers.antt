@@ -2,7 +2,6 @@
 -- Assumes nothing.
 use mathlib.Core.Path.{sym, ap, ◌∙◌}
 use mathlib.Core.Bool.{not}
-use borrow.Author.Rules.{rules}
 use Rattle.laws.proofs.Pick.{pick_t, pick_f}
 use Rattle.lines.specs.Turns.{takes}
 use Rattle.lines.proofs.plain.drive_takes.Goals as goal

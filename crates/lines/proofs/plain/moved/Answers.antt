@@ -1,7 +1,6 @@
 -- `moved` meets its contract.
 -- Assumes nothing.
 use mathlib.Core.Path.{ap}
-use borrow.Author.Rules.{rules}
 use Rattle.lines.specs.Follower.{told}
 use Rattle.lines.proofs.plain.moved.Goals as goal
 

@@ -1,6 +1,5 @@
 -- `read_plainly` meets its contract: the stretches are read as the steps do, and so does the definition.
 -- Assumes nothing.
-use borrow.Author.Rules.{rules}
 use Rattle.lines.proofs.Turns.{plainly}
 use Rattle.lines.proofs.ReadSoFar.{told_of, no_room}
 use Rattle.lines.proofs.plain.read_plainly.Goals as goal

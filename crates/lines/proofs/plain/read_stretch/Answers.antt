@@ -1,7 +1,6 @@
 -- `read_stretch` meets its contract: the turn that comes first reads as the steps do.
 -- Assumes nothing.
 use mathlib.Core.Path.{sym, ◌∙◌}
-use borrow.Author.Rules.{rules}
 use Rattle.lines.proofs.Turns.{drives_first, controllers_first}
 use Rattle.lines.proofs.plain.read_stretch.Goals as goal
 

@@ -1,10 +1,7 @@
 -- `read_stretches` meets its contract: stretch behind stretch, the whole trace.
 -- Assumes nothing.
-use Prim.Native.Nat.{◌-◌}
 use native.Mathlib.Omega.{arith}
-use borrow.Author.Rules.{rules}
-use lib.ListN.{length}
-use Rattle.lines.proofs.ReadSoFar.{ReadTo, read_none, stretch_read, all_left}
+use Rattle.lines.proofs.ReadSoFar.{read_none, stretch_read, all_left}
 use Rattle.lines.proofs.plain.read_stretches.Goals as goal
 
 pub loop-at-init : goal.loop-at-init

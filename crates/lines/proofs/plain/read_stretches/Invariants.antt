@@ -1,10 +1,8 @@
 -- `read_stretches` meets its contract: stretch behind stretch, the whole trace.
 -- Assumes nothing.
 use Prim.Native.Nat.{◌-◌}
-use native.Mathlib.Omega.{arith}
-use borrow.Author.Rules.{rules}
 use lib.ListN.{length}
-use Rattle.lines.proofs.ReadSoFar.{ReadTo, read_none, stretch_read, all_left}
+use Rattle.lines.proofs.ReadSoFar.{ReadTo}
 use Rattle.lines.proofs.plain.read_stretches.Given as goal
 
 abbrev pub invariant-loop-at : goal.invariant-loop-at

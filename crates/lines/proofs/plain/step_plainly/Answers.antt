@@ -3,7 +3,6 @@
 use mathlib.Core.Path.{sym, ap, ◌∙◌}
 use mathlib.Core.Bool.{Bool, not, ◌&&◌}
 use mathlib.Core.List.{[], ◌∷◌}
-use borrow.Author.Rules.{rules}
 use Rattle.laws.proofs.Pick.{pick_t, pick_f}
 use Rattle.lines.specs.Follower.{lacks_history}
 use Rattle.lines.specs.Turns.{takes}

@@ -1,9 +1,6 @@
 -- `steps` meets its contract.
 -- Assumes nothing.
-use Prim.Native.Nat.{◌-◌}
-use borrow.Author.Rules.{rules}
-use lib.ListN.{length}
-use Rattle.lines.proofs.ReadSoFar.{ReadTo, read_none, read_one, all_left}
+use Rattle.lines.proofs.ReadSoFar.{read_none, read_one, all_left}
 use Rattle.lines.proofs.reading.steps.Goals as goal
 
 pub loop-i-init : goal.loop-i-init

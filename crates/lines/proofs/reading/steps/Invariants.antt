@@ -1,9 +1,8 @@
 -- `steps` meets its contract.
 -- Assumes nothing.
 use Prim.Native.Nat.{◌-◌}
-use borrow.Author.Rules.{rules}
 use lib.ListN.{length}
-use Rattle.lines.proofs.ReadSoFar.{ReadTo, read_none, read_one, all_left}
+use Rattle.lines.proofs.ReadSoFar.{ReadTo}
 use Rattle.lines.proofs.reading.steps.Given as goal
 
 abbrev pub invariant-loop-i : goal.invariant-loop-i

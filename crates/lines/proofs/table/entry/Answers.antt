@@ -1,7 +1,6 @@
 -- `lines::table::entry` meets its contract: the table that is lent has the entry of the listed moves there.
 -- Assumes nothing.
 use native.Mathlib.Omega.{arith}
-use borrow.Author.Rules.{rules}
 use Rattle.lines.proofs.Listed.{count_of_pairs, table_is_the_list}
 use Rattle.lines.proofs.table.entry.Goals as goal
 

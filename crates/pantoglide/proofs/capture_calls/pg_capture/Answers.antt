@@ -1,6 +1,5 @@
 -- `pantoglide::capture_calls::pg_capture` meets its contract: where the records are, or the refusal.
 -- Assumes nothing.
-use borrow.Author.Rules.{rules}
 use Rattle.pantoglide.proofs.Captures.{found, not_found}
 use Rattle.pantoglide.proofs.capture_calls.pg_capture.Goals as goal
 

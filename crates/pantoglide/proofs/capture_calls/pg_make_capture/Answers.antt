@@ -1,6 +1,5 @@
 -- `pantoglide::capture_calls::pg_make_capture` meets its contract: the capture put together, or the refusal.
 -- Assumes nothing.
-use borrow.Author.Rules.{rules}
 use Rattle.pantoglide.proofs.Captures.{made, not_made}
 use Rattle.pantoglide.proofs.capture_calls.pg_make_capture.Goals as goal
 

@@ -1,6 +1,5 @@
 -- `pantoglide::defect_calls::pg_decode_defect` meets its contract: the four numbers, or the refusal.
 -- Assumes nothing.
-use borrow.Author.Rules.{rules}
 use Rattle.pantoglide.proofs.Defects.{defect_told, defect_not_told}
 use Rattle.pantoglide.proofs.defect_calls.pg_decode_defect.Goals as goal
 

@@ -1,6 +1,5 @@
 -- `pantoglide::defect_calls::pg_encode_defect` meets its contract: the 12 octets, or the refusal.
 -- Assumes nothing.
-use borrow.Author.Rules.{rules}
 use Rattle.pantoglide.proofs.Defects.{defect_made, defect_not_made}
 use Rattle.pantoglide.proofs.defect_calls.pg_encode_defect.Goals as goal
 

@@ -1,6 +1,5 @@
 -- `pantoglide::defect_calls::pg_map_place` meets its contract: the place, or the refusal.
 -- Assumes nothing.
-use borrow.Author.Rules.{rules}
 use Rattle.pantoglide.proofs.Defects.{place_told, place_not_told}
 use Rattle.pantoglide.proofs.defect_calls.pg_map_place.Goals as goal
 

@@ -1,7 +1,6 @@
 -- `follower_in` meets its contract.
 -- Assumes nothing.
 use Rattle.pantoglide.specs.Line.{follower_in}
-use borrow.Author.Rules.{rules}
 use Rattle.pantoglide.proofs.line.follower_in.Goals as goal
 
 pub returns : goal.returns

@@ -1,7 +1,6 @@
 -- `follower_octet` meets its contract.
 -- Assumes nothing.
 use Rattle.pantoglide.specs.Line.{follower_octet}
-use borrow.Author.Rules.{rules}
 use Rattle.pantoglide.proofs.line.follower_octet.Goals as goal
 
 pub returns : goal.returns

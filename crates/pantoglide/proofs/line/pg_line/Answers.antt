@@ -1,7 +1,6 @@
 -- `pg_line` meets its contract: what the follower answers, and its octet.
 -- Assumes nothing.
 use Rattle.pantoglide.proofs.Lines.{no_follower, line_told, line_refused}
-use borrow.Author.Rules.{rules}
 use Rattle.pantoglide.proofs.line.pg_line.Goals as goal
 
 pub returns-then-follower-lt1 : goal.returns-then-follower-lt1

@@ -1,6 +1,5 @@
 -- `pg_lines` meets its contract.
 -- Assumes nothing.
-use borrow.Author.Rules.{rules}
 use Rattle.lines.specs.Reading.{step_by_step}
 use Rattle.pantoglide.proofs.LinesRead.{no_octet, trace_followed, trace_refused_lem}
 use Rattle.pantoglide.proofs.lines_calls.pg_lines.Goals as goal

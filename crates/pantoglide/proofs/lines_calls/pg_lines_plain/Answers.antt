@@ -1,6 +1,5 @@
 -- `pg_lines_plain` meets its contract.
 -- Assumes nothing.
-use borrow.Author.Rules.{rules}
 use Rattle.lines.specs.Turns.{read_plainly}
 use Rattle.pantoglide.proofs.LinesRead.{no_octet, trace_followed, trace_refused_lem}
 use Rattle.pantoglide.proofs.lines_calls.pg_lines_plain.Goals as goal

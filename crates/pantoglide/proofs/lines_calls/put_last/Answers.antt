@@ -1,7 +1,6 @@
 -- `put_last` meets its contract.
 -- Assumes nothing.
 use mathlib.Core.Path.{refl, sym, ap, ◌∙◌}
-use borrow.Author.Rules.{rules}
 use lib.ListN.{set}
 use Rattle.laws.proofs.Pick.{pick_t, pick_f}
 use Rattle.lines.specs.Follower.{is_reached}

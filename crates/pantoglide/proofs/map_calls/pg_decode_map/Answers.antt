@@ -1,6 +1,5 @@
 -- `pantoglide::map_calls::pg_decode_map` meets its contract: what the map tells, or its first offence.
 -- Assumes nothing.
-use borrow.Author.Rules.{rules}
 use Rattle.pantoglide.proofs.Defects.{map_told, map_not_told}
 use Rattle.pantoglide.proofs.map_calls.pg_decode_map.Goals as goal
 

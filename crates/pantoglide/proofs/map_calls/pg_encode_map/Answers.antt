@@ -1,6 +1,5 @@
 -- `pantoglide::map_calls::pg_encode_map` meets its contract: the map, or the refusal.
 -- Assumes nothing.
-use borrow.Author.Rules.{rules}
 use Rattle.pantoglide.proofs.Defects.{map_made, map_not_made}
 use Rattle.pantoglide.proofs.map_calls.pg_encode_map.Goals as goal
 

@@ -1,6 +1,5 @@
 -- `pantoglide::map_calls::pg_read_map` meets its contract: what the map tells, or its first offence.
 -- Assumes nothing.
-use borrow.Author.Rules.{rules}
 use Rattle.pantoglide.proofs.Defects.{map_read_off, map_not_read_off}
 use Rattle.pantoglide.proofs.map_calls.pg_read_map.Goals as goal
 

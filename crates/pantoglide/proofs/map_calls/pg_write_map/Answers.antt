@@ -1,6 +1,5 @@
 -- `pantoglide::map_calls::pg_write_map` meets its contract: the map in its places, or the refusal.
 -- Assumes nothing.
-use borrow.Author.Rules.{rules}
 use Rattle.pantoglide.proofs.Defects.{map_put, map_not_put}
 use Rattle.pantoglide.proofs.map_calls.pg_write_map.Goals as goal
 

@@ -1,7 +1,6 @@
 -- `pg_replay` meets its contract.
 -- Assumes nothing.
 use Rattle.pantoglide.proofs.Replays.{no_number, replay_ran, replay_refused}
-use borrow.Author.Rules.{rules}
 use Rattle.pantoglide.proofs.replay.pg_replay.Goals as goal
 
 pub returns-then-ran-lt1 : goal.returns-then-ran-lt1

@@ -3,7 +3,6 @@
 use mathlib.Core.Path.{sym, ◌∙◌}
 use Rattle.laws.specs.Pick.{pick}
 use Rattle.parts.specs.Command.{code_of}
-use borrow.Author.Rules.{rules}
 use Rattle.parts.proofs.command.code_of.Goals as goal
 
 pub returns-then-is_command : goal.returns-then-is_command

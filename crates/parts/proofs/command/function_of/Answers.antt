@@ -4,7 +4,6 @@ use borrow.Author.Tests.{ne_eqb, eq-eqb}
 use Rattle.laws.specs.Pick.{pick}
 use Rattle.parts.specs.Command.{function_in}
 use Rattle.parts.proofs.OnPaper.{function_said}
-use borrow.Author.Rules.{rules}
 use Rattle.parts.proofs.command.function_of.Goals as goal
 
 pub returns-then-word : goal.returns-then-word

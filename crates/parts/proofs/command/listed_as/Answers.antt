@@ -4,7 +4,6 @@ use mathlib.Core.Path.{sym, ◌∙◌}
 use borrow.Author.Tests.{ne_eqb}
 use Rattle.laws.specs.Pick.{pick}
 use Rattle.parts.specs.Command.{function_of}
-use borrow.Author.Rules.{rules}
 use Rattle.parts.proofs.command.listed_as.Goals as goal
 
 pub returns-then-function_acts_on_more : goal.returns-then-function_acts_on_more

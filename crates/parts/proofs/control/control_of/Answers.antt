@@ -1,7 +1,6 @@
 -- `control_of` meets its contract: the ranges are tested in the order of the codes.
 -- Assumes nothing.
 use Rattle.parts.specs.Control.{control_of}
-use borrow.Author.Rules.{rules}
 use Rattle.laws.proofs.Pick.{steps}
 use Rattle.laws.specs.Pick.{pick}
 use Rattle.parts.proofs.OnPaper.{control_said}

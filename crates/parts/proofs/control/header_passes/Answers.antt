@@ -1,7 +1,6 @@
 -- `header_passes` meets its contract.
 -- Assumes nothing.
 use Rattle.parts.specs.Control.{header_passes}
-use borrow.Author.Rules.{rules}
 use Rattle.parts.proofs.control.header_passes.Goals as goal
 
 pub returns : goal.returns

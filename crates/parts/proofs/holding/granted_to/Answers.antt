@@ -1,7 +1,6 @@
 -- `granted_to` meets its contract.
 -- Assumes nothing.
 use Rattle.parts.specs.Holding.{granted_to}
-use borrow.Author.Rules.{rules}
 use Rattle.parts.proofs.OnPaper.{bits_of_hold, holding_said}
 use Rattle.parts.proofs.holding.granted_to.Goals as goal
 

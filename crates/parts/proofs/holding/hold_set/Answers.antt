@@ -2,7 +2,6 @@
 -- Assumes nothing.
 use Rattle.parts.specs.Holding.{hold_set}
 use Rattle.laws.specs.Pick.{pick}
-use borrow.Author.Rules.{rules}
 use Rattle.parts.proofs.holding.hold_set.Goals as goal
 
 -- Assumes nothing.

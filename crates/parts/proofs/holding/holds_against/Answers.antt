@@ -1,6 +1,5 @@
 -- `holds_against` meets its contract.
 -- Assumes nothing.
-use borrow.Author.Rules.{rules}
 use Rattle.parts.proofs.holding.holds_against.Goals as goal
 
 pub returns-in-Strong : goal.returns-in-Strong

@@ -2,7 +2,6 @@
 -- Assumes nothing.
 use Rattle.parts.specs.Setup.{following}
 use Rattle.laws.proofs.Pick.{steps}
-use borrow.Author.Rules.{rules}
 use Rattle.parts.proofs.setup.next_of.Goals as goal
 
 pub returns-then-n-count : goal.returns-then-n-count

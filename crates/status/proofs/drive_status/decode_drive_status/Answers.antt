@@ -1,6 +1,5 @@
 -- `status::drive_status::decode_drive_status` meets its contract: at each `return` the tests that led there say which case holds.
 -- Assumes nothing.
-use borrow.Author.Rules.{rules}
 use borrow.Author.Tests.{lt-ltb, le-ltb, ne_eqb}
 use Rattle.laws.specs.Pick.{pick}
 use Rattle.status.specs.DriveStatus.{status_of, is_drive_status}

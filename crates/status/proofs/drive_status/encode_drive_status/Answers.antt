@@ -1,6 +1,5 @@
 -- `status::drive_status::encode_drive_status` meets its contract: one store at the front.
 -- Assumes nothing.
-use borrow.Author.Rules.{rules}
 use Rattle.status.specs.DriveStatus.{drive_status_octets}
 use Rattle.status.proofs.Encoding.{too_short, written}
 use Rattle.status.proofs.drive_status.encode_drive_status.Goals as goal

@@ -3,7 +3,6 @@
 use borrow.Author.Tests.{lt-ltb, le-ltb}
 use Rattle.laws.specs.Pick.{pick}
 use Rattle.laws.proofs.Pick.{told}
-use borrow.Author.Rules.{rules}
 use Rattle.status.proofs.Decoding.{response_decoded}
 use Rattle.status.proofs.response.decode_response.Goals as goal
 

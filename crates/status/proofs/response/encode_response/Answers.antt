@@ -4,7 +4,6 @@ use lib.ListN.{length-set}
 use native.Mathlib.Omega.{arith}
 use Rattle.status.specs.Response.{response_octets}
 use Rattle.status.proofs.Encoding.{too_short, written}
-use borrow.Author.Rules.{rules}
 use Rattle.status.proofs.response.encode_response.Goals as goal
 
 pub returns-then-octets-lt-RESPONSE_LENGTH : goal.returns-then-octets-lt-RESPONSE_LENGTH

@@ -2,7 +2,6 @@
 -- Assumes nothing.
 use Rattle.status.specs.Response.{is_foreign}
 use Rattle.status.proofs.Bits.{mask_two, mask_four}
-use borrow.Author.Rules.{rules}
 use lib.ListN.{get_or}
 use Rattle.status.proofs.response.is_foreign.Goals as goal
 

@@ -2,7 +2,6 @@
 -- Assumes nothing.
 use Rattle.status.specs.Response.{response_of}
 use Rattle.status.proofs.Bits.{mask_bit}
-use borrow.Author.Rules.{rules}
 use mathlib.Core.Path.{◌∙◌}
 use Rattle.status.proofs.response.response_of.Goals as goal
 

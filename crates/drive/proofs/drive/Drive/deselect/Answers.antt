@@ -1,7 +1,6 @@
 -- `deselect` meets its contract.
 -- Assumes nothing.
 use Rattle.drive.specs.Drive.{deselected}
-use borrow.Author.Rules.{rules}
 use Rattle.drive.proofs.drive.Drive.deselect.Goals as goal
 
 pub returns : goal.returns

@@ -3,7 +3,6 @@
 use Rattle.drive.specs.Drive.{owner_noticed}
 use Rattle.drive.specs.State.{pending_on}
 use Rattle.laws.specs.Pick.{pick}
-use borrow.Author.Rules.{rules}
 use Rattle.drive.proofs.drive.Drive.owner_noticed.Goals as goal
 
 pub returns-then-is_owned_by_other : goal.returns-then-is_owned_by_other

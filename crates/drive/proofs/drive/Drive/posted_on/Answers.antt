@@ -1,7 +1,6 @@
 -- `posted_on` meets its contract.
 -- Assumes nothing.
 use Rattle.drive.specs.State.{posted_on}
-use borrow.Author.Rules.{rules}
 use Rattle.drive.proofs.drive.Drive.posted_on.Goals as goal
 
 pub returns : goal.returns

@@ -1,7 +1,6 @@
 -- `priority_reserve` meets its contract.
 -- Assumes nothing.
 use Rattle.drive.specs.Drive.{priority_reserved}
-use borrow.Author.Rules.{rules}
 use Rattle.drive.proofs.drive.Drive.priority_reserve.Goals as goal
 
 pub returns : goal.returns

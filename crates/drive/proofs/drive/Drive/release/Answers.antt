@@ -1,7 +1,6 @@
 -- `release` meets its contract.
 -- Assumes nothing.
 use Rattle.drive.specs.Drive.{unreserved}
-use borrow.Author.Rules.{rules}
 use Rattle.drive.proofs.drive.Drive.release.Goals as goal
 
 pub returns : goal.returns

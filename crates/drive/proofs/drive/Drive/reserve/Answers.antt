@@ -1,7 +1,6 @@
 -- `reserve` meets its contract.
 -- Assumes nothing.
 use Rattle.drive.specs.Drive.{reserved}
-use borrow.Author.Rules.{rules}
 use Rattle.drive.proofs.drive.Drive.reserve.Goals as goal
 
 pub returns : goal.returns

@@ -1,7 +1,6 @@
 -- `reset` meets its contract.
 -- Assumes nothing.
 use Rattle.drive.specs.Drive.{after_reset}
-use borrow.Author.Rules.{rules}
 use Rattle.drive.proofs.drive.Drive.reset.Goals as goal
 
 pub returns : goal.returns

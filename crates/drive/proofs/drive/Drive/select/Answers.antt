@@ -1,7 +1,6 @@
 -- `select` meets its contract.
 -- Assumes nothing.
 use Rattle.drive.specs.Drive.{selected}
-use borrow.Author.Rules.{rules}
 use Rattle.drive.proofs.drive.Drive.select.Goals as goal
 
 pub returns : goal.returns

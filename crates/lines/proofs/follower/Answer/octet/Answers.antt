@@ -1,7 +1,6 @@
 -- `Answer::octet` meets its contract.
 -- Assumes nothing.
 use Rattle.lines.specs.Reading.{octet_of}
-use borrow.Author.Rules.{rules}
 use Rattle.lines.proofs.follower.Answer.octet.Goals as goal
 
 pub returns-in-Same : goal.returns-in-Same

@@ -1,7 +1,6 @@
 -- `Follower::moved` meets its contract: a repeated setting is the same; else the table's entry decides, and for the controller's moves the history.
 -- Assumes nothing.
 use mathlib.Core.Path.{sym, ap}
-use borrow.Author.Rules.{rules}
 use borrow.Author.Tests.{eq-eqb, ne_eqb}
 use Rattle.laws.specs.Pick.{pick}
 use Rattle.lines.specs.Moves.{entry_of}

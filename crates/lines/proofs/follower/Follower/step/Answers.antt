@@ -1,7 +1,6 @@
 -- `Follower::step` meets its contract: the constant is the table of the listed moves, entry for entry, which antt computes.
 -- Assumes nothing.
 use mathlib.Core.Path.{refl}
-use borrow.Author.Rules.{rules}
 use Rattle.laws.specs.Pick.{pick}
 use Rattle.lines.specs.Moves.{entry_of, moves_table}
 use Rattle.lines.proofs.follower.Follower.step.Goals as goal

@@ -1,7 +1,6 @@
 -- `is_busy` meets its contract.
 -- Assumes nothing.
 use Rattle.parts.specs.Holding.{is_busy}
-use borrow.Author.Rules.{rules}
 use Rattle.parts.proofs.holding.Holding.is_busy.Goals as goal
 
 pub returns : goal.returns

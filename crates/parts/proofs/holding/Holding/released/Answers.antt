@@ -1,7 +1,6 @@
 -- `released` meets its contract.
 -- Assumes nothing.
 use Rattle.parts.specs.Holding.{released}
-use borrow.Author.Rules.{rules}
 use mathlib.Core.Path.{refl}
 use Rattle.parts.proofs.OnPaper.{holding_said}
 use Rattle.parts.proofs.holding.Holding.released.Goals as goal

@@ -2,7 +2,6 @@
 -- Assumes nothing.
 use Rattle.parts.specs.Pending.{faulted}
 use Rattle.parts.proofs.Bits.{one_bit}
-use borrow.Author.Rules.{rules}
 use Rattle.parts.proofs.pending.Pending.faulted.Goals as goal
 
 pub with_bit-requires : goal.with_bit-requires

@@ -2,7 +2,6 @@
 -- Assumes nothing.
 use Rattle.parts.specs.Pending.{octet0}
 use Rattle.laws.specs.Pick.{pick}
-use borrow.Author.Rules.{rules}
 use borrow.Author.Tests.{eq-eqb, ne_eqb}
 use Rattle.parts.proofs.pending.Pending.octet0.Goals as goal
 

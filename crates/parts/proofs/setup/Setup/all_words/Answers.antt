@@ -2,7 +2,6 @@
 -- Assumes nothing.
 use Rattle.parts.specs.Setup.{all_words}
 use Rattle.parts.proofs.Bounds.{few_words, limits}
-use borrow.Author.Rules.{rules}
 use native.Mathlib.Omega.{arith}
 use Rattle.parts.proofs.setup.Setup.all_words.Goals as goal
 

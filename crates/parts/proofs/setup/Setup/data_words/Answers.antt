@@ -1,7 +1,6 @@
 -- `data_words` meets its contract.
 -- Assumes nothing.
 use Rattle.parts.specs.Control.{data_words}
-use borrow.Author.Rules.{rules}
 use Rattle.parts.proofs.setup.Setup.data_words.Goals as goal
 
 pub returns : goal.returns

@@ -2,8 +2,6 @@
 -- Assumes nothing.
 use mathlib.Core.Path.{sym, ◌∙◌}
 use Rattle.parts.specs.Setup.{lacks_room}
-use borrow.Author.Rules.{rules}
-use borrow.Author.Tests.{not-false, not-true}
 use Rattle.parts.proofs.setup.Setup.lacks_room.Goals as goal
 
 pub returns-then-not-within_limits : goal.returns-then-not-within_limits

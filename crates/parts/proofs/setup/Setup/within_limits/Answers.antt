@@ -1,7 +1,6 @@
 -- `within_limits` meets its contract.
 -- Assumes nothing.
 use Rattle.parts.specs.Setup.{within_limits}
-use borrow.Author.Rules.{rules}
 use Rattle.parts.proofs.setup.Setup.within_limits.Goals as goal
 
 pub returns : goal.returns

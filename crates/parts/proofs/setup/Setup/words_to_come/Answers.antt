@@ -3,7 +3,6 @@
 use mathlib.Core.Path.{sym, ◌∙◌}
 use Rattle.laws.specs.Pick.{pick}
 use Rattle.parts.specs.Control.{words_to_come}
-use borrow.Author.Rules.{rules}
 use Rattle.parts.proofs.setup.Setup.words_to_come.Goals as goal
 
 pub returns-then-is_data : goal.returns-then-is_data
