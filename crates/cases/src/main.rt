@@ -33,8 +33,8 @@ mod words;
 
 use tally::Tally;
 
-fn main() {
-    let lines = line_cases::run(Tally::none());
+fn main(rt: HostRuntime) {
+    let lines = line_cases::run(Tally::none(rt.stdout()));
     let traces = trace_cases::run(lines);
     let controls = control_cases::run(traces);
     let transfers = transfer_cases::run(controls);

@@ -1,8 +1,9 @@
 // The lines that the program writes: one for each case, then a count.
-use libc::STDOUT_FILENO;
+use std::io::Stdout;
 
 #[derive(Clone, Copy)]
 pub(crate) struct Tally {
+    out: Stdout,
     cases: u64,
     differ: u64,
     // Where the name of the next case starts, among the names of a topic.
@@ -10,8 +11,9 @@ pub(crate) struct Tally {
 }
 
 impl Tally {
-    pub(crate) fn none() -> Tally {
+    pub(crate) fn none(out: Stdout) -> Tally {
         Tally {
+            out,
             cases: 0,
             differ: 0,
             name: 0,
@@ -20,9 +22,10 @@ impl Tally {
 
     // A case, and whether all of it came out as document 01 says.
     fn case(self, name: &[u8], same: bool) -> Tally {
-        write_line(name, same);
+        self.write_line(name, same);
         let differs = if same { 0 } else { 1 };
         Tally {
+            out: self.out,
             cases: std::num::wrapping_add_u64(self.cases, 1),
             differ: std::num::wrapping_add_u64(self.differ, differs),
             name: self.name,
@@ -50,21 +53,16 @@ impl Tally {
     }
 
     pub(crate) fn told(self) {
-        io::print_decimal(STDOUT_FILENO, self.differ);
-        io::write_all(STDOUT_FILENO, b" of ");
-        io::print_decimal(STDOUT_FILENO, self.cases);
-        io::write_all(STDOUT_FILENO, b" cases differ\n");
+        let _ = println!(self.out; "{} of {} cases differ", self.differ, self.cases);
     }
-}
 
-fn write_line(name: &[u8], same: bool) {
-    if same {
-        io::write_all(STDOUT_FILENO, b"ok ");
-    } else {
-        io::write_all(STDOUT_FILENO, b"DIFFERS ");
+    // A line that cannot be written is let go.
+    fn write_line(self, name: &[u8], same: bool) {
+        let verdict: &[u8] = if same { b"ok " } else { b"DIFFERS " };
+        let _ = self.out.write_all(verdict);
+        let _ = self.out.write_all(name);
+        let _ = self.out.write_all(b"\n");
     }
-    io::write_all(STDOUT_FILENO, name);
-    io::write_all(STDOUT_FILENO, b"\n");
 }
 
 fn line_end(names: &[u8], from: usize) -> usize {

@@ -4,6 +4,8 @@ ghost use Rattle.laws.specs.Pick.{pick};
 
 use numbers::Number;
 use parts::Setup;
+use std::env::FillError;
+use std::rt::Env;
 
 #[derive(Clone, Copy)]
 pub(crate) enum Arguments {
@@ -18,16 +20,16 @@ const ARGUMENT_COUNT: usize = 5;
 const MOST_DIGITS: usize = 5;
 
 // A map has nothing to do with the header, field 2 and the drive's address: any within their limits do.
-pub(crate) fn read_arguments() -> Arguments {
-    if os::arg_count() != ARGUMENT_COUNT {
+pub(crate) fn read_arguments(env: &impl Env) -> Arguments {
+    if !is_given(env, ARGUMENT_COUNT - 1) || is_given(env, ARGUMENT_COUNT) {
         return Arguments::Bad;
     }
     let setup = Setup {
-        cylinders: argument(1),
-        heads: argument(2),
-        sectors: argument(3),
+        cylinders: argument(env, 1),
+        heads: argument(env, 2),
+        sectors: argument(env, 3),
         header: 0,
-        field1: argument(4),
+        field1: argument(env, 4),
         field2: 0,
         address: 0,
     };
@@ -37,10 +39,14 @@ pub(crate) fn read_arguments() -> Arguments {
     Arguments::Bad
 }
 
+fn is_given(env: &impl Env, index: usize) -> bool {
+    !matches!(env.arg(index, &mut []), Err(FillError::NotPresent))
+}
+
 // 0, which is outside the limits of each, where the argument is no number or no word holds it. One that is longer than its room is read as none.
-fn argument(index: usize) -> u16 {
+fn argument(env: &impl Env, index: usize) -> u16 {
     let mut digits = [0u8; MOST_DIGITS];
-    let length = os::arg(index, &mut digits);
+    let length = env.arg(index, &mut digits).unwrap_or(0);
     match numbers::number_of(&digits[..length]) {
         Number::Is(number) => word_of(number),
         Number::Not => 0,

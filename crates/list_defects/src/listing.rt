@@ -2,8 +2,9 @@
 ghost use Rattle.std.specs.Prelude.{◌*◌, ◌≤◌, length};
 
 use defects::{Defect, DefectRead, MapRead};
-use libc::{STDERR_FILENO, STDIN_FILENO, STDOUT_FILENO};
 use parts::Setup;
+use std::io;
+use std::io::Read;
 
 // The octets stand on the stack. A maker's map is a few sets of at most 6,144 octets each, so this is ample, though the largest cylinder has room
 // for sixteen times as much.
@@ -19,95 +20,98 @@ const DEFECT_LENGTH: usize = 12;
 
 // Reads a map from standard input and writes the list of its defects to standard output, and nothing else there. Input that was not read to its
 // end is not a short map: a line on standard error says so.
-pub(crate) fn list_input(setup: Setup, octets: &mut [u8], defects: &mut [u8]) {
-    let count = io::read_full(STDIN_FILENO, octets);
+pub(crate) fn list_input(
+    rt: &(impl Input + Print + Eprint),
+    setup: Setup,
+    octets: &mut [u8],
+    defects: &mut [u8],
+) {
+    let mut input = rt.reader();
+    let count = read_full(&mut input, octets);
     if MOST_OCTETS < count {
-        tell_unless(say(b"too long\n"));
+        tell_unless(rt, println!(rt; "too long"));
         return;
     }
-    let mut more: [u8; 1] = [0];
-    if libc::read(STDIN_FILENO, &mut more) != 0 {
-        io::write_all(
-            STDERR_FILENO,
-            b"list_defects: standard input was not read to its end\n",
-        );
+    if !is_at_end(&mut input) {
+        let _ = eprintln!(rt; "list_defects: standard input was not read to its end");
         return;
     }
-    tell_unless(list(setup, &octets[..count], defects));
+    tell_unless(rt, list(rt, setup, &octets[..count], defects));
+}
+
+// Reads until the octets are full, or the input ends or a read fails.
+fn read_full(input: &mut impl Read, octets: &mut [u8]) -> usize
+    ensures { result ≤ length octets.new }
+{
+    let mut count = 0;
+    while count < octets.len() {
+        match input.read(&mut octets[count..]) {
+            Ok(0) | Err(_) => break,
+            Ok(more) => count += more,
+        }
+    }
+    count
+}
+
+// Neither an octet more nor a failure.
+fn is_at_end(input: &mut impl Read) -> bool {
+    matches!(input.read(&mut [0]), Ok(0))
 }
 
 // A failed write is not a success: a line on standard error says so.
-pub(crate) fn tell_unless(written: bool) {
-    if !written {
-        io::write_all(
-            STDERR_FILENO,
-            b"list_defects: standard output was not written whole\n",
-        );
+pub(crate) fn tell_unless(rt: &impl Eprint, written: io::Result<()>) {
+    if written.is_err() {
+        let _ = eprintln!(rt; "list_defects: standard output was not written whole");
     }
 }
 
-// The list of the map in the octets, or the refusal. Was it written?
-fn list(setup: Setup, octets: &[u8], defects: &mut [u8]) -> bool {
+// The list of the map in the octets, or the refusal.
+fn list(rt: &impl Print, setup: Setup, octets: &[u8], defects: &mut [u8]) -> io::Result<()> {
     match defects::decode_map(setup, octets, defects) {
         MapRead::Map {
             count,
             storage_cylinder,
             storage_head,
-        } => say_map(storage_cylinder, storage_head, count, defects),
-        MapRead::Refused { number, offset } => say_refused(number, offset),
+        } => say_map(rt, storage_cylinder, storage_head, count, defects),
+        MapRead::Refused { number, offset } => println!(rt; "refused {number} at {offset}"),
     }
 }
 
-fn say_refused(number: u8, offset: usize) -> bool {
-    say_number(b"refused ", number as u64) && say_number(b" at ", offset as u64) && say(b"\n")
-}
-
-fn say_map(cylinder: u16, head: u16, count: usize, defects: &[u8]) -> bool
+fn say_map(
+    rt: &impl Print,
+    cylinder: u16,
+    head: u16,
+    count: usize,
+    defects: &[u8],
+) -> io::Result<()>
     requires { 12 * count ≤ length defects.now }
 {
-    say_number(b"storage ", cylinder as u64)
-        && say_number(b" ", head as u64)
-        && say(b"\n")
-        && say_each(count, defects)
-        && say_number(b"defects ", count as u64)
-        && say(b"\n")
+    println!(rt; "storage {cylinder} {head}")?;
+    say_each(rt, count, defects)?;
+    println!(rt; "defects {count}")
 }
 
-fn say_each(count: usize, defects: &[u8]) -> bool
+fn say_each(rt: &impl Print, count: usize, defects: &[u8]) -> io::Result<()>
     requires { 12 * count ≤ length defects.now }
 {
-    let mut i = 0;
-    while i < count {
+    for i in 0..count {
         let at = DEFECT_LENGTH * i;
         let end = at + DEFECT_LENGTH;
-        if !say_octets(&defects[at..end]) {
-            return false;
+        match defects::decode_defect(&defects[at..end]) {
+            DefectRead::Decoded(defect) => say_defect(rt, defect)?,
+            // Twelve octets are never refused.
+            DefectRead::Refused(_) => unreachable!(),
         }
-        i += 1;
     }
-    true
+    Ok(())
 }
 
-fn say_octets(octets: &[u8]) -> bool {
-    match defects::decode_defect(octets) {
-        DefectRead::Decoded(defect) => say_defect(defect),
-        // Twelve octets are never refused.
-        DefectRead::Refused(_) => false,
-    }
-}
-
-fn say_defect(defect: Defect) -> bool {
-    say_number(b"", defect.cylinder as u64)
-        && say_number(b" ", defect.head as u64)
-        && say_number(b" ", defect.offset as u64)
-        && say_number(b" ", defect.length as u64)
-        && say(b"\n")
-}
-
-fn say_number(before: &[u8], number: u64) -> bool {
-    say(before) && io::print_decimal(STDOUT_FILENO, number)
-}
-
-pub(crate) fn say(text: &[u8]) -> bool {
-    io::write_all(STDOUT_FILENO, text)
+fn say_defect(rt: &impl Print, defect: Defect) -> io::Result<()> {
+    let Defect {
+        cylinder,
+        head,
+        offset,
+        length,
+    } = defect;
+    println!(rt; "{cylinder} {head} {offset} {length}")
 }

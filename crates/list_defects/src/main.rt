@@ -11,11 +11,11 @@ mod listing;
 
 use arguments::{Arguments, read_arguments};
 
-fn main() {
+fn main(rt: HostRuntime) {
     let mut octets = [0u8; listing::INPUT_LENGTH];
     let mut defects = [0u8; listing::DEFECTS_LENGTH];
-    match read_arguments() {
-        Arguments::Good(setup) => listing::list_input(setup, &mut octets, &mut defects),
-        Arguments::Bad => listing::tell_unless(listing::say(b"bad arguments\n")),
+    match read_arguments(&rt) {
+        Arguments::Good(setup) => listing::list_input(&rt, setup, &mut octets, &mut defects),
+        Arguments::Bad => listing::tell_unless(&rt, println!(rt; "bad arguments")),
     }
 }

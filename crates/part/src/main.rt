@@ -10,17 +10,21 @@
 
 ghost use Rattle.std.specs.Prelude.{◌≤◌, length};
 
+use std::env::FillError;
+use std::rt::Env;
+
 // The program's name, FROM and LIMIT.
 const ARGUMENT_COUNT: usize = 3;
 
-fn main() {
+fn main(rt: HostRuntime) {
     let mut from = [0u8; numbers::MOST_DIGITS];
     let mut limit = [0u8; numbers::MOST_DIGITS];
     let mut octets = [0u8; reading::INPUT_LENGTH];
     let mut text = [0u8; bench::LONGEST_REPORT];
-    let from_length = argument(1, &mut from);
-    let limit_length = argument(2, &mut limit);
+    let from_length = argument(&rt, 1, &mut from);
+    let limit_length = argument(&rt, 2, &mut limit);
     reading::part_input(
+        &rt,
         &from[..from_length],
         &limit[..limit_length],
         &mut octets,
@@ -29,11 +33,15 @@ fn main() {
 }
 
 // How long the argument is, 0 where there are not two: no digits are no number. One that is longer than its room is read as none, too.
-fn argument(index: usize, digits: &mut [u8]) -> usize
+fn argument(env: &impl Env, index: usize, digits: &mut [u8]) -> usize
     ensures { result ≤ length digits.new }
 {
-    if os::arg_count() != ARGUMENT_COUNT {
+    if !is_given(env, ARGUMENT_COUNT - 1) || is_given(env, ARGUMENT_COUNT) {
         return 0;
     }
-    os::arg(index, digits)
+    env.arg(index, digits).unwrap_or(0)
+}
+
+fn is_given(env: &impl Env, index: usize) -> bool {
+    !matches!(env.arg(index, &mut []), Err(FillError::NotPresent))
 }

@@ -9,33 +9,41 @@ ghost use Rattle.reading.specs.Input.{InputReplayed};
 ghost use Rattle.reading.specs.Told.{size_told};
 
 use bench::Replayed;
-use libc::{STDERR_FILENO, STDIN_FILENO, STDOUT_FILENO};
 use numbers::Number;
+use std::io::Read;
 
 // The longest capture has 65,536 octets. One more is read, so that a longer one shows: if no more were read than may be there, the front of a capture
 // that is too long would be replayed as if it were whole.
 pub const INPUT_LENGTH: usize = 65_537;
 
 // Reads a capture from standard input and writes the report of its replay to standard output, and nothing else there. How many octets were read.
-pub fn replay_input(octets: &mut [u8], text: &mut [u8]) -> usize
+pub fn replay_input(rt: &(impl Input + Print + Eprint), octets: &mut [u8], text: &mut [u8]) -> usize
     ensures { InputReplayed (report_of All) octets.new text.old result text.new }
 {
-    let count = read_if(true, octets);
-    let whole = has_not_failed_if(true);
+    let mut input = rt.reader();
+    let count = read_if(true, &mut input, octets);
+    let whole = has_not_failed_if(true, &mut input);
     let replayed = bench::replay(&octets[..count], text);
-    tell(b"replay", whole, replayed, &text[..]);
+    tell(rt, "replay", whole, replayed, &text[..]);
     count
 }
 
 // The same of a part, whose arguments are lent as their digits. Where they are no two numbers, nothing is read: who forgot them is told at once.
-pub fn part_input(from: &[u8], limit: &[u8], octets: &mut [u8], text: &mut [u8]) -> usize
+pub fn part_input(
+    rt: &(impl Input + Print + Eprint),
+    from: &[u8],
+    limit: &[u8],
+    octets: &mut [u8],
+    text: &mut [u8],
+) -> usize
     ensures { InputReplayed (part_report_of (number_in from.now) (number_in limit.now)) octets.new text.old result text.new }
 {
     let wanted = is_number(from) & is_number(limit);
-    let count = read_if(wanted, octets);
-    let whole = has_not_failed_if(wanted);
+    let mut input = rt.reader();
+    let count = read_if(wanted, &mut input, octets);
+    let whole = has_not_failed_if(wanted, &mut input);
     let replayed = bench::replay_part(from, limit, &octets[..count], text);
-    tell(b"part", whole, replayed, &text[..]);
+    tell(rt, "part", whole, replayed, &text[..]);
     count
 }
 
@@ -46,46 +54,59 @@ fn is_number(digits: &[u8]) -> bool {
     }
 }
 
-fn read_if(wanted: bool, octets: &mut [u8]) -> usize
+fn read_if(wanted: bool, input: &mut impl Read, octets: &mut [u8]) -> usize
     ensures { result ≤ length octets.new }
 {
     if wanted {
-        return io::read_full(STDIN_FILENO, octets);
+        return read_full(input, octets);
     }
     0
 }
 
+// Reads until the octets are full, or the input ends or a read fails.
+fn read_full(input: &mut impl Read, octets: &mut [u8]) -> usize
+    ensures { result ≤ length octets.new }
+{
+    let mut count = 0;
+    while count < octets.len() {
+        match input.read(&mut octets[count..]) {
+            Ok(0) | Err(_) => break,
+            Ok(more) => count += more,
+        }
+    }
+    count
+}
+
 // Behind the octets that were asked for a read tells an end from a failure.
-fn has_not_failed_if(wanted: bool) -> bool {
+fn has_not_failed_if(wanted: bool, input: &mut impl Read) -> bool {
     if !wanted {
         return true;
     }
-    let mut more: [u8; 1] = [0];
-    0 <= libc::read(STDIN_FILENO, &mut more)
+    input.read(&mut [0]).is_ok()
 }
 
-fn tell(program: &[u8], whole: bool, replayed: Replayed, text: &[u8])
+fn tell(rt: &(impl Print + Eprint), program: &str, whole: bool, replayed: Replayed, text: &[u8])
     requires { size_told replayed ≤ length text.now }
 {
     match replayed {
-        Replayed::Text(size) => put_out(program, whole, &text[..size]),
+        Replayed::Text(size) => put_out(rt, program, whole, &text[..size]),
         // A text that is too short for the report.
         Replayed::Refused(_) => {}
     }
 }
 
 // A failed read is not a short capture, and a failed write is not a success: a line on standard error says so.
-fn put_out(program: &[u8], whole: bool, report: &[u8]) {
+fn put_out(rt: &(impl Print + Eprint), program: &str, whole: bool, report: &[u8]) {
     if !whole {
-        say(program, b": standard input was not read to its end\n");
+        say(rt, program, "standard input was not read to its end");
         return;
     }
-    if !io::write_all(STDOUT_FILENO, report) {
-        say(program, b": the report was not written whole\n");
+    if rt.write_all(report).is_err() {
+        say(rt, program, "the report was not written whole");
     }
 }
 
-fn say(program: &[u8], what: &[u8]) {
-    io::write_all(STDERR_FILENO, program);
-    io::write_all(STDERR_FILENO, what);
+// A line that standard error does not take is let go.
+fn say(rt: &impl Eprint, program: &str, what: &str) {
+    let _ = eprintln!(rt; "{program}: {what}");
 }
