@@ -213,7 +213,7 @@ static void random_events(void) {
         uint8_t octets[6] = {0};
 
         octets[0] = (uint8_t)(state[PG_STATE_SELECTED] < 2 ? state[PG_STATE_SELECTED] : i & 1);
-        octets[1] = random_octet() % 12;
+        octets[1] = random_octet() % 13;
         if (octets[1] == PG_SELECT) {
             octets[0] = random_octet() & 1;
             octets[2] = SELECT | (random_octet() & 3);
@@ -221,6 +221,9 @@ static void random_events(void) {
             octets[2] = i % 4 ? PG_WRITE | random_octet() : random_octet() & CODE_BITS;
         } else if (octets[1] == PG_WORD_FROM_HOST) {
             octets[3] = random_octet() & 3;
+        } else if (octets[1] == PG_SWITCH) {
+            octets[0] = random_octet() & 1;
+            octets[2] = random_octet() % 4 ? PG_ENABLE : PG_DISABLE;
         }
         note_event(octets);
         if (i % 8 == 0) {

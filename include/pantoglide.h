@@ -1,13 +1,13 @@
-/* Pantoglide 2.4: the proved drive behind a C interface.
+/* Pantoglide 3.0: the proved drive behind a C interface.
  *
  * Two hosts share a drive, one on each of two IPI-2 ports, 0 and 1. The firmware hands each thing
  * that a host does to pg_event, with the words of the drive; the call does what the drive would do
  * and tells what to answer. This header is all that a caller needs to read. The rules are those of
  * the paper that the project calls document 01, with commands and responses as request M-100 adds
  * them, exceptions that a host ignores as M-102 mends them, a replay that stops on request as M-103
- * adds it, a second reader of the lines as M-104 adds it, and the maker's defect map as M-108 adds
- * it. All take them from three papers on IPI: 001 (a drive's manual), 003 (the physical level) and
- * 004 (IPI-2). Octets are in hex.
+ * adds it, a second reader of the lines as M-104 adds it, a switch of each port as M-105 adds it,
+ * and the maker's defect map as M-108 adds it. All take them from four papers on IPI: 000 (a chip),
+ * 001 (a drive's manual), 003 (the physical level) and 004 (IPI-2). Octets are in hex.
  *
  *
  * WHAT IT NEEDS
@@ -19,7 +19,7 @@
  *
  * The most stack that a call takes, in octets, its return address included and its arguments not:
  *
- *     pg_power_up 24          pg_event 296          pg_run 232        pg_replay 280
+ *     pg_power_up 24          pg_event 280          pg_run 216        pg_replay 264
  *     pg_capture 8            pg_make_capture 8
  *     pg_line 8               pg_lines 1080         pg_lines_plain 1646
  *     pg_decode_map 5392      pg_encode_map 3008    pg_read_map 5392  pg_write_map 3008
@@ -52,8 +52,9 @@
  * Saved states. A state may be kept, copied and handed back at any later time, with the sector and
  * staging words of that time. Every call judges the state anew, whoever made it, and refuses with
  * 11 one that is not sound. Whether the words are those that belong to it nobody can tell. A state
- * that version 1 kept has 18 words and is too short now; with three words 0 behind them it is the
- * same state of this version.
+ * that an older version kept is too short now. One of versions 2.0 to 2.4 has 21 words; with two
+ * words 1 behind them it is the same state of this version. One of version 1 has 18, and needs
+ * three words 0 before those two.
  *
  * Byte order. A word is a number of 16 bits. Which of its two octets comes first on a medium, or in
  * a file that keeps the sectors, is the caller's. Events, captures and defect maps have the high
@@ -71,8 +72,8 @@ extern "C" {
 
 /* The version of this header and of the archive it belongs to. The major number grows where a
  * program that was written for the last one may need a change; CHANGELOG.md says which. */
-#define PG_VERSION_MAJOR 2
-#define PG_VERSION_MINOR 4
+#define PG_VERSION_MAJOR 3
+#define PG_VERSION_MINOR 0
 
 /* ---- The drive ---------------------------------------------------------------------------- */
 
@@ -105,7 +106,9 @@ enum {
     PG_STATE_PARAMETER_0 = 18,  /* the first words of the open command, but never its last one; */
     PG_STATE_PARAMETER_1 = 19,  /* 0 where they stand for nothing. Any value is sound. */
     PG_STATE_PARAMETER_2 = 20,
-    PG_STATE_WORDS = 21
+    PG_STATE_SWITCH_0 = 21,   /* for port 0, 0 to 3: PG_SWITCH_ENABLED if it is enabled, plus */
+    PG_STATE_SWITCH_1 = 22,   /* PG_SWITCH_WISH if it wishes to be disabled; for port 1: the same */
+    PG_STATE_WORDS = 23
 };
 
 #define PG_NOBODY 2
@@ -124,7 +127,8 @@ enum {
     PG_POSITION = 7,        /* a0, a1: cylinder, high octet first; a2: head; a3: sector */
     PG_TARGET = 8,          /* a0, a1: sector or PG_NO_TARGET, high octet first */
     PG_READ_STATUS = 9,     /* none */
-    PG_RESET = 10           /* none */
+    PG_RESET = 10,          /* none */
+    PG_SWITCH = 11          /* a0: PG_DISABLE or PG_ENABLE, all others are refused with 8 */
 };
 
 /* The two octets of a word or a cylinder, as a0 and a1 take them. */
@@ -147,13 +151,14 @@ enum {
  *     yes             no                PG_HOLD_PLAIN: the port still has the drive after Deselect
  *     yes             yes               PG_HOLD_STRONG: the same
  *
- * A drive that is free, or that the asking port has, is granted. One that the other port has, be it
- * selected or not, is granted only
+ * A drive that is free, or that the asking port has, is granted, unless that port is disabled (15).
+ * One that the other port has, be it selected or not, is granted only
  *
  *     if its hold is     to a selection with
  *     PG_HOLD_NONE       Priority Select
  *     PG_HOLD_PLAIN      Priority Hold and Priority Select
- *     PG_HOLD_STRONG     nothing: it is refused with 6 until the hold is given up or a reset
+ *     PG_HOLD_STRONG     nothing: it is refused with 6 until the hold is given up, the other port
+ *                        is disabled, or a reset
  *
  * which is a takeover: the other port's selection, hold and open transfer are gone, and Alternate
  * Port Priority Select goes pending on it. */
@@ -162,6 +167,29 @@ enum {
 #define PG_SELECT_ADDRESS(n) ((n) << 4)
 
 enum { PG_HOLD_NONE = 0, PG_HOLD_PLAIN = 1, PG_HOLD_STRONG = 2 };
+
+/* The switch of a port (000). PG_SWITCH acts on the port that it comes from, be that selected,
+ * disabled or neither, and whatever is open. At power-up both ports are enabled.
+ *
+ *     PG_ENABLE                          the port is enabled, and a wish to be disabled is dropped
+ *     PG_DISABLE, port not selected      the port is disabled; if it has the drive, by a hold, the
+ *                                        hold is gone and the drive is free
+ *     PG_DISABLE, port selected          the port wishes to be disabled; its session, its hold and
+ *                                        what is open go on as if nothing had been asked
+ *     its session ends by PG_DESELECT    a port that wishes it is disabled, and the drive is free,
+ *                                        whatever the hold was
+ *     by a takeover, or by PG_RESET      a port that wishes it is disabled; all else is as without
+ *     from either port                   the wish
+ *
+ * Nothing else changes a switch; a reset leaves that of a port whose session it does not end. The
+ * PG_SELECT of a disabled port is refused with 15 until PG_ENABLE comes from that port. Its
+ * PG_SWITCH and PG_RESET are taken, its other events are refused with 2. What is pending on a port
+ * stays when it is disabled, and a reset goes pending on a disabled port too. */
+enum { PG_DISABLE = 0, PG_ENABLE = 1 };
+
+/* The bits of a state's switch words. */
+#define PG_SWITCH_ENABLED 1
+#define PG_SWITCH_WISH 2
 
 /* The data control octet (001, table 3-6):
  *
@@ -273,8 +301,9 @@ enum { PG_HOLD_NONE = 0, PG_HOLD_PLAIN = 1, PG_HOLD_STRONG = 2 };
  *     29 2B 2C 2D 41 to 4A 81       Alternate Port of Format Completion, interrupts, Spin Up and
  *                                   Down, Execute Internal Diagnostic, Perform Sector Marking,
  *                                   Disable and Enable Drive ECC, offsets, strobes, Disable
- *                                   Read/Write Diagnostic Tests: they act on more than this drive
- *                                   has. Status 8, Unsupported Bus Control
+ *                                   Read/Write Diagnostic Tests: they act on more than hold,
+ *                                   position, target and status (for a port see PG_SWITCH).
+ *                                   Status 8, Unsupported Bus Control
  *     all others, and octets        none: status 8, Invalid Parameter
  *     that differ
  *
@@ -300,7 +329,7 @@ enum { PG_HOLD_NONE = 0, PG_HOLD_PLAIN = 1, PG_HOLD_STRONG = 2 };
  *     the last word of LOAD_CYLINDER, LOAD_HEAD,      to the cylinder, the head or both that were
  *     LOAD_POSITION or RECALIBRATE, with status 0     asked for; the sector stays
  *     every other word, take or end of a code         stays
- *     a takeover, PG_SELECT, PG_DESELECT              stays, in the middle of a transfer too
+ *     a takeover, PG_SELECT, PG_DESELECT, PG_SWITCH   stays, in the middle of a transfer too
  *     PG_RESET                                        0/0/0
  *     a refusal, status 8, status C                   stays
  *
@@ -333,7 +362,7 @@ enum {
  * has ignored ends there; then, if they ask what cannot be done, they are answered with 8 and set a
  * bit of octet 2. PG_CODE_READ_STATUS is never answered with C, and its opening clears nothing. The
  * last word of a command, kind 4, is never answered with C; if it is bad it is answered with 8 and
- * only sets its bit, since the opening has cleared octet 2. Kinds 1, 2 and 10, the opening of a
+ * only sets its bit, since the opening has cleared octet 2. Kinds 1, 2, 10 and 11, the opening of a
  * transfer and a word before the last have no status. All else has 0, but for a verify's 7. */
 enum {
     PG_STATUS_NORMAL = 0x00,
@@ -359,8 +388,8 @@ enum {
  *     2      80    INVALID BUS CONTROL               an invalid control or code, or D0
  *     2      40    INVALID PARAMETER                 a place or a target outside the drive, or a
  *                                                    function that is none
- *     2      20    UNSUPPORTED BUS CONTROL           80 to 83, 91 to 93; codes and functions that
- *                                                    act on more than this drive has
+ *     2      20    UNSUPPORTED BUS CONTROL           80 to 83, 91 to 93; the codes and functions
+ *                                                    that have it in the tables above
  *     2      10    BUS CONTROL CONTEXT               "at target" while there is no target */
 #define PG_RESPONSE_0_UNSOLICITED_EXCEPTION 0x40
 #define PG_RESPONSE_0_BUS_CONTROL_EXCEPTION 0x20
@@ -396,9 +425,10 @@ enum {
     PG_REFUSED_MODE_CHANGE = 5,       /* Select: octet bit 3 or 2 is set. */
     PG_REFUSED_BUSY = 6,              /* Select: the other port has the drive and keeps it. */
     PG_REFUSED_WRONG_MOMENT = 7,      /* A transfer is open, or none is, see below. */
-    PG_REFUSED_MALFORMED = 8,         /* The kind is not 1 to 10 or an unused argument octet is not
-                                         0; records are not whole, or too long for a capture; a
-                                         setting is over 31; no map can be made of the defects. */
+    PG_REFUSED_MALFORMED = 8,         /* The kind is not 1 to 11, an unused argument octet is not 0,
+                                         or kind 11 has an octet over 1; records are not whole, or
+                                         too long for a capture; a setting is over 31; no map can
+                                         be made of the defects. */
     PG_REFUSED_OUTSIDE_LIMITS = 9,    /* Power-up and maps: a number is outside its limits. */
     PG_REFUSED_TOO_SHORT = 10,        /* A lent slice is too short. */
     PG_REFUSED_UNSOUND = 11,          /* The state handed in is not sound, see below, or is none
@@ -407,6 +437,7 @@ enum {
     PG_REFUSED_TRAILER_MARK = 13,       /* A capture's trailer mark is wrong. */
     PG_REFUSED_TRAILER_DISTANCE = 14,   /* A trailer's distance is no multiple of 8, or is more than
                                            the capture's length less 8. */
+    PG_REFUSED_PORT_DISABLED = 15,      /* Select: the port is disabled. */
 
     /* Of a defect map, whose parts are named where its calls are. */
     PG_REFUSED_MAP_NO_DATA_FIELD = 16,  /* It is not at its end, and the last cylinder has no
@@ -453,18 +484,21 @@ enum {
  *     a port is selected that does not have the drive;
  *     there is a hold or an open transfer and no port has the drive;
  *     a port has the drive and is neither selected nor holding it;
+ *     a port is disabled and is selected, or has the drive by a hold;
  *     a transfer is open with nobody selected, with an octet that opens none, or with as many
  *     words moved as it has, or more; words are moved and no transfer is open; or
  *     a pending bit is set that has no name above.
  *
- * The three parameter words may have any value in any state. */
+ * The three parameter words may have any value in any state. A port that is not selected may have a
+ * wish, disabled or not, though from power-up on it never does; nothing comes of that before a
+ * session of that port ends. */
 
 /* ---- The calls of the drive ------------------------------------------------------------------ */
 
 /* Powers a drive up: nobody selected, no hold, position 0/0/0, no target, nothing open, nothing
- * pending, the parameter words 0. sector_words must hold every sector, that is cylinders * heads *
- * sectors * (header + field_1 + field_2) words, staging_words one sector, and state PG_STATE_WORDS
- * words.
+ * pending, the parameter words 0, both ports enabled. sector_words must hold every sector, that is
+ * cylinders * heads * sectors * (header + field_1 + field_2) words, staging_words one sector, and
+ * state PG_STATE_WORDS words.
  *
  * Returns 9 if a number is outside its limits (see the state's words 0 to 6); otherwise 10 if one
  * of the three slices is too short; and then nothing is changed. Otherwise writes the state and
@@ -480,9 +514,9 @@ uint8_t pg_power_up(uint16_t cylinders, uint16_t heads, uint16_t sectors, uint16
  * Returns 10 if state has under PG_STATE_WORDS words, which leaves nothing to judge; otherwise 11
  * if the state is not sound; otherwise 10 if sector_words or staging_words is shorter than the
  * state's set-up needs or answer has under PG_ANSWER_WORDS words; otherwise 1 or 8; otherwise, for
- * Select, 3, 4, 5 or 6, for Reset none, and for the other kinds 2 or 7: always the first that holds
- * in this order, as the table of refusals says. A refused event changes nothing, the answer's words
- * included.
+ * Select, 15, 3, 4, 5 or 6, for Reset and Switch none, and for the other kinds 2 or 7: always the
+ * first that holds in this order, as the table of refusals says. A refused event changes nothing,
+ * the answer's words included.
  *
  * Otherwise does what the kind asks, writes the first PG_ANSWER_WORDS words of answer and returns
  * 0. Word number k of a write, from 0 in that transfer, is staged at staging_words[k], and no

@@ -10,6 +10,8 @@ pub type EventOctets = [u8; 6];
 
 const NOBODY: u16 = 2;
 const NO_TARGET: u16 = 0xFFFF;
+const DISABLE: u8 = 0;
+const ENABLE: u8 = 1;
 /// The code of the response that tells the status.
 const READ_STATUS_CODE: u8 = 0x44;
 
@@ -27,15 +29,18 @@ pub fn likely_event(
 ) -> EventOctets {
     let view = View { state, sectors };
     if random.one_in(view.patience()) {
-        return match random.below(16) {
+        return match random.below(20) {
             0..4 => garbage(random),
             4..11 => view.select(random),
             11..15 => view.request(random),
+            15..19 => view.switch(random),
             _ => reset(random),
         };
     }
     if view.selected() == NOBODY {
-        view.select(random)
+        view.at_rest(random)
+    } else if view.has_wish() && random.one_in(view.patience()) {
+        view.end_of_session(random)
     } else if view.control() == 0 {
         view.request(random)
     } else {
@@ -54,7 +59,7 @@ fn garbage(random: &mut Random) -> EventOctets {
     event[0] = random.pick(&[0, 1, 0, 1, 2, 255]);
     event[1] = match random.below(8) {
         0 => random.octet(),
-        _ => random.below(12) as u8,
+        _ => random.below(13) as u8,
     };
     for octet in &mut event[2..] {
         let any = random.octet();
@@ -65,6 +70,10 @@ fn garbage(random: &mut Random) -> EventOctets {
 
 fn reset(random: &mut Random) -> EventOctets {
     [random.below(2) as u8, 10, 0, 0, 0, 0]
+}
+
+fn switch(port: u8, octet: u8) -> EventOctets {
+    [port, 11, octet, 0, 0, 0]
 }
 
 fn with_word(port: u8, kind: u8, word: u16) -> EventOctets {
@@ -96,6 +105,52 @@ impl View<'_> {
         }
     }
 
+    /// What may come while nobody is selected. A disabled port more often than not comes back.
+    fn at_rest(&self, random: &mut Random) -> EventOctets {
+        if random.one_in(8) {
+            return self.switch(random);
+        }
+        let select = self.select(random);
+        match self.is_enabled(select[0]) || random.one_in(3) {
+            true => select,
+            false => switch(select[0], ENABLE),
+        }
+    }
+
+    fn is_enabled(&self, port: u8) -> bool {
+        self.state[21 + usize::from(port)] & 1 != 0
+    }
+
+    /// Whether the selected port is to be disabled.
+    fn has_wish(&self) -> bool {
+        self.state[21 + usize::from(self.port())] & 2 != 0
+    }
+
+    /// What ends a session in which a port wished to be disabled, if it is granted.
+    fn end_of_session(&self, random: &mut Random) -> EventOctets {
+        let (port, address) = (self.port(), (self.state[6] << 4) as u8);
+        match random.below(8) {
+            0..5 => [1 - port, 1, address | random.pick(&[1, 3, 3]), 0, 0, 0],
+            5 | 6 => [port, 2, 0, 0, 0, 0],
+            _ => reset(random),
+        }
+    }
+
+    /// Of either port, now and then with an octet that is neither of the two.
+    fn switch(&self, random: &mut Random) -> EventOctets {
+        let port = random.below(2) as u8;
+        let any = random.octet();
+        let octet = match self.is_enabled(port) {
+            true => random.pick(&[DISABLE, DISABLE, DISABLE, ENABLE]),
+            false => random.pick(&[DISABLE, ENABLE, ENABLE, ENABLE]),
+        };
+        match random.below(16) {
+            0 => switch(port, any),
+            1 => [port, 11, octet, 0, 0, any],
+            _ => switch(port, octet),
+        }
+    }
+
     fn select(&self, random: &mut Random) -> EventOctets {
         let port = random.below(2) as u8;
         let mut octet = (self.state[6] << 4) as u8 | random.below(4) as u8;
@@ -113,7 +168,7 @@ impl View<'_> {
             let by_code = [port, 3, READ_STATUS_CODE, 0, 0, 0];
             return random.pick(&[[port, 9, 0, 0, 0, 0], by_code]);
         }
-        match random.below(64) {
+        match random.below(68) {
             0..24 => [port, 3, control_octet(random), 0, 0, 0],
             24..40 => [port, 3, code_octet(random), 0, 0, 0],
             40..48 => self.position(random),
@@ -122,6 +177,7 @@ impl View<'_> {
             58..61 => [port, 9, 0, 0, 0, 0],
             61 => [port, random.pick(&[4, 5, 6]), 0, 0, 0, 0],
             62 => reset(random),
+            63..67 => self.switch(random),
             _ => [1 - port, random.pick(&[2, 3, 4, 5, 6, 9]), 0, 0, 0, 0],
         }
     }

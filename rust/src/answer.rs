@@ -91,7 +91,7 @@ fn is_told(words: &[u16; ANSWER_WORDS]) -> bool {
     match *words {
         // Nothing but the acceptance, or a refusal of those that events have; a status.
         [refusal, ABSENT, ABSENT, ABSENT, ABSENT, ABSENT, 0, 0, 0, 0, 0, 0, 0] => {
-            matches!(refusal, 0..=8 | 10 | 11)
+            matches!(refusal, 0..=8 | 10 | 11 | 15)
         }
         [0, status, ABSENT, ABSENT, ABSENT, ABSENT, 0, 0, 0, 0, 0, 0, 0] => {
             Status::from_word(status).is_some()

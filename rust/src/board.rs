@@ -12,10 +12,10 @@ use alloc::vec::Vec;
 pub enum Hold {
     /// A deselection frees the drive.
     None,
-    /// The drive stays the owner's after its deselection, until it gives the hold up, a selection
-    /// of the other port with both priorities, or a reset.
+    /// The drive stays the owner's after its deselection, until the owner gives the hold up or is
+    /// disabled, the other port selects with both priorities, or a reset comes.
     Plain,
-    /// The drive stays the owner's until it gives the hold up, or a reset.
+    /// The drive stays the owner's until it gives the hold up or is disabled, or a reset comes.
     Strong,
 }
 
@@ -26,6 +26,15 @@ pub struct Transfer {
     pub control: u8,
     /// How many of its words have passed.
     pub words_moved: u16,
+}
+
+/// A port's switch.
+#[derive(Clone, Copy, Debug, PartialEq, Eq)]
+pub struct Switch {
+    /// Whether the port may select.
+    pub is_enabled: bool,
+    /// Whether it asked to be disabled, which it is when its session ends.
+    pub is_to_be_disabled: bool,
 }
 
 /// A drive: its state, and the sector and staging words lent to it.
@@ -60,7 +69,8 @@ impl<'a> Board<'a> {
     }
 
     /// A drive in any state, such as one that [`state`](Board::state) gave. Every event judges it
-    /// anew: at one that is not sound all are refused.
+    /// anew: at one that is not sound all are refused. The last two words of a state that an older
+    /// version kept are 1 and 1: with 0 in them both ports are disabled.
     pub fn from_state(
         state: [u16; STATE_WORDS],
         sectors: &'a mut [u16],
@@ -228,8 +238,17 @@ impl<'a> Board<'a> {
 
     /// The words of the open command before its last one, 0 where they stand for nothing.
     pub fn parameters(&self) -> [u16; 3] {
-        let [.., first, second, third] = self.state;
+        let [.., first, second, third, _, _] = self.state;
         [first, second, third]
+    }
+
+    /// The switch of a port, nothing for other ports.
+    pub fn switch_of(&self, port: u8) -> Option<Switch> {
+        let word = self.state[21..23].get(usize::from(port))?;
+        Some(Switch {
+            is_enabled: word & 1 != 0,
+            is_to_be_disabled: word & 2 != 0,
+        })
     }
 }
 
@@ -246,6 +265,7 @@ impl fmt::Debug for Board<'_> {
             .field("transfer", &self.transfer())
             .field("pending", &[self.pending(0), self.pending(1)])
             .field("parameters", &self.parameters())
+            .field("switches", &[self.switch_of(0), self.switch_of(1)])
             .field("sector_words", &self.sectors.len())
             .field("staging_words", &self.staging.len())
             .finish()

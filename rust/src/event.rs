@@ -2,12 +2,13 @@
 
 use crate::raw::{NO_TARGET, RECORD_OCTETS};
 
-/// An event, kinds 1 to 10 of document 01.
+/// An event, kinds 1 to 10 of document 01 and kind 11 of request M-105.
 #[derive(Clone, Copy, Debug, PartialEq, Eq)]
 pub enum Event {
     /// Asks for the drive, by an octet of [`selection`](crate::selection).
     Select(u8),
-    /// Ends the session. Without a hold the drive is free then.
+    /// Ends the session. Without a hold, or where the port is to be disabled, the drive is free
+    /// then.
     Deselect,
     /// Opens a transfer, or steps the head, by an octet of [`control`](crate::control); opens a
     /// command or a response by a code of [`command`](crate::command).
@@ -32,8 +33,17 @@ pub enum Event {
     Target(Option<u16>),
     /// Reads the status response and clears what is pending on the port.
     ReadStatus,
-    /// Ends everything on both ports, and tells them so by their next response.
+    /// Ends everything on both ports, and tells them so by their next response. Their switches
+    /// stay, but for a selected port that is to be disabled: it is.
     Reset,
+    /// Enables or disables the event's own port, selected or not, whatever is open. A disabled port
+    /// has no hold, and its selections are refused until it is enabled. A selected port is disabled
+    /// when its session ends; until then nothing changes for it, and enabling it takes the wish
+    /// back.
+    Switch {
+        /// Whether it is to be enabled.
+        enable: bool,
+    },
 }
 
 impl Event {
@@ -61,6 +71,7 @@ impl Event {
             Event::Target(target) => (8, with_word(target.unwrap_or(NO_TARGET))),
             Event::ReadStatus => (9, [0; 4]),
             Event::Reset => (10, [0; 4]),
+            Event::Switch { enable } => (11, [enable.into(), 0, 0, 0]),
         }
     }
 

@@ -55,7 +55,7 @@ mod setup;
 mod whole_commands;
 
 pub use answer::{Answer, Outcome, Place, Status};
-pub use board::{Board, Hold, Transfer};
+pub use board::{Board, Hold, Switch, Transfer};
 pub use capture::{make_capture, Capture};
 pub use defect::Defect;
 pub use event::Event;

@@ -8,7 +8,7 @@ pub use defects::{decode_map, encode_map, read_map, write_map};
 pub use lines::{line, lines, lines_plain};
 
 /// Words of a state.
-pub const STATE_WORDS: usize = 21;
+pub const STATE_WORDS: usize = 23;
 /// Words of an answer.
 pub const ANSWER_WORDS: usize = 13;
 /// Octets of a capture's record.

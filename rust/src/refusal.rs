@@ -2,8 +2,9 @@
 
 use core::fmt;
 
-/// The refusals that the drive, the follower and captures give, by document 01's numbers, and those
-/// of defect maps, from 16 on, by the numbers of `docs/DEFECTS.md`. What is refused changes nothing.
+/// The refusals that the drive, the follower and captures give, by the numbers of document 01 and
+/// of request M-105, and those of defect maps, from 16 on, by the numbers of `docs/DEFECTS.md`.
+/// What is refused changes nothing.
 #[derive(Clone, Copy, Debug, PartialEq, Eq, Hash)]
 #[repr(u8)]
 pub enum Refusal {
@@ -21,8 +22,9 @@ pub enum Refusal {
     Busy = 6,
     /// The event does not go with the transfer that is open, or with none being open.
     WrongMoment = 7,
-    /// No such kind, an unused argument octet that is not zero, records that are not whole or too
-    /// many for a capture, a setting over 31, or defects of which no map can be made.
+    /// No such kind, an unused argument octet that is not zero, a switch that asks for neither of
+    /// its two, records that are not whole or too many for a capture, a setting over 31, or defects
+    /// of which no map can be made.
     Malformed = 8,
     /// A number of the set-up is outside its limits.
     OutsideLimits = 9,
@@ -36,6 +38,8 @@ pub enum Refusal {
     TrailerMark = 13,
     /// A trailer's distance is no multiple of 8, or leads back before the capture's front.
     TrailerDistance = 14,
+    /// The port that selects is disabled.
+    PortDisabled = 15,
     /// A map is not at its end, and the last cylinder has no further data field for it; or it has
     /// none with the number that was asked for.
     MapNoDataField = 16,
@@ -68,7 +72,7 @@ pub enum Refusal {
 }
 
 impl Refusal {
-    const ALL: [Refusal; 27] = [
+    const ALL: [Refusal; 28] = [
         Refusal::NoSuchPort,
         Refusal::NotSelected,
         Refusal::AlreadySelected,
@@ -83,6 +87,7 @@ impl Refusal {
         Refusal::CaptureTooShort,
         Refusal::TrailerMark,
         Refusal::TrailerDistance,
+        Refusal::PortDisabled,
         Refusal::MapNoDataField,
         Refusal::MapCutShort,
         Refusal::MapCount,
@@ -104,7 +109,7 @@ impl Refusal {
         all.find(|refusal| refusal.number() == number)
     }
 
-    /// Document 01's number, or that of `docs/DEFECTS.md`.
+    /// The number that document 01, request M-105 or `docs/DEFECTS.md` gives it.
     pub fn number(self) -> u8 {
         self as u8
     }
@@ -128,6 +133,7 @@ impl Refusal {
             Refusal::CaptureTooShort => "the capture has under 8 octets",
             Refusal::TrailerMark => "the capture's trailer mark is wrong",
             Refusal::TrailerDistance => "the capture's trailer leads to no first record",
+            Refusal::PortDisabled => "the port is disabled",
             Refusal::MapNoDataField => "the last cylinder has no further data field for the map",
             Refusal::MapCutShort => "the octets end before the map's next data field is whole",
             Refusal::MapCount => "a data field's count is not that of the octets behind it",

@@ -13,8 +13,8 @@ pub const OCTET_1_ALTERNATE_PORT_PRIORITY_SELECT: u8 = 0x40;
 pub const OCTET_2_INVALID_BUS_CONTROL: u8 = 0x80;
 /// Octet 2: a place or a target outside the drive, or a function that is none.
 pub const OCTET_2_INVALID_PARAMETER: u8 = 0x40;
-/// Octet 2: a data control from 80 to 83 or 91 to 93, or a code or a function that acts on more than
-/// the drive has.
+/// Octet 2: a data control from 80 to 83 or 91 to 93, or a code or a function that acts on more
+/// than hold, position, target and status.
 pub const OCTET_2_UNSUPPORTED_BUS_CONTROL: u8 = 0x20;
 /// Octet 2: "at target" while there was no target.
 pub const OCTET_2_BUS_CONTROL_CONTEXT: u8 = 0x10;

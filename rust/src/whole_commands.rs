@@ -41,7 +41,8 @@ impl core::error::Error for NotDone {}
 /// after another, and stops at the first that is refused or answered with an exception.
 impl Board<'_> {
     /// Reserves the drive: after its deselection too it is this port's, until a release, a reset,
-    /// the port's next selection without Priority Hold or the other one's with both priorities.
+    /// the port's next selection without Priority Hold, the other one's with both priorities, or
+    /// until the port is disabled.
     ///
     /// ```
     /// use pantoglide::{selection, Board, Event, Refusal, Setup};

@@ -22,6 +22,7 @@ fn words_of_answers_are_read() {
     let answer = Answer::default();
     assert_eq!(read(&[]), Some(Ok(answer)));
     assert_eq!(read(&[(0, 6)]), Some(Err(Refusal::Busy)));
+    assert_eq!(read(&[(0, 15)]), Some(Err(Refusal::PortDisabled)));
     let status = Some(Status::HeaderMiscompare);
     assert_eq!(read(&[(1, 7)]), Some(Ok(Answer { status, ..answer })));
     let opened = Answer {
@@ -51,9 +52,11 @@ fn words_of_answers_are_read() {
 
 #[test]
 fn words_of_no_answer_are_read_as_nothing() {
-    let none: [&[(usize, u16)]; 22] = [
+    let none: [&[(usize, u16)]; 24] = [
         &[(0, 9)],
         &[(0, 12)],
+        &[(0, 14)],
+        &[(0, 16)],
         &[(0, 256)],
         &[(0, 262)],
         &[(0, 2), (1, 0)],

@@ -49,11 +49,11 @@ fn the_capture_of_document_01_is_found_made_and_run() {
 }
 
 #[test]
-fn the_sample_has_notes_and_22_events() {
+fn the_sample_has_notes_and_25_events() {
     let octets = include_bytes!("../../docs/samples/two-hosts.capture");
     let capture = Capture::find(octets).expect("the sample");
     assert_eq!(capture.notes(), b"two hosts, one sector");
-    assert_eq!(capture.records().len(), 22 * RECORD_OCTETS);
+    assert_eq!(capture.records().len(), 25 * RECORD_OCTETS);
     let mut again = vec![0; octets.len()];
     let size = make_capture(capture.notes(), capture.records(), &mut again);
     assert_eq!((size, &again[..]), (Ok(octets.len()), &octets[..]));

@@ -83,7 +83,7 @@ fn sectors_unchanged(board: &Board) -> bool {
 fn power_up_is_quiet() {
     bench_case(&[], |board| {
         let expected = [
-            2, 2, 3, 1, 2, 1, 3, 2, 2, 0, 0, 0, 0, 0xFFFF, 0, 0, 0, 0, 0, 0, 0,
+            2, 2, 3, 1, 2, 1, 3, 2, 2, 0, 0, 0, 0, 0xFFFF, 0, 0, 0, 0, 0, 0, 0, 1, 1,
         ];
         assert_eq!(board.state(), &expected);
         assert_eq!((board.selected(), board.owner()), (None, None));
@@ -332,13 +332,15 @@ fn reset_is_told_to_both_ports() {
 fn events_no_host_should_send() {
     let (mut sectors, mut staging) = ([0; BENCH_WORDS], [0; SECTOR_WORDS]);
     let mut board = Board::power_up(BENCH, &mut sectors, &mut staging).expect("the bench drive");
-    assert_eq!(board.event_octets(2, 11, [0; 4]), Err(Refusal::NoSuchPort));
+    assert_eq!(board.event_octets(2, 12, [0; 4]), Err(Refusal::NoSuchPort));
     assert_eq!(board.event_octets(0, 0, [0; 4]), Err(Refusal::Malformed));
-    assert_eq!(board.event_octets(0, 11, [0; 4]), Err(Refusal::Malformed));
+    assert_eq!(board.event_octets(0, 12, [0; 4]), Err(Refusal::Malformed));
     assert_eq!(
         board.event_octets(0, 10, [0, 0, 0, 1]),
         Err(Refusal::Malformed)
     );
+    let neither = [2, 0, 0, 0];
+    assert_eq!(board.event_octets(0, 11, neither), Err(Refusal::Malformed));
     let mut state = *board.state();
     state[9] = 3;
     let mut board = Board::from_state(state, &mut sectors, &mut staging);

@@ -3,9 +3,9 @@
 
 use bench::BENCH;
 use pantoglide::command::{self, Function};
-use pantoglide::raw::{self, ABSENT, ANSWER_WORDS};
+use pantoglide::raw::{self, ABSENT, ANSWER_WORDS, STATE_WORDS};
 use pantoglide::{control, response, selection};
-use pantoglide::{Answer, Board, Event, Follower, Move, Refusal, Status};
+use pantoglide::{Answer, Board, Event, Follower, Move, Refusal, Status, Switch};
 use std::collections::{BTreeMap, BTreeSet};
 
 mod bench;
@@ -86,6 +86,9 @@ fn the_octets_of_a_host_are_the_headers() {
         ("PG_TARGET", Event::Target(None).octets().0),
         ("PG_READ_STATUS", Event::ReadStatus.octets().0),
         ("PG_RESET", Event::Reset.octets().0),
+        ("PG_SWITCH", Event::Switch { enable: true }.octets().0),
+        ("PG_ENABLE", Event::Switch { enable: true }.octets().1[0]),
+        ("PG_DISABLE", Event::Switch { enable: false }.octets().1[0]),
     ] {
         assert_headers(name, octet.into());
     }
@@ -126,7 +129,7 @@ fn the_refusals_are_the_headers() {
         .into_iter()
         .filter(|(name, _)| name.starts_with("PG_REFUSED_"))
         .collect::<Vec<_>>();
-    assert_eq!(names.len(), 27);
+    assert_eq!(names.len(), 28);
     for (name, number) in names {
         let refusal = u8::try_from(number).ok().and_then(Refusal::from_number);
         let refusal = refusal.expect("the wrapper has every refusal");
@@ -196,6 +199,27 @@ fn the_octets_of_an_answer_are_the_headers() {
 }
 
 #[test]
+fn the_switches_of_a_state_are_the_headers() {
+    let number = |name: &str| header_numbers()[name];
+    for (port, word) in [(0, "PG_STATE_SWITCH_0"), (1, "PG_STATE_SWITCH_1")] {
+        for (is_enabled, is_to_be_disabled) in [(true, false), (false, true)] {
+            let bit = match is_enabled {
+                true => number("PG_SWITCH_ENABLED"),
+                false => number("PG_SWITCH_WISH"),
+            };
+            let mut state = [0; STATE_WORDS];
+            state[number(word)] = bit as u16;
+            let expected = Switch {
+                is_enabled,
+                is_to_be_disabled,
+            };
+            let board = Board::from_state(state, &mut [], &mut []);
+            assert_eq!(board.switch_of(port), Some(expected), "{word}");
+        }
+    }
+}
+
+#[test]
 fn the_version_is_the_headers() {
     let number = |name: &str| header_numbers()[name];
     let (major, minor) = (number("PG_VERSION_MAJOR"), number("PG_VERSION_MINOR"));
@@ -228,10 +252,10 @@ fn every_refusal_says_why() {
         .collect::<Vec<_>>();
     assert_eq!(
         refusals.iter().map(|r| r.number()).collect::<Vec<_>>(),
-        (1..=14).chain(16..=28).collect::<Vec<_>>()
+        (1..=28).collect::<Vec<_>>()
     );
     let reasons = refusals.iter().map(|refusal| refusal.reason());
-    assert_eq!(reasons.collect::<BTreeSet<_>>().len(), 27, "all different");
+    assert_eq!(reasons.collect::<BTreeSet<_>>().len(), 28, "all different");
     let busy: &dyn std::error::Error = &Refusal::Busy;
     assert_eq!(
         busy.to_string(),

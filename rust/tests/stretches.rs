@@ -65,13 +65,13 @@ fn stretches_end_to_end_are_one_run() {
         let outcomes = board.run(sample()).expect("whole records");
         (outcomes, words(board))
     });
-    for events in [1, 2, 5, 11, 21, 22, 23, usize::MAX] {
+    for events in [1, 2, 5, 12, 24, 25, 26, usize::MAX] {
         on_bench(|board| {
             let mut replayed = Vec::new();
             for stretch in board.replay(sample(), 0, of(events)) {
                 let stretch = stretch.expect("whole records");
                 assert_eq!(stretch.first, replayed.len());
-                let left = 22 - replayed.len();
+                let left = 25 - replayed.len();
                 assert_eq!(stretch.events.len(), left.min(events), "{events} at most");
                 replayed.extend(stretch.events);
             }
@@ -107,7 +107,7 @@ fn a_replay_that_was_dropped_goes_on_where_it_stopped() {
         let [Ok(stretch)] = &rest[..] else {
             panic!("{rest:?}");
         };
-        assert_eq!((stretch.first, stretch.events.len()), (10, 12));
+        assert_eq!((stretch.first, stretch.events.len()), (10, 15));
         assert_eq!(words(board), after);
     });
 }
@@ -129,23 +129,23 @@ fn a_stretch_tells_its_events() {
 
 #[test]
 fn behind_the_last_record_there_is_no_stretch() {
-    for from in [22, 23, usize::MAX] {
+    for from in [25, 26, usize::MAX] {
         on_bench(|board| assert_eq!(board.replay(sample(), from, of(4)).next(), None));
     }
     on_bench(|board| {
         assert_eq!(board.replay(&[], 0, of(1)).next(), None);
-        let mut replay = board.replay(sample(), 0, of(22));
+        let mut replay = board.replay(sample(), 0, of(25));
         assert!(replay.next().is_some_and(|stretch| stretch.is_ok()));
         for _ in 0..3 {
             assert_eq!(replay.next(), None);
         }
-        assert_eq!(replay.next_event(), 22);
+        assert_eq!(replay.next_event(), 25);
     });
 }
 
 #[test]
 fn records_that_are_not_whole_are_refused_once() {
-    for from in [0, 5, 22, usize::MAX] {
+    for from in [0, 5, 25, usize::MAX] {
         on_bench(|board| {
             let before = words(board);
             let torn = &sample()[..sample().len() - 1];

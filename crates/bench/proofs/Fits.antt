@@ -25,28 +25,28 @@ use Rattle.bench.proofs.Captured.{records_short, records_octets}
 use Rattle.bench.proofs.Size.{numbered_size, run_size}
 use Rattle.bench.proofs.PartSize.{part_size}
 
-run_fits : (wanted : Wanted) (records : List ℕ) → AllOctets records → length records ≤ 65528 → length (run_of wanted records) ≤ 163850
+run_fits : (wanted : Wanted) (records : List ℕ) → AllOctets records → length records ≤ 65528 → length (run_of wanted records) ≤ 172041
 run_fits All records all short = run_size records all short
 run_fits (Stretch from limit) records all short = part_size from limit records all short
 
 module _ (wanted : Wanted) (octets : List ℕ) (all : AllOctets octets) where
   by_refusal : length octets ≤ 65536 → (n : ℕ) → capture_refusal octets ≡ n
-      → length (unless_refused n (numbered_line refused_word n) (run_of wanted (records_of octets))) ≤ 163850
+      → length (unless_refused n (numbered_line refused_word n) (run_of wanted (records_of octets))) ≤ 172041
   by_refusal short zero e =
       let decoded : DecodedCapture octets (Capture (first_record octets) (distance_of octets / 8)) = capture_decoded (rw e) in
       run_fits wanted (records_of octets) (records_octets octets decoded all) (records_short octets decoded short)
   by_refusal short (suc n) e = omega (arith, numbered_size refused_word 1 (suc n) (omega (arith, first_up_to 14 (capture_rows octets) refl)))
 
-  capture_fits : length octets ≤ 65536 → length (capture_report wanted octets) ≤ 163850
+  capture_fits : length octets ≤ 65536 → length (capture_report wanted octets) ≤ 172041
   unfolding capture_report
   capture_fits short = by_refusal short (capture_refusal octets) refl
 
-  pub report_fits : length (report_of wanted octets) ≤ 163850
+  pub report_fits : length (report_of wanted octets) ≤ 172041
   unfolding report_of
   report_fits =
-      cases (λ (text : List ℕ). length text ≤ 163850) (ltb 65536 (length octets)) (λ e. omega arith) (λ e. capture_fits (ltb-false 65536 (length octets) e))
+      cases (λ (text : List ℕ). length text ≤ 172041) (ltb 65536 (length octets)) (λ e. omega arith) (λ e. capture_fits (ltb-false 65536 (length octets) e))
 
-pub part_fits : (from limit : Number) (octets : List ℕ) → AllOctets octets → length (part_report_of from limit octets) ≤ 163850
+pub part_fits : (from limit : Number) (octets : List ℕ) → AllOctets octets → length (part_report_of from limit octets) ≤ 172041
 part_fits (Is from) (Is limit) octets all = report_fits (Stretch from limit) octets all
 part_fits (Is from) Not octets all = omega arith
 part_fits Not limit octets all = omega arith

@@ -74,10 +74,10 @@ lines_told s (answer ∷ told) number records (gap ∷ gaps) rest rest' b e =
 -- ---- the bench drive on words
 
 pub record Up (state : List ℕ) : Type 0 where
-  pub long : 21 ≤ length state
+  pub long : 23 ≤ length state
   pub rests : machine_in state (replicate 48 0) (replicate 4 0) ≡ bench_at_rest
 
-bench_up : {r : ℕ} {state : List ℕ} → PoweredUpOnWords bench (replicate 48 0) (replicate 4 0) (replicate 21 0) r state → Up state
+bench_up : {r : ℕ} {state : List ℕ} → PoweredUpOnWords bench (replicate 48 0) (replicate 4 0) (replicate 23 0) r state → Up state
 unfolding computing_words
 bench_up p = record { long = rw p.state (omega arith); rests = rw p.state }
 

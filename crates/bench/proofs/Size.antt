@@ -12,8 +12,6 @@ use Rattle.laws.proofs.Pick.{either}
 use Rattle.capture.specs.Record.{record_of}
 use Rattle.drive.specs.Answer.{refusal_in}
 use Rattle.drive.specs.Run.{answers, final}
-use Rattle.drive.specs.StaysSound.{Never11Or10}
-use Rattle.parts.specs.declared.event.Event.{Event}
 use Rattle.drive.specs.declared.answer.Answer.{Answer}
 use Rattle.bench.specs.Text.{newline, decimal, field, numbered_line}
 use Rattle.bench.specs.Line.{owner_word, line_of, owner_line}
@@ -21,7 +19,7 @@ use Rattle.drive.specs.Batch.{event_of, events_in, events_of}
 use Rattle.bench.specs.Run.{bench_at_rest, events_word, lines_from, lines_of_run, run_report}
 use Rattle.bench.proofs.Digits.{decimal_size}
 use Rattle.bench.proofs.Lines.{line_size, run_report_lem}
-use Rattle.bench.proofs.Bench.{bench_answers}
+use Rattle.bench.proofs.Bench.{TwoDigits, two_digits}
 
 pub field_size : (size n : ℕ) → n < 10 ^ suc size → length (field n) ≤ suc size + 1
 field_size size n h = omega (arith, length-append (decimal n) (0x20 ∷ []), decimal_size size n h)
@@ -41,8 +39,8 @@ owner_size owner =
     let Fits : List ℕ → Type 0 = λ name. length (owner_word ++ name ++ (newline ∷ [])) ≤ 11 in
     either Fits (eqb owner 0) (omega arith) (either Fits (eqb owner 1) (omega arith) (omega arith))
 
-lines_size : (count number : ℕ) (octets : List ℕ) (told : List Answer) → AllOctets octets → Never11Or10 told → number + count ≤ 10000
-    → length (lines_from number (events_in count octets) told) ≤ 14 * count
+lines_size : (count number : ℕ) (octets : List ℕ) (told : List Answer) → AllOctets octets → TwoDigits told → number + count ≤ 10000
+    → length (lines_from number (events_in count octets) told) ≤ 15 * count
 unfolding lines_from events_in
 lines_size zero number octets told all never h = omega arith
 lines_size (suc count) number octets [] all never h = omega arith
@@ -55,15 +53,11 @@ lines_size (suc count) number octets (answer ∷ told) all never h =
       line_size number port answer,
       field_size 3 number (omega arith),
       port_size octets all,
-      field_size 0 (refusal_in answer) (omega (arith, never.0)),
+      field_size 1 (refusal_in answer) (omega (arith, never.0)),
       later,
     )
 
-rests : (events : List Event) → Never11Or10 (answers bench_at_rest events)
-unfolding final
-rests events = bench_answers [] events
-
-pub run_size : (records : List ℕ) → AllOctets records → length records ≤ 65528 → length (run_report records) ≤ 163850
+pub run_size : (records : List ℕ) → AllOctets records → length records ≤ 65528 → length (run_report records) ≤ 172041
 unfolding lines_of_run
 run_size records all h =
     let count = length records / 8 in
@@ -76,6 +70,6 @@ run_size records all h =
       length-append (numbered_line events_word count) (lines_of_run 1 bench_at_rest events),
       length-append lines (owner_line owner),
       numbered_size events_word 3 count (omega arith),
-      lines_size count 1 records (answers bench_at_rest events) all (rests events) (omega arith),
+      lines_size count 1 records (answers bench_at_rest events) all (two_digits bench_at_rest events) (omega arith),
       owner_size owner,
     )

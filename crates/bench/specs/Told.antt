@@ -44,7 +44,7 @@ pub record Made (from limit : ℕ) (records : List ℕ) (r : Part) (state answer
 pub record Ready (records state sectors staging answers gaps : List ℕ) : Type 0 where
   pub short : length records ≤ 65528
   pub whole : length records % 8 ≡ 0
-  pub blank : state ≡ replicate 21 0
+  pub blank : state ≡ replicate 23 0
   pub zero_sectors : sectors ≡ replicate 48 0
   pub zero_staging : staging ≡ replicate 4 0
   pub room : length answers ≡ 106483

@@ -10,7 +10,7 @@ use events::Part;
 // As many as the longest capture has.
 const MOST_EVENTS: usize = 8_191;
 
-const STATE_WORDS: usize = 21;
+const STATE_WORDS: usize = 23;
 
 const ANSWER_WORDS: usize = 13;
 

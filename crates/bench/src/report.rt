@@ -26,8 +26,8 @@ pub enum Wanted {
 
 const LONGEST_CAPTURE: usize = 65_536;
 
-// A part's: the line that counts, 8,191 lines of at most 20 octets, the owner's line and that of the next part.
-pub const LONGEST_REPORT: usize = 163_850;
+// A part's: the line that counts, 8,191 lines of at most 21 octets, the owner's line and that of the next part.
+pub const LONGEST_REPORT: usize = 172_041;
 
 // The report at the front of `text`, the rest of it as it was. 10 where `text` cannot hold it. The report is made in a buffer
 // of its own first: how long it is shows at its end, and a refusal changes nothing.
@@ -59,7 +59,7 @@ fn hand_over(report: &[u8], text: &mut [u8]) -> Replayed
 }
 
 fn put_part_report(text: &mut [u8], from: &[u8], limit: &[u8], octets: &[u8]) -> usize
-    requires { 163850 ≤ length text.old }
+    requires { 172041 ≤ length text.old }
     ensures { Put text.old 0 (part_report_of (number_in from.now) (number_in limit.now) octets.now) text.new result }
 {
     match numbers::number_of(from) {
@@ -72,7 +72,7 @@ fn put_part_report(text: &mut [u8], from: &[u8], limit: &[u8], octets: &[u8]) ->
 }
 
 fn put_report(text: &mut [u8], octets: &[u8], wanted: Wanted) -> usize
-    requires { 163850 ≤ length text.old }
+    requires { 172041 ≤ length text.old }
     ensures { Put text.old 0 (report_of wanted octets.now) text.new result }
 {
     if LONGEST_CAPTURE < octets.len() {

@@ -3,9 +3,10 @@ use crate::tally::Tally;
 use crate::{event, power, row, words};
 
 // The words of the bench drive at rest: "Address 3; 2 cylinders, 2 heads, 3 sectors; header 1, field 1 of 2, field 2 of 1",
-// "nobody selected, no hold, position 0/0/0, target FFFF hex (none, and never outside the drive), nothing pending".
-pub(crate) const AT_REST: [u16; 21] = [
-    2, 2, 3, 1, 2, 1, 3, 2, 2, 0, 0, 0, 0, 0xFFFF, 0, 0, 0, 0, 0, 0, 0,
+// "nobody selected, no hold, position 0/0/0, target FFFF hex (none, and never outside the drive), nothing pending", and of each port
+// "enabled (both at power-up) and a wish to disable (none)".
+pub(crate) const AT_REST: [u16; 23] = [
+    2, 2, 3, 1, 2, 1, 3, 2, 2, 0, 0, 0, 0, 0xFFFF, 0, 0, 0, 0, 0, 0, 0, 1, 1,
 ];
 
 // What a run of a case found.
@@ -78,7 +79,7 @@ fn case(rows: &[u64], from: usize) -> Ran {
 fn is_put(
     octets: [u8; 8],
     outcome: u64,
-    state: &mut [u16; 21],
+    state: &mut [u16; 23],
     sectors: &mut [u16; 180],
     expected: &mut [u16; 180],
     staging: &[u16; 4],
@@ -99,6 +100,6 @@ fn is_put(
 }
 
 // The owner, the cylinder, the head and the sector.
-fn is_at(state: &[u16; 21], four: [u16; 4]) -> bool {
+fn is_at(state: &[u16; 23], four: [u16; 4]) -> bool {
     (state[8] == four[0]) & (state[10] == four[1]) & (state[11] == four[2]) & (state[12] == four[3])
 }

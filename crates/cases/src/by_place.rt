@@ -3,18 +3,22 @@ use crate::tally::Tally;
 use crate::words;
 use drive::{Answer, Drive, Powered};
 use lines::Follower;
-use parts::{Event, Setup};
+use parts::{Event, Setup, Switches};
 
 pub(crate) fn run(tally: Tally) -> Tally {
     let names = b"\
 the settings that have a name\n\
 Position 2/3/4 by the call of one event\n\
 that drive by value, and a selection\n\
+105: a drive by value, and its switches\n\
+105: switches by value\n\
 a follower by value\n";
     let settings = tally.topic().next(names, has_settings());
     let positioned = settings.next(names, positions());
     let selected = positioned.next(names, powers_up());
-    selected.next(names, follows())
+    let switched = selected.next(names, is_switched());
+    let switches = switched.next(names, has_switches());
+    switches.next(names, follows())
 }
 
 // "IDLE 0, MAINT 1, REQUEST 4, DESEL 8, SELECT 16, SLAVEND 20, SLAVACK 24, BUSCTL 25, MASTEND 26, BUSACK 27, XFRRDY 28, XFRST 30.
@@ -42,14 +46,15 @@ fn has_settings() -> bool {
     )
 }
 
-// Port 1, kind 7, and the octets 0, 2, 3 and 4. The drive has 3 cylinders, 4 heads, 5 sectors of 0, 1 and 2 words, address 6.
+// Port 1, kind 7, and the octets 0, 2, 3 and 4. The drive has 3 cylinders, 4 heads, 5 sectors of 0, 1 and 2 words, address 6. Port 0 is
+// disabled, and port 1 wishes to be.
 fn positions() -> bool {
-    let mut state = [0u16; 21];
+    let mut state = [0u16; 23];
     let put = words::put(
         &mut state,
         0,
         &[3, 4, 5, 0, 1, 2, 6, 1, 1, 0, 0, 0, 0, 0xFFFF],
-    );
+    ) & words::put(&mut state, 21, &[0, 3]);
     let refusal = pantoglide::pg_event(
         &mut state,
         1,
@@ -64,7 +69,7 @@ fn positions() -> bool {
     );
     put & (refusal == 0)
         & words::has(&state, 0, &[3, 4, 5, 0, 1, 2, 6, 1, 1, 0, 2, 3, 4, 0xFFFF])
-        & words::has(&state, 14, &[0u16; 7])
+        & words::has(&state, 14, &[0, 0, 0, 0, 0, 0, 0, 0, 3])
 }
 
 fn powers_up() -> bool {
@@ -102,6 +107,41 @@ fn is_granted(drive: Drive) -> bool {
     } else {
         false
     }
+}
+
+// Port 1 is selected and wishes: its wish is granted by each end of its session.
+fn is_switched() -> bool {
+    let powered = drive::power_up(3, 4, 5, 0, 1, 2, 6, &[0u16; 180], &[0u16; 3]);
+    match powered {
+        Powered::Up(drive) => {
+            let mut wishing = drive.select(1, 0x62);
+            let switches = Switches { port0: 1, port1: 3 };
+            wishing.switches = switches;
+            are(wishing.deselect().switches, 1, 0)
+                & are(wishing.reset().switches, 1, 0)
+                & are(wishing.select(0, 0x63).switches, 1, 0)
+        }
+        Powered::Refused(_) => false,
+    }
+}
+
+fn are(switches: Switches, port0: u16, port1: u16) -> bool {
+    (switches.port0 == port0) & (switches.port1 == port1)
+}
+
+// Port 0 is disabled with a wish, port 1 enabled with one; no other port is disabled.
+fn has_switches() -> bool {
+    let switches = Switches { port0: 2, port1: 3 };
+    (switches.switch_of(0) == 2)
+        & (switches.switch_of(1) == 3)
+        & (switches.switch_of(2) == 1)
+        & are(switches.with_switch(1, 0), 2, 0)
+        & are(switches.with_switch(0, 1), 1, 3)
+        & are(switches.with_switch(2, 0), 2, 3)
+        & !parts::is_enabled(switches.port0)
+        & parts::is_enabled(switches.port1)
+        & parts::wishes(switches.port0)
+        & !parts::wishes(1)
 }
 
 // From IDLE to SELECT, which is then remembered.

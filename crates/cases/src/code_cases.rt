@@ -158,7 +158,7 @@ fn hold_after(function: u8, hold: u16) -> u16 {
 // ---- states
 
 // Port 0 is selected, at 1/1/2 with target 1, and this is open.
-fn selected(control: u16, moved: u16) -> [u16; 21] {
+fn selected(control: u16, moved: u16) -> [u16; 23] {
     let mut state = bench::AT_REST;
     state[7] = 0;
     state[8] = 0;
@@ -186,7 +186,7 @@ fn bit(octet: u8) -> u16 {
 }
 
 // The event on one state gets the answer and leads to the other, and no word is staged.
-fn is_answered(event: u64, outcome: u64, state: [u16; 21], after: [u16; 21]) -> bool {
+fn is_answered(event: u64, outcome: u64, state: [u16; 23], after: [u16; 23]) -> bool {
     let mut found = state;
     let mut staging = [0u16; 4];
     let given = event::is_given(
@@ -199,6 +199,6 @@ fn is_answered(event: u64, outcome: u64, state: [u16; 21], after: [u16; 21]) -> 
     given & are_same(found, after, staging)
 }
 
-fn are_same(found: [u16; 21], after: [u16; 21], staging: [u16; 4]) -> bool {
+fn are_same(found: [u16; 23], after: [u16; 23], staging: [u16; 4]) -> bool {
     words::same(&found, &after) & words::same(&staging, &[0u16; 4])
 }

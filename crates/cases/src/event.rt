@@ -16,7 +16,7 @@ const NOTHING: [u16; 13] = [
 pub(crate) fn is_given(
     record: [u8; 8],
     outcome: u64,
-    state: &mut [u16; 21],
+    state: &mut [u16; 23],
     sectors: &mut [u16; 180],
     staging: &mut [u16; 4],
 ) -> bool {
@@ -33,7 +33,7 @@ pub(crate) fn is_refusal(outcome: u64) -> bool {
 pub(crate) fn is_refused(
     record: [u8; 8],
     outcome: u64,
-    state: [u16; 21],
+    state: [u16; 23],
     sectors: [u16; 180],
     staging: [u16; 4],
 ) -> bool {
@@ -57,8 +57,8 @@ pub(crate) fn is_refused(
 }
 
 fn are_same(
-    state_after: [u16; 21],
-    state: [u16; 21],
+    state_after: [u16; 23],
+    state: [u16; 23],
     sectors_after: [u16; 180],
     sectors: [u16; 180],
     staging_after: [u16; 4],

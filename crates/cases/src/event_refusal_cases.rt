@@ -1,7 +1,7 @@
 // Refusals 1 to 8 of events, each also where a row that is tested later holds.
 use crate::bench;
 use crate::row::{
-    DATA_CONTROL, DESELECT, DONE, END, ENDS, EXPECTS, KIND_0, KIND_11, KIND_255, LAST_WORD, OPENED,
+    DATA_CONTROL, DESELECT, DONE, END, ENDS, EXPECTS, KIND_0, KIND_12, KIND_255, LAST_WORD, OPENED,
     OWNED_BY_0, OWNED_BY_1, OWNED_BY_NOBODY, PORT_1, PORT_2, PORT_255, POSITION, READ_STATUS,
     REFUSED, RESET, SECTOR, SELECT, STATUS, TAKE, TARGET, WORD, WORD_FROM_HOST,
 };
@@ -177,7 +177,7 @@ const CASES: [u64; 160] = [
     // refusal 8: no such kind
     KIND_0,
     REFUSED + 8,
-    PORT_1 + KIND_11,
+    PORT_1 + KIND_12,
     REFUSED + 8,
     KIND_255 + 0x30_00_00_00,
     REFUSED + 8,

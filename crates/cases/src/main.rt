@@ -1,5 +1,5 @@
-// Runs the bench cases of document 01 that are not marked P, the worked cases of M-100 and M-102, those of M-103, the traces of M-104 and
-// further ones through the public calls, and compares.
+// Runs the bench cases of document 01 that are not marked P, the worked cases of M-100, M-102 and M-105, those of M-103, the traces of
+// M-104 and further ones through the public calls, and compares.
 mod bench;
 mod by_place;
 mod calls;
@@ -22,11 +22,15 @@ mod row;
 mod setup_cases;
 mod state_cases;
 mod status_cases;
+mod switch_cases;
+mod switch_refusal_cases;
+mod switch_state_cases;
 mod tally;
 mod trace_cases;
 mod traces;
 mod transfer_cases;
 mod watch;
+mod wish_cases;
 mod words;
 
 use tally::Tally;
@@ -41,12 +45,16 @@ fn main() {
     let commands = command_cases::run(reserves);
     let responses = response_cases::run(commands);
     let ignored = ignored_cases::run(responses);
-    let codes = code_cases::run(ignored);
+    let switches = switch_cases::run(ignored);
+    let wishes = wish_cases::run(switches);
+    let codes = code_cases::run(wishes);
     let event_refusals = event_refusal_cases::run(codes);
-    let setups = setup_cases::run(event_refusals);
+    let switch_refusals = switch_refusal_cases::run(event_refusals);
+    let setups = setup_cases::run(switch_refusals);
     let states = state_cases::run(setups);
     let handed = handed_cases::run(states);
-    let statuses = status_cases::run(handed);
+    let switched = switch_state_cases::run(handed);
+    let statuses = status_cases::run(switched);
     let captures = capture_cases::run(statuses);
     let parts = part_cases::run(captures);
     by_place::run(parts).told();

@@ -16,7 +16,7 @@ pub(crate) fn run(tally: Tally) -> Tally {
 103: continued, the gap to the event before included\n\
 103: a limit of 0, and a part behind the last record\n\
 103: refusal 10, then 8, and nothing changed\n";
-    let mut state = [0u16; 21];
+    let mut state = [0u16; 23];
     let up = power::refusal_of(bench::AT_REST, &mut state) == 0;
     let stopped = is_part(&mut state, 0, 2, 2, [0, 6], [0, 5]) & (state[8] == 0);
     let continued = is_part(&mut state, 2, 9, 1, [0, UNTOUCHED], [6, UNTOUCHED]) & (state[8] == 2);
@@ -118,7 +118,7 @@ fn is_refused(
     gaps: &mut [u16],
     ran: &mut [u64],
 ) -> bool {
-    let mut state = [0u16; 21];
+    let mut state = [0u16; 23];
     let up = power::refusal_of(bench::AT_REST, &mut state) == 0;
     let before = state;
     let returned = pantoglide::pg_replay(

@@ -5,16 +5,16 @@ use crate::words;
 const UNTOUCHED: u16 = 0x5A5A;
 
 // Refused with this number, and no word written; or for 0 the state's words.
-pub(crate) fn answered(refusal: u64, state: [u16; 21]) -> bool {
-    let mut given = [UNTOUCHED; 21];
+pub(crate) fn answered(refusal: u64, state: [u16; 23]) -> bool {
+    let mut given = [UNTOUCHED; 23];
     let number = refusal_of(state, &mut given);
     if refusal == 0 {
         return (number == 0) & words::same(&given, &state);
     }
-    (number as u64 == refusal) & words::same(&given, &[UNTOUCHED; 21])
+    (number as u64 == refusal) & words::same(&given, &[UNTOUCHED; 23])
 }
 
-pub(crate) fn refusal_of(state: [u16; 21], given: &mut [u16]) -> u8 {
+pub(crate) fn refusal_of(state: [u16; 23], given: &mut [u16]) -> u8 {
     pantoglide::pg_power_up(
         state[0],
         state[1],

@@ -8,6 +8,7 @@
 //   STANDS, the words             the cylinder, the head, the sector and the target are these
 //   OPEN, the words               the open control, its words moved and what is pending on port 0 and port 1 are these
 //   KEPT, the words               what is pending on port 1 and the three parameter words are these
+//   SWITCHES, the words           the last two parameter words and the switches of port 0 and port 1 are these
 //   STAGED, the words             the staging words are these
 //   POWER_UP, refusal             power-up with the first seven words of the state as its numbers; 0 for no refusal
 //   ENDS, owner + place           whose the drive is, and where it is; this row ends the case
@@ -39,10 +40,17 @@ pub(crate) const READ_STATUS: u64 = 0x09_00000000;
 
 pub(crate) const RESET: u64 = 0x0A_00000000;
 
+pub(crate) const SWITCH: u64 = 0x0B_00000000;
+
+// "1 enable or 0 disable, for the event's own port"
+pub(crate) const ENABLE: u64 = SWITCH + 0x01_00_00_00;
+
+pub(crate) const DISABLE: u64 = SWITCH + 0x00_00_00_00;
+
 // No such kinds.
 pub(crate) const KIND_0: u64 = 0x00_00000000;
 
-pub(crate) const KIND_11: u64 = 0x0B_00000000;
+pub(crate) const KIND_12: u64 = 0x0C_00000000;
 
 pub(crate) const KIND_255: u64 = 0xFF_00000000;
 
@@ -67,6 +75,8 @@ pub(crate) const STANDS: u64 = 0x07_00_00_00000000 + 10;
 pub(crate) const OPEN: u64 = 0x07_00_00_00000000 + 14;
 
 pub(crate) const KEPT: u64 = 0x07_00_00_00000000 + 17;
+
+pub(crate) const SWITCHES: u64 = 0x07_00_00_00000000 + 19;
 
 pub(crate) const STAGED: u64 = 0x08_00_00_00000000;
 

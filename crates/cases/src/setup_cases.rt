@@ -13,13 +13,13 @@ power-up at the limits\n\
 refusal 10: power-up with a short slice\n\
 refusal 10: an event with a short slice\n\
 a drive whose numbers all differ\n\
-refusal 10: a state of 20 words\n";
+refusal 10: a state of 22 words\n";
     bench::runs(tally, names, &CASES).next(names, is_too_short())
 }
 
 // A word less than the state has: nothing is written.
 fn is_too_short() -> bool {
-    let mut short = [0x5A5Au16; 20];
+    let mut short = [0x5A5Au16; 22];
     let mut answer = [0u16; 13];
     let powered = power::refusal_of(bench::AT_REST, &mut short);
     let one = pantoglide::pg_event(
@@ -41,7 +41,7 @@ fn is_too_short() -> bool {
         &mut [0u16; 4],
         &mut answer,
     );
-    (powered == 10) & (one == 10) & (many == 10) & words::same(&short, &[0x5A5Au16; 20])
+    (powered == 10) & (one == 10) & (many == 10) & words::same(&short, &[0x5A5Au16; 22])
 }
 
 const CASES: [u64; 186] = [

@@ -19,7 +19,7 @@ use Rattle.laws.proofs.Lists.{each_one_of}
 use Rattle.parts.specs.Setup.{within_limits, sector_words}
 use Rattle.parts.specs.Control.{is_data, words_to_come}
 use Rattle.parts.specs.Pending.{bit6, noticed, faulted}
-use Rattle.parts.specs.Kind.{Kind, Select, Deselect, Use, Reset, Unknown, Work, kind_of}
+use Rattle.parts.specs.Kind.{Kind, Select, Deselect, Use, Reset, Switch, Unknown, Work, kind_of}
 use Rattle.parts.specs.declared.setup.Setup.{Setup}
 use Rattle.parts.specs.declared.event.Event.{Event}
 use Rattle.parts.proofs.Bits.{bit_fits}
@@ -102,6 +102,7 @@ kind_bounded : (k : Kind) (m : Machine) (e : Event) → PendingOctets m → AllP
 kind_bounded Select m e f p = tt
 kind_bounded Deselect m e f p = tt
 kind_bounded Reset m e f p = tt
+kind_bounded Switch m e f p = tt
 kind_bounded Unknown m e f p = tt
 kind_bounded (Use work) m e f p = work_bounded (record { sound = p.sound; room = p.room }) f (Outcomes.work_done m.drive e m.sectors m.staging work)
 
@@ -152,6 +153,7 @@ unfolding paper
 kind_response Select m e octets h = absent refl h
 kind_response Deselect m e octets h = absent refl h
 kind_response Reset m e octets h = absent refl h
+kind_response Switch m e octets h = absent refl h
 kind_response Unknown m e octets h = absent refl h
 kind_response (Use work) m e octets h = work_response octets (Outcomes.work_told (Outcomes.work_done m.drive e m.sectors m.staging work)) h
 

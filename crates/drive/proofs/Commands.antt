@@ -10,21 +10,22 @@ use native.Mathlib.Omega.{arith}
 use borrow.Author.Tests.{eqb-true, eqb-false, ne_eqb, not-false}
 use lib.Dec.{eqb}
 use Rattle.laws.specs.Pick.{pick}
-use Rattle.laws.proofs.Pick.{either, cases}
+use Rattle.laws.proofs.Pick.{either, cases, pick_map}
 use Rattle.parts.specs.Command.{load_drive_function, read_status, parameter_words}
 use Rattle.parts.specs.Control.{control_of, is_write, is_read, takes_words, gives_words, is_data, words_to_come}
-use Rattle.parts.specs.Holding.{with_hold, is_owned_by_other, granted_to}
-use Rattle.parts.specs.Kind.{Select, Use, Reset, Work, DataControl, WordFromHost, TakeWord, End, kind_of, word_of}
-use Rattle.parts.specs.Tests.{is_taking, no_parameters, transferring, transferring_with, no_transfer}
+use Rattle.parts.specs.Holding.{nobody, with_hold}
+use Rattle.parts.specs.Kind.{Select, Use, Reset, Switch, Work, DataControl, WordFromHost, TakeWord, End, kind_of, word_of}
+use Rattle.parts.specs.Tests.{is_taking, no_parameters, transferring, transferring_with}
 use Rattle.parts.specs.declared.command.Function.{Function}
 use Rattle.parts.specs.declared.holding.Hold.{Hold}
 use Rattle.parts.specs.declared.setup.Place.{Place}
 use Rattle.parts.specs.declared.event.Event.{Event}
+use Rattle.parts.specs.declared.switches.Switches.{Switches}
 use Rattle.parts.specs.declared.transfer.Parameters.{Parameters}
 use Rattle.parts.specs.declared.transfer.Transfer.{Transfer}
 use Rattle.parts.proofs.ByBits.{write_is_data, read_is_data, codes_in_place}
-use Rattle.drive.specs.State.{with_holding, with_transfer, pending_on, posted_on, Result}
-use Rattle.drive.specs.Drive.{owner_noticed, selected, after_reset, reserved, unreserved, priority_reserved, head_stepped, at_its_target, closed, ended}
+use Rattle.drive.specs.State.{with_transfer, with_switches, pending_on, posted_on, Result}
+use Rattle.drive.specs.Drive.{owner_noticed, disabled_on, wish_granted, selected, after_reset, reserved, unreserved, priority_reserved, head_stepped, at_its_target, closed, ended}
 use Rattle.drive.specs.Request.{octet2_cleared}
 use Rattle.drive.specs.Command.{kept_as, place_sought, status_cleared, parameter_sent, response_taken, word_from_host, word_to_host, ended_early}
 use Rattle.drive.specs.Refusal.{row7}
@@ -39,8 +40,10 @@ use Rattle.drive.specs.declared.drive.Drive.{Drive}
 use Rattle.drive.specs.declared.answer.Answer.{Answer}
 use Rattle.drive.specs.declared.answer.Outcome.{Outcome}
 use Rattle.drive.proofs.Own.{able_to_write}
+use Rattle.drive.proofs.Switching.{granted_rest}
+use Rattle.drive.proofs.SwitchOnly.{switch_only_itself, while_running}
 use Rattle.drive.proofs.Laws.{by_kind, accepted_by, done_by, left, AllPassed}
-use Rattle.drive.proofs.CutShort.{opened, words_passed}
+use Rattle.drive.proofs.CutShort.{opened, runs, words_passed}
 use Rattle.drive.proofs.Outcomes
 
 -- ---- what a command or response leaves
@@ -191,7 +194,9 @@ module _ (m : Machine) (e : Event) (low : is_data m.drive.transfer.control ≡ f
 
 takeover_out : (m : Machine) (e : Event) → KeptOut m (left (done_by Select m e))
 unfolding selected owner_noticed posted_on
-takeover_out m e = out (either (λ (d : Drive). d.place.sector ≡ m.drive.place.sector) _ refl refl)
+takeover_out m e =
+    out (ap (λ (p : Place). p.sector) (granted_rest (owner_noticed m.drive e.port) _).place
+    ∙ either (λ (d : Drive). d.place.sector ≡ m.drive.place.sector) _ refl refl)
 
 pub commands_keep_out : CommandsKeepOut
 commands_keep_out =
@@ -205,10 +210,11 @@ commands_keep_out =
 
 -- ---- `command_cut_short`
 
--- so many words of a code passed
+-- so many words of a code passed, and whatever switch events came between them
 record Inside (d : Drive) (c k : ℕ) (m : Machine) : Type 0 where
   kept : Parameters
-  drive : m.drive ≡ with_transfer d (transferring_with c k kept)
+  switches : Switches
+  drive : m.drive ≡ with_transfer (with_switches d switches) (transferring_with c k kept)
 
 -- the drive is left as the cut alone leaves it
 abbrev Alone : Event → Drive → Answer → Machine → Type 0
@@ -226,40 +232,58 @@ module _ (d : Drive) (c n : ℕ) (low : is_data c ≡ false) (words : words_to_c
   unfolding word_to_host response_taken pick
   one_given k p port sectors more = rw (low, words, add-one k, ne_eqb (suc k) n (λ z. omega arith))
 
+-- what is open makes no difference to a takeover or a reset
+granted_anew : (d : Drive) (t : Transfer) (port : ℕ) → wish_granted (with_transfer d t) port ≡ with_transfer (wish_granted d port) t
+unfolding wish_granted disabled_on
+granted_anew d t port = pick_map (λ (x : Drive). with_transfer x t) _ refl refl
+
+noticed_anew : (d : Drive) (t : Transfer) (port : ℕ) → owner_noticed (with_transfer d t) port ≡ with_transfer (owner_noticed d port) t
+unfolding owner_noticed posted_on pending_on
+noticed_anew d t port = pick_map (λ (x : Drive). with_transfer x t) _ refl refl
+
+selected_anew : (d : Drive) (t : Transfer) (port octet : ℕ) → selected (with_transfer d t) port octet ≡ selected d port octet
+unfolding selected
+selected_anew d t port octet = rw (noticed_anew d t port, granted_anew (owner_noticed d port) t d.holding.selected)
+
+reset_anew : (d : Drive) (t : Transfer) → after_reset (with_transfer d t) ≡ after_reset d
+unfolding after_reset
+reset_anew d t = rw (granted_anew d t d.holding.selected)
+
+module _ (d : Drive) (c n : ℕ) (low : is_data c ≡ false) (words : words_to_come d.setup c ≡ n) (running : d.holding.selected ≡ nobody → ⊥) where
   one_sent : (k : ℕ) (m : Machine) (e : Event) → suc k < n → Inside d c k m → is_refused (answer_to m e) ≡ false → Is (Use WordFromHost) e → Inside d c (suc k) (after m e)
   one_sent k m e more i a z =
       accepted_by (λ answer next. Inside d c (suc k) next) (Use WordFromHost) m e z a
       (λ p. record {
         kept = kept_as i.kept k (word_of e);
-        drive = rw i.drive (one_kept k i.kept e.port (word_of e) m.sectors m.staging more);
+        switches = i.switches;
+        drive = rw i.drive (one_kept (with_switches d i.switches) c n low words k i.kept e.port (word_of e) m.sectors m.staging more);
       })
 
   one_taken : (k : ℕ) (m : Machine) (e : Event) → suc k < n → Inside d c k m → is_refused (answer_to m e) ≡ false → Is (Use TakeWord) e → Inside d c (suc k) (after m e)
   one_taken k m e more i a z =
       accepted_by (λ answer next. Inside d c (suc k) next) (Use TakeWord) m e z a
-      (λ p. record { kept = i.kept; drive = rw i.drive (one_given k i.kept e.port m.sectors more) })
+      (λ p. record { kept = i.kept; switches = i.switches; drive = rw i.drive (one_given (with_switches d i.switches) c n low words k i.kept e.port m.sectors more) })
 
   one_word : {way : Work} → (way ≡ WordFromHost) ⊎ (way ≡ TakeWord) → (k : ℕ) (m : Machine) (e : Event) → suc k < n → Inside d c k m
       → is_refused (answer_to m e) ≡ false → Is (Use way) e → Inside d c (suc k) (after m e)
   one_word (inl q) k m e more i a z = one_sent k m e more i a (z ∙ ap Use q)
   one_word (inr q) k m e more i a z = one_taken k m e more i a (z ∙ ap Use q)
 
-  -- what is open makes no difference to a takeover
-  selected_anew : (t : Transfer) (port octet : ℕ) → selected (with_transfer d t) port octet ≡ selected d port octet
-  unfolding selected owner_noticed posted_on pending_on pick
-  selected_anew t port octet =
-      cases (λ (at : Drive). with_transfer (with_holding at (granted_to port octet)) no_transfer ≡ selected d port octet) (is_owned_by_other d.holding port)
-      (λ z. rw z) (λ z. rw z)
+  one_switched : (k : ℕ) (m : Machine) (e : Event) → Inside d c k m → Is Switch e → Inside d c k (after m e)
+  one_switched k m e i z =
+      let still = while_running (switch_only_itself m e z) (λ nobody-is. running (rw i.drive at nobody-is)) in
+      record { kept = i.kept; switches = (after m e).drive.switches; drive = still ∙ ap (λ (x : Drive). with_switches x (after m e).drive.switches) i.drive }
 
-  cut_alone_lem : (cut : Event) (k : ℕ) (m : Machine) → Inside d c k m → Cuts m cut → Alone cut d (answer_to m cut) (after m cut)
-  unfolding ended_early closed after_reset pick
+  cut_alone_lem : (cut : Event) (k : ℕ) (m : Machine) → Inside d c k m → Cuts m cut
+      → Alone cut (with_switches d m.drive.switches) (answer_to m cut) (after m cut)
+  unfolding ended_early closed pick
   cut_alone_lem cut k m i (by_end z a) =
-      accepted_by (Alone cut d) (Use End) m cut z a (λ p. rw (z, i.drive, low))
+      accepted_by (Alone cut (with_switches d m.drive.switches)) (Use End) m cut z a (λ p. rw (z, i.drive, low))
   cut_alone_lem cut k m i (by_takeover z a) =
-      accepted_by (Alone cut d) Select m cut z a
-      (λ p. rw (z, i.drive) (selected_anew (transferring_with c k i.kept) cut.port cut.a0))
+      accepted_by (Alone cut (with_switches d m.drive.switches)) Select m cut z a
+      (λ p. rw (z, i.drive) (selected_anew (with_switches d i.switches) (transferring_with c k i.kept) cut.port cut.a0))
   cut_alone_lem cut k m i (by_reset z a) =
-      accepted_by (Alone cut d) Reset m cut z a (λ p. rw (z, i.drive))
+      accepted_by (Alone cut (with_switches d m.drive.switches)) Reset m cut z a (λ p. rw (z, i.drive) (reset_anew (with_switches d i.switches) (transferring_with c k i.kept)))
 
 -- a code opens where the drive stands
 in_place_lem : {d at : Drive} {c : ℕ} → is_data c ≡ false → (takes_words (control_of c) || gives_words (control_of c)) ≡ true → Outcomes.Sought d c at → at ≡ d
@@ -271,12 +295,18 @@ unfolding pick
 as_opened_lem (Outcomes.afresh (frame.control n) z) = rw n
 as_opened_lem (Outcomes.as_it_was z) = rw z
 
+as_running : (e : Event) (d : Drive) → (d.holding.selected ≡ nobody → ⊥) → (as_opened e d).holding.selected ≡ nobody → ⊥
+unfolding octet2_cleared posted_on
+as_running e d r = either (λ (x : Drive). x.holding.selected ≡ nobody → ⊥) _ r r
+
 pub command_cut_short : CommandCutShort
 command_cut_short m opening cut n k place way words low o which w h =
     let first = (opened m opening o).0 in
     let d = as_opened opening m.drive in
+    let running = as_running opening m.drive (runs m opening o) in
     let here = in_place_lem low first.opens first.sought ∙ as_opened_lem first.heard in
     let come : words_to_come d.setup opening.a0 ≡ n = subst (λ (d : Drive). words_to_come d.setup opening.a0 ≡ n) here first.words in
-    words_passed way (Inside d opening.a0) (λ short. Cuts short cut → Alone cut d (answer_to short cut) (after short cut)) n
-    (cut_alone_lem d opening.a0 n low come cut) (one_word d opening.a0 n low come which) 0 (after m opening)
-    (record { kept = no_parameters; drive = first.drive ∙ ap (λ (d : Drive). with_transfer d (transferring opening.a0 0)) here }) w (omega arith)
+    words_passed way (Inside d opening.a0) (λ short. Cuts short cut → Alone cut (with_switches d short.drive.switches) (answer_to short cut) (after short cut)) n
+    (cut_alone_lem d opening.a0 n low come running cut) (one_word d opening.a0 n low come running which) (one_switched d opening.a0 n low come running) 0
+    (after m opening)
+    (record { kept = no_parameters; switches = d.switches; drive = first.drive ∙ ap (λ (d : Drive). with_transfer d (transferring opening.a0 0)) here }) w (omega arith)

@@ -5,14 +5,15 @@ use Rattle.parts.specs.Setup.{within_limits, all_words, sector_number, sector_st
 use Rattle.parts.specs.Command.{code_of, parameter_words, function_of, function_in}
 use Rattle.parts.specs.Control.{control_of, header_passes, data_words, words_to_come, words_read}
 use Rattle.parts.specs.Holding.{hold_set, is_busy, granted_to, released}
+use Rattle.parts.specs.Switches.{switch_of, with_switch}
 use Rattle.parts.specs.Pending.{with_bit, noticed, faulted, octet0}
 use Rattle.drive.specs.State.{pending_on, posted_on}
-use Rattle.drive.specs.Drive.{owner_noticed, selected, deselected, after_reset, reserved, unreserved, priority_reserved, head_stepped, at_its_target, closed, ended}
+use Rattle.drive.specs.Drive.{owner_noticed, disabled_on, wish_granted, selected, deselected, switched, after_reset, reserved, unreserved, priority_reserved, head_stepped, at_its_target, closed, ended}
 use Rattle.drive.specs.Command.{kept_as, place_sought, target_sought, seeking, obeyed, parameter_sent, words_told, status_cleared, response_taken, word_from_host, word_to_host, ended_early}
 use Rattle.drive.specs.Request.{bad_request, octet2_cleared, opened, opening, data_control, positioned, targeted, status_read}
 use Rattle.parts.specs.Kind.{kind_of}
 use Rattle.drive.specs.Refusal.{row11, row10, refusal_of}
-use Rattle.parts.specs.Tests.{is_outside_limits, is_disowned, is_broken_transfer, has_stray_bit}
+use Rattle.parts.specs.Tests.{is_outside_limits, is_disowned, is_broken_transfer, has_stray_bit, is_misswitched}
 use Rattle.drive.specs.Transfer.{miscompares, committed, staged, word_staged, word_taken}
 use Rattle.drive.specs.Event.{handled}
 use Rattle.drive.specs.Run.{answer_to, after, answers, final}
@@ -28,5 +29,5 @@ use Rattle.drive.specs.Accepted.{accepted}
 use Rattle.drive.specs.Power.{powered_up, power_up_paper}
 
 unfoldable pub computing : Unit {0}
-unfolding pick within_limits all_words sector_number sector_start is_place is_target following control_of code_of parameter_words function_of function_in header_passes data_words words_to_come words_read hold_set is_busy granted_to released with_bit noticed faulted octet0 pending_on posted_on owner_noticed selected deselected after_reset reserved unreserved priority_reserved head_stepped at_its_target closed ended bad_request octet2_cleared opened opening data_control positioned targeted status_read kind_of is_outside_limits is_disowned is_broken_transfer has_stray_bit row11 row10 refusal_of miscompares committed staged word_staged word_taken kept_as place_sought target_sought seeking obeyed parameter_sent words_told status_cleared response_taken word_from_host word_to_host ended_early handled answer_to after answers final paper word_written page_after journal_from last_write stands_after standing_from offset_of accepted powered_up power_up_paper answer_words words.words_of_answers event_of events_in
+unfolding pick within_limits all_words sector_number sector_start is_place is_target following control_of code_of parameter_words function_of function_in header_passes data_words words_to_come words_read hold_set is_busy granted_to released with_bit noticed faulted octet0 pending_on posted_on switch_of with_switch owner_noticed disabled_on wish_granted selected deselected switched after_reset reserved unreserved priority_reserved head_stepped at_its_target closed ended bad_request octet2_cleared opened opening data_control positioned targeted status_read kind_of is_outside_limits is_disowned is_broken_transfer has_stray_bit is_misswitched row11 row10 refusal_of miscompares committed staged word_staged word_taken kept_as place_sought target_sought seeking obeyed parameter_sent words_told status_cleared response_taken word_from_host word_to_host ended_early handled answer_to after answers final paper word_written page_after journal_from last_write stands_after standing_from offset_of accepted powered_up power_up_paper answer_words words.words_of_answers event_of events_in
 computing = tt

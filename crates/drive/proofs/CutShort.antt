@@ -6,12 +6,14 @@ use mathlib.Core.Bool.{true, false, not, ◌||◌, false≢true}
 use mathlib.Core.List.{List, [], ◌∷◌}
 use mathlib.Core.Option.{some, none}
 use native.Mathlib.Omega.{arith}
-use borrow.Author.Tests.{eqb-true}
+use borrow.Author.Tests.{eqb-true, ltb-false}
 use Rattle.laws.proofs.Pick.{either, cases}
 use Rattle.parts.specs.Control.{control_of, takes_words, gives_words, is_data, words_to_come}
-use Rattle.parts.specs.Kind.{Kind, Select, Deselect, Use, Reset, Unknown, Work, DataControl, WordFromHost, End, kind_of}
+use Rattle.parts.specs.Holding.{nobody}
+use Rattle.parts.specs.Kind.{Kind, Select, Deselect, Use, Reset, Switch, Unknown, Work, DataControl, WordFromHost, End, kind_of}
 use Rattle.parts.specs.Tests.{transferring, is_taking}
 use Rattle.parts.specs.declared.setup.Place.{Place}
+use Rattle.parts.specs.declared.transfer.Transfer.{Transfer}
 use Rattle.parts.specs.declared.event.Event.{Event}
 use Rattle.drive.specs.State.{Result, with_transfer, posted_on}
 use Rattle.drive.specs.Drive.{selected, deselected, after_reset, head_stepped, closed, ended}
@@ -20,6 +22,7 @@ use Rattle.drive.specs.Command.{parameter_sent, word_from_host, ended_early}
 use Rattle.drive.specs.Answer.{paper}
 use Rattle.drive.specs.Transfer.{word_staged, staged}
 use Rattle.drive.specs.Refusal.{row7}
+use Rattle.drive.specs.PortSwitch.{SwitchesOnly}
 use Rattle.drive.specs.Accepted.{is_refused}
 use Rattle.drive.specs.Run.{Machine, machine, answer_to, after, answers, final}
 use Rattle.drive.specs.Sessions.{Is}
@@ -29,7 +32,9 @@ use Rattle.drive.specs.declared.drive.Drive.{Drive}
 use Rattle.drive.specs.declared.answer.Answer.{Answer}
 use Rattle.drive.specs.declared.answer.Answer.TheVariants.{Opened}
 use Rattle.drive.specs.declared.answer.Outcome.{Outcome}
-use Rattle.drive.proofs.Laws.{by_cases, accepted_by, refused_changes_nothing, done_by, left, AllPassed}
+use Rattle.drive.proofs.Switching.{granted_rest, switched_rest}
+use Rattle.drive.proofs.Laws.{by_cases, accepted_by, refused_changes_nothing, done_by, left, AllPassed, its_own}
+use Rattle.drive.proofs.SwitchOnly.{switch_only_itself}
 use Rattle.drive.proofs.Journal.{is_write_open, no_write, write_open, exchange_closed}
 use Rattle.drive.proofs.Outcomes
 
@@ -89,10 +94,27 @@ unfolding paper
 opened_by Select m e h = absurd (not_opened refl h)
 opened_by Deselect m e h = absurd (not_opened refl h)
 opened_by Reset m e h = absurd (not_opened refl h)
+opened_by Switch m e h = absurd (not_opened refl h)
 opened_by Unknown m e h = absurd (not_opened refl h)
 opened_by (Use work) m e h =
     let done = Outcomes.work_done m.drive e m.sectors m.staging work in
     (opened_there (Outcomes.work_told done) h, opened_quietly done h)
+
+-- only in a running session
+runs_by : (k : Kind) (m : Machine) (e : Event) {n : ℕ} {place : Place} → AllPassed k m e → (done_by k m e).outcome.answer ≡ Opened n place
+    → m.drive.holding.selected ≡ nobody → ⊥
+unfolding paper
+runs_by Select m e p h = absurd (not_opened refl h)
+runs_by Deselect m e p h = absurd (not_opened refl h)
+runs_by Reset m e p h = absurd (not_opened refl h)
+runs_by Switch m e p h = absurd (not_opened refl h)
+runs_by Unknown m e p h = absurd (not_opened refl h)
+runs_by (Use work) m e p h = λ z. omega (arith, its_own m e p.own.0, ltb-false 1 e.port p.port)
+
+pub runs : (m : Machine) (e : Event) {n : ℕ} {place : Place} → answer_to m e ≡ Opened n place → m.drive.holding.selected ≡ nobody → ⊥
+unfolding paper
+runs m e {n} {place} =
+    by_cases (λ answer next. answer ≡ Opened n place → m.drive.holding.selected ≡ nobody → ⊥) m e (λ j z h. absurd (not_opened refl h)) (λ k z p h. runs_by k m e p h)
 
 pub opened : (m : Machine) (e : Event) {n : ℕ} {place : Place} → answer_to m e ≡ Opened n place
     → Opening m.drive e n (after m e).drive × ((after m e).sectors ≡ m.sectors)
@@ -140,13 +162,23 @@ one_word {n} {j} {sectors} m e more u a z =
     by_word (over w s) t = over_on m e w s t
     by_word (going c s) t = staged_on m e more c s
 
+switched_by : {n j : ℕ} {sectors : List ℕ} (m : Machine) (e : Event) → Unfinished n j sectors m → kind_of e.kind ≡ Switch → Unfinished n j sectors (after m e)
+switched_by m e u z = by_rest (switch_only_itself m e z) u
+  where
+    by_rest : {n j : ℕ} {sectors : List ℕ} → SwitchesOnly m e (after m e) → Unfinished n j sectors m → Unfinished n j sectors (after m e)
+    by_rest o (going c s) =
+        going (record { moved = ap (λ (t : Transfer). t.moved) o.transfer ∙ c.moved; words = rw (o.setup, o.transfer) c.words }) (o.sectors ∙ s)
+    by_rest o (over w s) = over (rw o.transfer w) (o.sectors ∙ s)
+
 -- what each word before the last carries on is so after all of them
 module _ (way : Work) (P : ℕ → Machine → Type 0) (Q : Machine → Type 0) (n : ℕ) (enough : (j : ℕ) (m : Machine) → P j m → Q m)
-    (step : (j : ℕ) (m : Machine) (e : Event) → suc j < n → P j m → is_refused (answer_to m e) ≡ false → Is (Use way) e → P (suc j) (after m e)) where
+    (step : (j : ℕ) (m : Machine) (e : Event) → suc j < n → P j m → is_refused (answer_to m e) ≡ false → Is (Use way) e → P (suc j) (after m e))
+    (between : (j : ℕ) (m : Machine) (e : Event) → P j m → Is Switch e → P j (after m e)) where
   pub words_passed : (j : ℕ) {k : ℕ} (m : Machine) {events : List Event} → P j m → Words way m events k → j + k < n → Q (final m events)
   unfolding final
   words_passed j m p cut.none h = enough j m p
   words_passed j m p (cut.refused {e = e} r w) h = words_passed j (after m e) (subst (P j) (sym (refused_changes_nothing m e r)) p) w h
+  words_passed j m p (cut.switched {e = e} z w) h = words_passed j (after m e) (between j m e p z) w h
   words_passed j m p (cut.word {e = e} a z w) h = words_passed (suc j) (after m e) (step j m e (omega arith) p a z) w (omega arith)
 
 unfinished : (m : Machine) (opening : Event) {n k : ℕ} {place : Place} {sent : List Event} → answer_to m opening ≡ Opened n place
@@ -154,7 +186,7 @@ unfinished : (m : Machine) (opening : Event) {n k : ℕ} {place : Place} {sent :
 unfinished m opening {n} o w h =
     let first = opened m opening o in
     words_passed WordFromHost (λ j next. Unfinished n j m.sectors next) (λ next. next.sectors ≡ m.sectors) n (λ j next u. same_sectors u)
-    (λ j next e more u a z. one_word next e more u a z) 0 (after m opening)
+    (λ j next e more u a z. one_word next e more u a z) (λ j next e u z. switched_by next e u z) 0 (after m opening)
     (going (record { moved = rw first.0.drive; words = rw first.0.drive first.0.words }) first.1) w (omega arith)
 
 -- ---- where no write is open
@@ -206,8 +238,9 @@ kind_closed : (k : Kind) (m : Machine) (e : Event) → is_write_open m.drive.tra
     → opens_write e (done_by k m e).outcome.answer ≡ false → Left m (left (done_by k m e))
 unfolding selected deselected after_reset
 kind_closed Select m e c p n = record { sectors = refl; closed = no_write }
-kind_closed Deselect m e c p n = record { sectors = refl; closed = c }
+kind_closed Deselect m e c p n = record { sectors = refl; closed = rw (granted_rest _ _).transfer c }
 kind_closed Reset m e c p n = record { sectors = refl; closed = no_write }
+kind_closed Switch m e c p n = record { sectors = refl; closed = rw (switched_rest m.drive _ _).transfer c }
 kind_closed Unknown m e c p n = record { sectors = refl; closed = c }
 kind_closed (Use work) m e c p n = work_closed c p.own.1.0 (Outcomes.work_done m.drive e m.sectors m.staging work) n
 

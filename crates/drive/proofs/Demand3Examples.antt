@@ -17,4 +17,5 @@ demand_3_examples =
       last_sector = record { journalled = refl; given = refl; held = refl };
       at_target = record { journalled = refl; given = refl; held = refl };
       taken_over_between = record { journalled = refl; given = refl; held = refl };
+      switched_half_way = record { journalled = refl; given = refl; held = refl };
     }

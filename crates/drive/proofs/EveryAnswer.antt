@@ -8,7 +8,7 @@ use Rattle.laws.specs.Lists.{one_of}
 use mathlib.Core.Logic.{◌↔◌}
 use Rattle.laws.specs.Rows.{first, Given, unless_refused}
 use Rattle.laws.proofs.Rows.{first_among, EachNumber, exactly, row_off, rows_rest}
-use Rattle.parts.specs.Kind.{Kind, Select, Deselect, Use, Reset, Unknown, Work, kind_of}
+use Rattle.parts.specs.Kind.{Kind, Select, Deselect, Use, Reset, Switch, Unknown, Work, kind_of}
 use Rattle.parts.specs.declared.event.Event.{Event}
 use Rattle.drive.specs.Answer.{refusal_in}
 use Rattle.drive.specs.State.{Result}
@@ -75,16 +75,17 @@ abbrev pub OfTheTable : ℕ → Type 0
 OfTheTable n = one_of refusal_numbers n ≡ true
 
 own_numbers : (k : Kind) (d : Drive) (e : Event) → EachNumber OfTheTable (rows_of k d e)
-own_numbers Select d e = (refl, (refl, (refl, (refl, tt))))
+own_numbers Select d e = (refl, (refl, (refl, (refl, (refl, tt)))))
 own_numbers Deselect d e = (refl, (refl, tt))
 own_numbers (Use w) d e = (refl, (refl, tt))
 own_numbers Reset d e = tt
+own_numbers Switch d e = (refl, tt)
 own_numbers Unknown d e = tt
 
 pub numbers : (k : Kind) (d : Drive) (e : Event) (sectors staging : List ℕ) → EachNumber OfTheTable (rows k d e sectors staging)
 numbers k d e sectors staging = (refl, (refl, (refl, (refl, own_numbers k d e))))
 
--- a kind that is not 1 to 10 never passes row 8
+-- a kind that is not 1 to 11 never passes row 8
 never_unknown : (d : Drive) (e : Event) (sectors staging : List ℕ) → first (rows Unknown d e sectors staging) ≡ 0 → ⊥
 never_unknown d e sectors staging p =
     let off = row_off (row8 Unknown e) 7 0 (rows_rest (row1 e) 0 _ (rows_rest (row10 d.setup sectors staging) 9 _ (rows_rest (row11 d) 10 _ p))) in
@@ -96,6 +97,7 @@ accepted_answer Select d e sectors staging p = every.selected
 accepted_answer Deselect d e sectors staging p = every.deselected
 accepted_answer Reset d e sectors staging p = every.reset
 accepted_answer (Use w) d e sectors staging p = work_answers w d e sectors staging
+accepted_answer Switch d e sectors staging p = every.switched
 accepted_answer Unknown d e sectors staging p = absurd (never_unknown d e sectors staging p)
 
 by_refusal : (k : Kind) (d : Drive) (e : Event) (sectors staging : List ℕ) (n : ℕ) → first (rows k d e sectors staging) ≡ n
@@ -109,10 +111,11 @@ every_answer = record { listed = λ d e sectors staging. by_refusal (kind_of e.k
 
 -- ---- exactly
 
-unrefused : {k : Kind} {a : Answer} → Accepted k a → refusal_in a ≡ 0
+pub unrefused : {k : Kind} {a : Answer} → Accepted k a → refusal_in a ≡ 0
 unrefused every.selected = refl
 unrefused every.deselected = refl
 unrefused every.reset = refl
+unrefused every.switched = refl
 unrefused every.opened = refl
 unrefused (every.controlled p) = refl
 unrefused every.more = refl
@@ -131,6 +134,7 @@ act_unrefused Select d e sectors staging = refl
 act_unrefused Deselect d e sectors staging = refl
 act_unrefused Reset d e sectors staging = refl
 act_unrefused (Use w) d e sectors staging = unrefused (work_answers w d e sectors staging)
+act_unrefused Switch d e sectors staging = refl
 act_unrefused Unknown d e sectors staging = refl
 
 abbrev report_of : Result → ℕ

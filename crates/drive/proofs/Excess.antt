@@ -11,7 +11,7 @@ use lib.Seq.{drop-set-lt, get_or-drop, ext_get_or}
 use Rattle.laws.specs.Pick.{pick}
 use Rattle.parts.specs.Setup.{sector_words, all_words, sector_start}
 use Rattle.parts.specs.Control.{is_data, moves_header, names_field1, names_field2}
-use Rattle.parts.specs.Kind.{Kind, Select, Deselect, Use, Reset, Unknown, Work, WordFromHost, word_of}
+use Rattle.parts.specs.Kind.{Kind, Select, Deselect, Use, Reset, Switch, Unknown, Work, WordFromHost, word_of}
 use Rattle.parts.specs.Tests.{is_taking}
 use Rattle.parts.specs.declared.setup.Setup.{Setup}
 use Rattle.parts.specs.declared.event.Event.{Event}
@@ -81,6 +81,7 @@ kind_excess : (k : Kind) (m : Machine) (e : Event) → AllPassed k m e → SameE
 kind_excess Select m e p = record { sectors = refl; staging = refl }
 kind_excess Deselect m e p = record { sectors = refl; staging = refl }
 kind_excess Reset m e p = record { sectors = refl; staging = refl }
+kind_excess Switch m e p = record { sectors = refl; staging = refl }
 kind_excess Unknown m e p = record { sectors = refl; staging = refl }
 kind_excess (Use work) m e p =
     work_excess (record { sound = p.sound; room = p.room }) p.own.1.0 (Outcomes.work_done m.drive e m.sectors m.staging work)

@@ -16,7 +16,7 @@ use Rattle.laws.proofs.Tests.{and_l, and_r}
 use Rattle.laws.proofs.Windows.{paste_at}
 use Rattle.parts.specs.Tests.{is_taking}
 use Rattle.parts.specs.Control.{control_of, is_write, is_data, moves_header, names_field1, names_field2, part}
-use Rattle.parts.specs.Kind.{Kind, Select, Deselect, Use, Reset, Unknown, Work, kind_of}
+use Rattle.parts.specs.Kind.{Kind, Select, Deselect, Use, Reset, Switch, Unknown, Work, kind_of}
 use Rattle.drive.specs.State.{Result, pending_on}
 use Rattle.drive.specs.Transfer.{committed}
 use Rattle.drive.specs.Refusal.{row7}
@@ -108,6 +108,7 @@ staging_by : (k : Kind) (m : Machine) (e : Event) → kind_of e.kind ≡ k → A
 staging_by Select m e z p = as_it_was refl
 staging_by Deselect m e z p = as_it_was refl
 staging_by Reset m e z p = as_it_was refl
+staging_by Switch m e z p = as_it_was refl
 staging_by Unknown m e z p = as_it_was refl
 staging_by (Use work) m e z p = worked_on m e z p.own.1.0 (Outcomes.work_done m.drive e m.sectors m.staging work)
 

@@ -17,7 +17,7 @@ use Rattle.parts.specs.Control.{control_of, is_read, is_data, header_passes, nam
 use Rattle.parts.specs.declared.control.Control.TheVariants.{Response}
 use Rattle.parts.proofs.ByBits.{reads_give, low_responds}
 use Rattle.parts.proofs.Bounds.{data_words_lem}
-use Rattle.parts.specs.Kind.{Kind, Select, Deselect, Use, Reset, Unknown, Work}
+use Rattle.parts.specs.Kind.{Kind, Select, Deselect, Use, Reset, Switch, Unknown, Work}
 use Rattle.parts.specs.Tests.{is_giving}
 use Rattle.parts.specs.declared.setup.Setup.{Setup}
 use Rattle.parts.specs.declared.setup.Place.{Place}
@@ -85,6 +85,7 @@ unfolding paper
 opening_by Select m e p place h = absent refl h
 opening_by Deselect m e p place h = absent refl h
 opening_by Reset m e p place h = absent refl h
+opening_by Switch m e p place h = absent refl h
 opening_by Unknown m e p place h = absent refl h
 opening_by (Use work) m e p place h =
     opening_told (record { sound = p.sound; room = p.room }) (Outcomes.work_told (Outcomes.work_done m.drive e m.sectors m.staging work)) place h
@@ -142,6 +143,7 @@ unfolding paper
 word_by Select m e p word h = absent refl h
 word_by Deselect m e p word h = absent refl h
 word_by Reset m e p word h = absent refl h
+word_by Switch m e p word h = absent refl h
 word_by Unknown m e p word h = absent refl h
 word_by (Use work) m e p word h =
     word_told_lem (record { sound = p.sound; room = p.room }) p.own.1.0

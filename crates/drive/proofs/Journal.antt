@@ -19,7 +19,7 @@ use Rattle.parts.specs.Setup.{sector_start}
 use Rattle.parts.specs.Command.{code_of}
 use Rattle.parts.specs.Control.{control_of, is_write, gives_words, is_data, moves_header, names_field1, names_field2, part, words_to_come}
 use Rattle.drive.specs.Answer.{Paper, paper}
-use Rattle.parts.specs.Kind.{Kind, Select, Deselect, Use, Reset, Unknown, Work, kind_of, word_of, place_of}
+use Rattle.parts.specs.Kind.{Kind, Select, Deselect, Use, Reset, Switch, Unknown, Work, kind_of, word_of, place_of}
 use Rattle.drive.specs.State.{Result, with_place, with_transfer, posted_on}
 use Rattle.parts.specs.Tests.{moved_on, no_transfer, is_taking, is_giving}
 use Rattle.drive.specs.Drive.{selected, deselected, after_reset, reserved, unreserved, priority_reserved, head_stepped, closed, ended}
@@ -46,6 +46,7 @@ use Rattle.parts.proofs.Bounds.{words_within, write_words}
 use Rattle.drive.proofs.Sound.{sound, room}
 use Rattle.drive.proofs.Own.{able_to_write}
 use Rattle.drive.proofs.Frame.{commit_frame, staged_room}
+use Rattle.drive.proofs.Switching.{SameRest, granted_rest, switched_rest}
 use Rattle.drive.proofs.Laws.{by_cases, done_by, left, AllPassed, accepts}
 use Rattle.drive.proofs.StaysSound.{same_size_lem}
 use Rattle.drive.proofs.Outcomes
@@ -271,12 +272,17 @@ work_noted {d} {e} {sectors} {staging} p t (Outcomes.more high z) =
 ended_by : {m : Machine} (n : Machine) → n.sectors ≡ m.sectors → is_write_open n.drive.transfer ≡ false → InStep m (page none []) n
 ended_by n e h = nothing_complete e (ap (λ going. page going []) (sym (none_going n.drive n.staging h)))
 
+rest_going : {d x : Drive} (staging : List ℕ) → SameRest d x → going_on d staging ≡ going_on x staging
+unfolding going_on
+rest_going staging r = rw (r.place, r.transfer)
+
 kind_noted : (k : Kind) (m : Machine) (e : Event) → AllPassed k m e
     → InStep m (noted k e (paper (done_by k m e).outcome.answer) (going_on m.drive m.staging)) (left (done_by k m e))
 unfolding selected deselected after_reset
 kind_noted Select m e p = ended_by _ refl no_write
-kind_noted Deselect m e p = ended_by _ refl (not_written m.drive p.own.1.0)
+kind_noted Deselect m e p = ended_by _ refl (rw (granted_rest _ _).transfer (not_written m.drive p.own.1.0))
 kind_noted Reset m e p = ended_by _ refl no_write
+kind_noted Switch m e p = nothing_complete refl (ap (λ going. page going []) (rest_going m.staging (switched_rest m.drive _ _)))
 kind_noted Unknown m e p = absurd (true≢false p.formed)
 kind_noted (Use work) m e p =
     work_noted (record { sound = p.sound; room = p.room }) p.own.1.0 (Outcomes.work_done m.drive e m.sectors m.staging work)

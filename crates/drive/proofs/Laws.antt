@@ -10,10 +10,10 @@ use lib.Dec.{eqb}
 use Rattle.laws.specs.Rows.{unless_refused}
 use Rattle.laws.proofs.Pick.{either}
 use Rattle.laws.proofs.Rows.{Passed, numbered, all_passed}
-use Rattle.parts.specs.Holding.{nobody, granted_to, released, released_from}
-use Rattle.parts.specs.Kind.{Kind, Select, Deselect, Use, Reset, Unknown, Work, kind_of}
+use Rattle.parts.specs.Holding.{nobody, granted_to}
+use Rattle.parts.specs.Kind.{Kind, Select, Deselect, Use, Reset, Switch, Unknown, Work, kind_of}
 use Rattle.drive.specs.State.{Result, told, posted_on}
-use Rattle.drive.specs.Drive.{selected, deselected, after_reset, reserved, unreserved, priority_reserved, head_stepped, at_its_target, closed, ended}
+use Rattle.drive.specs.Drive.{selected, after_reset, reserved, unreserved, priority_reserved, head_stepped, at_its_target, closed, ended}
 use Rattle.drive.specs.Request.{octet2_cleared}
 use Rattle.drive.specs.Command.{status_cleared}
 use Rattle.drive.specs.Answer.{normal}
@@ -23,13 +23,13 @@ use Rattle.drive.specs.Run.{Machine, machine, answer_to, after}
 use Rattle.drive.specs.Accepted.{is_refused}
 use Rattle.parts.specs.declared.command.Function.{Function}
 use Rattle.parts.specs.declared.holding.Holding.{Holding}
-use Rattle.parts.specs.declared.holding.Hold.{Hold}
-use Rattle.parts.specs.declared.holding.Hold.TheVariants.{None, Plain, Strong}
 use Rattle.drive.specs.declared.drive.Drive.{Drive}
 use Rattle.parts.specs.declared.event.Event.{Event}
 use Rattle.drive.specs.declared.answer.Answer.{Answer}
 use Rattle.drive.specs.declared.answer.Outcome.{Outcome}
 use Rattle.drive.specs.declared.answer.Answer.TheVariants.{Refused, Status, LastWord}
+use Rattle.drive.proofs.Sound.{sound}
+use Rattle.drive.proofs.SoundSessions.{none_selected, switch_keeps_selected}
 use Rattle.drive.proofs.Outcomes
 
 -- ---- the one way into an event
@@ -53,10 +53,11 @@ rows_numbered : (k : Kind) (m : Machine) (e : Event) → numbered (rows k m.driv
 rows_numbered Select m e = refl
 rows_numbered Deselect m e = refl
 rows_numbered Reset m e = refl
+rows_numbered Switch m e = refl
 rows_numbered Unknown m e = refl
 rows_numbered (Use work) m e = refl
 
-passed_all : (k : Kind) (m : Machine) (e : Event) → refusal_of k m.drive e m.sectors m.staging ≡ 0 → AllPassed k m e
+pub passed_all : (k : Kind) (m : Machine) (e : Event) → refusal_of k m.drive e m.sectors m.staging ≡ 0 → AllPassed k m e
 unfolding refusal_of
 passed_all k m e z =
     let p = all_passed (rows k m.drive e m.sectors m.staging) (rows_numbered k m e) z in
@@ -90,64 +91,66 @@ pub accepted_by : (P : Answer → Machine → Type 0) (k : Kind) (m : Machine) (
 accepted_by P k m e z accepted done =
     by_kind (λ answer next. is_refused answer ≡ false → P answer next) k m e z (λ n r. absurd (true≢false r)) (λ p r. done p) accepted
 
--- ---- kinds 3 to 9 leave the set-up, who is selected and the owner, and their answers are no refusals
+-- ---- kinds 3 to 9 leave the set-up, who is selected, the owner and the switches, and their answers are no refusals
 
 pub record Stays (d : Drive) (o : Outcome) : Type 0 where
   pub setup : o.drive.setup ≡ d.setup
   pub selected : o.drive.holding.selected ≡ d.holding.selected
   pub owner : o.drive.holding.owner ≡ d.holding.owner
+  pub switches : o.drive.switches ≡ d.switches
   pub answered : is_refused o.answer ≡ false
 
-as_it_was_lem : {d : Drive} {o : Outcome} → o.drive.setup ≡ d.setup → o.drive.holding ≡ d.holding → is_refused o.answer ≡ false → Stays d o
-as_it_was_lem s h a = record { setup = s; selected = ap (λ (x : Holding). x.selected) h; owner = ap (λ (x : Holding). x.owner) h; answered = a }
+as_it_was_lem : {d : Drive} {o : Outcome} → o.drive.setup ≡ d.setup → o.drive.holding ≡ d.holding → o.drive.switches ≡ d.switches
+    → is_refused o.answer ≡ false → Stays d o
+as_it_was_lem s h w a = record { setup = s; selected = ap (λ (x : Holding). x.selected) h; owner = ap (λ (x : Holding). x.owner) h; switches = w; answered = a }
 
 function_stays : {d at : Drive} {f : Function} → Outcomes.FunctionDone d f at → Stays d (told (Status normal) at)
 unfolding reserved unreserved priority_reserved
-function_stays Outcomes.prioritised = record { setup = refl; selected = refl; owner = refl; answered = refl }
-function_stays Outcomes.reserves = record { setup = refl; selected = refl; owner = refl; answered = refl }
-function_stays Outcomes.releases = record { setup = refl; selected = refl; owner = refl; answered = refl }
-function_stays Outcomes.idles = as_it_was_lem refl refl refl
-function_stays Outcomes.recalibrates = as_it_was_lem refl refl refl
+function_stays Outcomes.prioritised = record { setup = refl; selected = refl; owner = refl; switches = refl; answered = refl }
+function_stays Outcomes.reserves = record { setup = refl; selected = refl; owner = refl; switches = refl; answered = refl }
+function_stays Outcomes.releases = record { setup = refl; selected = refl; owner = refl; switches = refl; answered = refl }
+function_stays Outcomes.idles = as_it_was_lem refl refl refl refl
+function_stays Outcomes.recalibrates = as_it_was_lem refl refl refl refl
 
 exchange_stays : {d : Drive} {e : Event} {work : Work} {o : Outcome} → Outcomes.Exchanged d e work o → Stays d o
 unfolding posted_on closed status_cleared
-exchange_stays (Outcomes.kept z) = as_it_was_lem refl refl refl
+exchange_stays (Outcomes.kept z) = as_it_was_lem refl refl refl refl
 exchange_stays (Outcomes.obeys (Outcomes.by_function z q f)) =
-    let s = function_stays f in record { setup = s.setup; selected = s.selected; owner = s.owner; answered = refl }
-exchange_stays (Outcomes.obeys (Outcomes.by_seek z p t)) = as_it_was_lem refl refl refl
-exchange_stays (Outcomes.disobeys b) = as_it_was_lem refl refl refl
-exchange_stays (Outcomes.tells z) = as_it_was_lem refl refl refl
-exchange_stays {d} {e} (Outcomes.tells_last z) = either (λ (at : Drive). Stays d (told (LastWord (Outcomes.response_at d e.port)) at)) _ (as_it_was_lem refl refl refl) (as_it_was_lem refl refl refl)
-exchange_stays Outcomes.cut = as_it_was_lem refl refl refl
+    let s = function_stays f in record { setup = s.setup; selected = s.selected; owner = s.owner; switches = s.switches; answered = refl }
+exchange_stays (Outcomes.obeys (Outcomes.by_seek z p t)) = as_it_was_lem refl refl refl refl
+exchange_stays (Outcomes.disobeys b) = as_it_was_lem refl refl refl refl
+exchange_stays (Outcomes.tells z) = as_it_was_lem refl refl refl refl
+exchange_stays {d} {e} (Outcomes.tells_last z) = either (λ (at : Drive). Stays d (told (LastWord (Outcomes.response_at d e.port)) at)) _ (as_it_was_lem refl refl refl refl) (as_it_was_lem refl refl refl refl)
+exchange_stays Outcomes.cut = as_it_was_lem refl refl refl refl
 
 asked_stays : {d : Drive} {e : Event} {work : Work} {o : Outcome} → Outcomes.Asked d e work o → Stays d o
 unfolding posted_on head_stepped at_its_target ended
-asked_stays (Outcomes.bad q b) = as_it_was_lem refl refl refl
-asked_stays (Outcomes.stepped k) = as_it_was_lem refl refl refl
-asked_stays (Outcomes.nothing_to_come (Outcomes.in_place a) w) = as_it_was_lem refl refl refl
-asked_stays (Outcomes.nothing_to_come (Outcomes.at_target a t) w) = as_it_was_lem refl refl refl
-asked_stays (Outcomes.opens (Outcomes.in_place a) o z) = as_it_was_lem refl refl refl
-asked_stays (Outcomes.opens (Outcomes.at_target a t) o z) = as_it_was_lem refl refl refl
-asked_stays (Outcomes.placed p) = as_it_was_lem refl refl refl
-asked_stays (Outcomes.aimed t) = as_it_was_lem refl refl refl
+asked_stays (Outcomes.bad q b) = as_it_was_lem refl refl refl refl
+asked_stays (Outcomes.stepped k) = as_it_was_lem refl refl refl refl
+asked_stays (Outcomes.nothing_to_come (Outcomes.in_place a) w) = as_it_was_lem refl refl refl refl
+asked_stays (Outcomes.nothing_to_come (Outcomes.at_target a t) w) = as_it_was_lem refl refl refl refl
+asked_stays (Outcomes.opens (Outcomes.in_place a) o z) = as_it_was_lem refl refl refl refl
+asked_stays (Outcomes.opens (Outcomes.at_target a t) o z) = as_it_was_lem refl refl refl refl
+asked_stays (Outcomes.placed p) = as_it_was_lem refl refl refl refl
+asked_stays (Outcomes.aimed t) = as_it_was_lem refl refl refl refl
 
 quiet_stays : {d : Drive} {e : Event} {sectors : List ℕ} {work : Work} {o : Outcome} → Outcomes.Quiet d e sectors work o → Stays d o
 unfolding posted_on octet2_cleared ended
-quiet_stays (Outcomes.unsolicited q z) = as_it_was_lem refl refl refl
-quiet_stays (Outcomes.asked (Outcomes.afresh c z) x) = let s = asked_stays x in record { setup = s.setup; selected = s.selected; owner = s.owner; answered = s.answered }
+quiet_stays (Outcomes.unsolicited q z) = as_it_was_lem refl refl refl refl
+quiet_stays (Outcomes.asked (Outcomes.afresh c z) x) = let s = asked_stays x in record { setup = s.setup; selected = s.selected; owner = s.owner; switches = s.switches; answered = s.answered }
 quiet_stays (Outcomes.asked (Outcomes.as_it_was z) x) = asked_stays x
-quiet_stays (Outcomes.taken_last high) = as_it_was_lem refl refl refl
-quiet_stays (Outcomes.taken high z) = as_it_was_lem refl refl refl
-quiet_stays (Outcomes.ends high) = as_it_was_lem refl refl refl
+quiet_stays (Outcomes.taken_last high) = as_it_was_lem refl refl refl refl
+quiet_stays (Outcomes.taken high z) = as_it_was_lem refl refl refl refl
+quiet_stays (Outcomes.ends high) = as_it_was_lem refl refl refl refl
 quiet_stays (Outcomes.exchanged low x) = exchange_stays x
-quiet_stays Outcomes.status_told = as_it_was_lem refl refl refl
+quiet_stays Outcomes.status_told = as_it_was_lem refl refl refl refl
 
 work_stays : {d : Drive} {e : Event} {sectors staging : List ℕ} {work : Work} {r : Result} → Outcomes.WorkDone d e sectors staging work r → Stays d r.outcome
 unfolding ended
 work_stays (Outcomes.quiet q) = quiet_stays q
-work_stays (Outcomes.miscompared high) = as_it_was_lem refl refl refl
-work_stays (Outcomes.completed high z) = as_it_was_lem refl refl refl
-work_stays (Outcomes.more high z) = as_it_was_lem refl refl refl
+work_stays (Outcomes.miscompared high) = as_it_was_lem refl refl refl refl
+work_stays (Outcomes.completed high z) = as_it_was_lem refl refl refl refl
+work_stays (Outcomes.more high z) = as_it_was_lem refl refl refl refl
 
 pub stays : (work : Work) (m : Machine) (e : Event) → Stays m.drive (done_by (Use work) m e).outcome
 stays work m e = work_stays (Outcomes.work_done m.drive e m.sectors m.staging work)
@@ -158,6 +161,7 @@ pub accepts : (k : Kind) (m : Machine) (e : Event) → is_refused (done_by k m e
 accepts Select m e = refl
 accepts Deselect m e = refl
 accepts Reset m e = refl
+accepts Switch m e = refl
 accepts Unknown m e = refl
 accepts (Use work) m e = (stays work m e).answered
 
@@ -174,6 +178,7 @@ pub data Move (selected : ℕ) (e : Event) (next : ℕ) : Type 0 where
   deselects : kind_of e.kind ≡ Deselect → selected ≡ e.port → e.port < nobody → next ≡ nobody → Move selected e next
   works : (work : Work) → kind_of e.kind ≡ Use work → selected ≡ e.port → e.port < nobody → next ≡ selected → Move selected e next
   resets : kind_of e.kind ≡ Reset → next ≡ nobody → Move selected e next
+  switches : kind_of e.kind ≡ Switch → next ≡ selected → Move selected e next
 
 abbrev pub selected_on : Machine → ℕ
 selected_on m = m.drive.holding.selected
@@ -182,19 +187,15 @@ selected_on m = m.drive.holding.selected
 pub its_own : (m : Machine) (e : Event) → not (eqb (selected_on m) e.port) ≡ false → selected_on m ≡ e.port
 its_own m e p = eqb-true (selected_on m) e.port (not-false (eqb (selected_on m) e.port) p)
 
-nobody_after : (hold : Hold) (owner : ℕ) → (released_from hold owner).selected ≡ nobody
-nobody_after None owner = refl
-nobody_after Plain owner = refl
-nobody_after Strong owner = refl
-
 move_by : (k : Kind) (m : Machine) (e : Event) → kind_of e.kind ≡ k → AllPassed k m e → Move (selected_on m) e (selected_on (left (done_by k m e)))
-unfolding selected granted_to deselected released after_reset
-move_by Select m e z p = selects z (eqb-false (selected_on m) e.port p.own.0) refl
+unfolding selected granted_to after_reset
+move_by Select m e z p = selects z (eqb-false (selected_on m) e.port p.own.1.0) refl
 move_by Deselect m e z p =
-    deselects z (its_own m e p.own.0) (omega (arith, ltb-false 1 e.port p.port)) (nobody_after m.drive.holding.hold m.drive.holding.owner)
+    deselects z (its_own m e p.own.0) (omega (arith, ltb-false 1 e.port p.port)) (none_selected m.drive)
 move_by (Use work) m e z p =
     works work z (its_own m e p.own.0) (omega (arith, ltb-false 1 e.port p.port)) (stays work m e).selected
 move_by Reset m e z p = resets z refl
+move_by Switch m e z p = switches z (switch_keeps_selected e.port e.a0 (sound m.drive p.sound))
 move_by Unknown m e z p = absurd (true≢false p.formed)
 
 pub move : (m : Machine) (e : Event) → is_refused (answer_to m e) ≡ false → Move (selected_on m) e (selected_on (after m e))

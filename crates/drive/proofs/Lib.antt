@@ -3,12 +3,18 @@ pub mod Own
 pub mod Step
 pub mod Only
 pub mod EveryAnswer
+pub mod Switching
 pub mod Sound
 pub mod Cases
 pub mod Outcomes
 pub mod Laws
+pub mod SwitchOnly
+pub mod OtherSwitches
+pub mod WishWaits
+pub mod PortSwitch
 pub mod SoundPlace
 pub mod SoundHolding
+pub mod SoundSessions
 pub mod Cleared
 pub mod Pendings
 pub mod Posted
@@ -35,5 +41,7 @@ pub mod CommandRuns
 pub mod OneFault
 pub mod Ignored
 pub mod IgnoredCases
+pub mod SwitchCases
 pub mod WrongAnswers
 pub mod WrongRuns
+pub mod WrongSwitchRuns

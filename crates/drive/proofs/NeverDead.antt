@@ -2,7 +2,7 @@
 -- Assumes nothing.
 use Prim.Native.Nat.{ℕ, suc, ◌+◌, ◌-◌, ◌/◌, ◌%◌, ◌≤◌, ◌<◌}
 use mathlib.Core.Path.{◌≡◌, refl, sym, ap, subst, ◌∙◌}
-use mathlib.Core.Bool.{true, false}
+use mathlib.Core.Bool.{true, false, false≢true}
 use mathlib.Core.List.{List, [], ◌∷◌, ◌++◌, map, append_assoc}
 use native.Mathlib.Nat.{div-add-mod'}
 use native.Mathlib.Numerals.{add-one}
@@ -22,7 +22,8 @@ use Rattle.parts.specs.Command.{code_of}
 use Rattle.parts.specs.Control.{control_of, header_passes, data_words, words_to_come}
 use Rattle.parts.specs.Holding.{nobody, is_busy, granted_to}
 use Rattle.parts.specs.Pending.{reset_complete, pending_of, nothing_pending, octet0}
-use Rattle.parts.specs.Kind.{Kind, Select, Use, Reset, Work, DataControl, WordFromHost, Position, ReadStatus, kind_of}
+use Rattle.parts.specs.Switches.{wishes, disabled, enabled, switch_of}
+use Rattle.parts.specs.Kind.{Kind, Select, Use, Reset, Switch, Work, DataControl, WordFromHost, Position, ReadStatus, kind_of}
 use Rattle.parts.specs.Tests.{transferring, is_misaddressed, changes_mode}
 use Rattle.parts.specs.declared.setup.Setup.{Setup}
 use Rattle.parts.specs.declared.setup.Place.{Place}
@@ -30,7 +31,7 @@ use Rattle.parts.specs.declared.event.Event.{Event}
 use Rattle.parts.specs.declared.pending.Pending.{Pending}
 use Rattle.drive.specs.Answer.{normal}
 use Rattle.drive.specs.State.{with_place, with_transfer, pending_on, posted_on, told, Result, result}
-use Rattle.drive.specs.Drive.{owner_noticed, selected, after_reset, ended}
+use Rattle.drive.specs.Drive.{owner_noticed, disabled_on, wish_granted, selected, switched, after_reset, ended}
 use Rattle.drive.specs.Request.{octet2_cleared, opened, opening, data_control, positioned, status_read}
 use Rattle.drive.specs.Refusal.{row8, is_one_open, row7, own_rows}
 use Rattle.drive.specs.Transfer.{miscompares, committed, staged, word_staged}
@@ -40,12 +41,13 @@ use Rattle.drive.specs.Able.{Room, unless_own_row_in}
 use Rattle.drive.specs.Run.{Machine, machine, answer_to, after, answers, final}
 use Rattle.drive.specs.StaysSound.{IsSound}
 use Rattle.drive.specs.Calls.{Ran}
-use Rattle.drive.specs.NeverDead.{sent, word_sent, position_sent, selection, whole_sector, whole_sector_written, its_answers, Possible, NeverDead}
+use Rattle.drive.specs.NeverDead.{sent, word_sent, position_sent, selection, whole_sector, whole_sector_written, enabled_and_written, IsEnabled, its_answers, Possible, NeverDead}
 use Rattle.drive.specs.declared.drive.Drive.{Drive}
 use Rattle.drive.specs.declared.answer.Answer.{Answer}
 use Rattle.drive.specs.declared.answer.Outcome.{Outcome}
 use Rattle.drive.specs.declared.answer.Answer.TheVariants.{Done, Status, Opened, Response}
 use Rattle.parts.proofs.Bounds.{limits}
+use Rattle.drive.proofs.Switching.{same_switch, other_switch}
 use Rattle.drive.proofs.Sound.{sound, unsound, room}
 use Rattle.drive.proofs.SoundPlace.{place_kept}
 use Rattle.drive.proofs.Cleared.{nothing_to_clear}
@@ -93,7 +95,7 @@ quietly m o = result o m.sectors m.staging
 abbrev pub with_drive : Machine → Drive → Machine
 with_drive m d = machine d m.sectors m.staging
 
--- ---- Reset, Select, Read status
+-- ---- Switch, Reset, Select, Read status
 
 -- the octet has our address and nothing else
 ours : (s : Setup) → within_limits s ≡ true → is_misaddressed (selection s.address) s.address ≡ false
@@ -105,7 +107,10 @@ ours s h =
 no_mode : (address : ℕ) → changes_mode (selection address) ≡ false
 no_mode address = rw (ne_eqb (selection address / 8 % 2) 1 (λ e. omega arith), ne_eqb (selection address / 4 % 2) 1 (λ e. omega arith))
 
--- the drive after Select, after Read status, and at its place
+-- the drive after Switch, after Select, after Read status, and at its place
+on : Machine → ℕ → Drive
+on m port = switched m.drive port 1
+
 granted : Machine → ℕ → Drive
 granted m port = selected (after_reset m.drive) port (selection m.drive.setup.address)
 
@@ -121,7 +126,23 @@ pub record Ready (d : Drive) (port : ℕ) : Type 0 where
   pub idle : is_one_open d ≡ false
   pub quiet : (pending_on d port).octet1 ≡ 0
 
-module _ (m : Machine) (port : ℕ) (real : port ≤ 1) (s : IsSound m) where
+switch_does : (m : Machine) (port : ℕ) → port ≤ 1 → IsSound m → Does m (sent port 11 1 0) (quietly m (told Done (on m port)))
+unfolding on kind_of pick
+switch_does m port real s = accepted_does Switch s real refl (refl, (refl, tt)) refl
+
+-- the port is enabled and wishes nothing, and so it is after the end of whatever session there was
+on_now : (m : Machine) (port : ℕ) → port ≤ 1 → switch_of (on m port).switches port ≡ enabled
+unfolding on switched pick
+on_now m port h = same_switch m.drive.switches port enabled h
+
+on_still : (d : Drive) (ending port : ℕ) → switch_of d.switches port ≡ enabled → switch_of (wish_granted d ending).switches port ≡ enabled
+unfolding wish_granted disabled_on
+on_still d ending port h =
+    cases (λ (x : Drive). switch_of x.switches port ≡ enabled) (wishes (switch_of d.switches ending))
+    (λ w. other_switch d.switches ending disabled port (λ same. false≢true (rw (← same, h) at w)) ∙ h)
+    (λ w. h)
+
+module _ (m : Machine) (port : ℕ) (real : port ≤ 1) (s : IsSound m) (enabled-now : switch_of m.drive.switches port ≡ enabled) where
   reset_does : Does m (sent port 10 0 0) (quietly m (told Done (after_reset m.drive)))
   unfolding kind_of pick
   reset_does = accepted_does Reset s real refl (refl, tt) refl
@@ -131,10 +152,11 @@ module _ (m : Machine) (port : ℕ) (real : port ≤ 1) (s : IsSound m) where
   select_does =
       let unselected = ne_eqb nobody port (λ e. omega arith) in
       let addressed = ours m.drive.setup (sound m.drive s.sound).limits in
-      accepted_does Select reset_does.sound real refl (refl, (unselected, (addressed, (no_mode m.drive.setup.address, (refl, tt))))) refl
+      let allowed = on_still m.drive m.drive.holding.selected port enabled-now in
+      accepted_does Select reset_does.sound real refl (refl, (rw allowed, (unselected, (addressed, (no_mode m.drive.setup.address, (refl, tt)))))) refl
 
   reset_pending : pending_on (granted m port) port ≡ pending_of reset_complete 0
-  unfolding granted selected owner_noticed after_reset pending_on pick
+  unfolding granted selected wish_granted switch_of owner_noticed after_reset pending_on pick
   reset_pending = either (λ (q : Pending). q ≡ pending_of reset_complete 0) (eqb port 0) refl refl
 
   status_told_lem : status_read (granted m port) port ≡ told (Response 0x40 reset_complete 0) (ready m port)
@@ -250,15 +272,15 @@ words_there s p sectors staging words r h =
 
 -- ---- the run
 
-whole_run : (m : Machine) (port : ℕ) (p : Place) (words : List ℕ) → Possible m port p words
+whole_run : (m : Machine) (port : ℕ) (p : Place) (words : List ℕ) → Possible m port p words → IsEnabled m port
     → Ran m (whole_sector_written port m.drive.setup.address p words) (its_answers m.drive.setup p)
     (complete (there m port p) m.sectors (sets m.staging 0 words))
-unfolding whole_sector_written its_answers opens writing there ready granted selected owner_noticed after_reset posted_on pick
-whole_run m port p [] q = let l = limits m.drive.setup (sound m.drive q.sound.sound).limits in absurd (omega (arith, q.whole))
-whole_run m port p (word ∷ later) q =
-    let status = status_does m port q.real q.sound in
-    let r = is_ready m port q.real q.sound in
-    let clear = already_clear m port q.real q.sound in
+unfolding whole_sector_written its_answers opens writing there ready granted selected wish_granted switch_of owner_noticed after_reset posted_on pick
+whole_run m port p [] q on = let l = limits m.drive.setup (sound m.drive q.sound.sound).limits in absurd (omega (arith, q.whole))
+whole_run m port p (word ∷ later) q on =
+    let status = status_does m port q.real q.sound on in
+    let r = is_ready m port q.real q.sound on in
+    let clear = already_clear m port q.real q.sound on in
     let position : Does (with_drive m (ready m port)) (position_sent port p) (quietly m (told (Status normal) (there m port p))) =
     rw (clear (ready m port).place) at (position_does q.real status.sound (r (ready m port).place) p q.inside) in
     let control : Does (with_drive m (there m port p)) (sent port 3 whole_sector 0)
@@ -266,21 +288,47 @@ whole_run m port p (word ∷ later) q =
     rw (clear p) at (control_does q.real position.sound (r p)) in
     let count : sector_words m.drive.setup - 1 ≡ length later = omega (arith, q.whole) in
     rw count
-    (follows (reset_does m port q.real q.sound)
-    (follows (select_does m port q.real q.sound)
+    (follows (reset_does m port q.real q.sound on)
+    (follows (select_does m port q.real q.sound on)
     (follows status
     (follows position
     (follows control
     (words_follow (there m port p) port m.sectors q.real (r p).selected 0 word later m.staging (omega (arith, q.whole)) control.sound))))))
 
+written_there : (m : Machine) (port : ℕ) (p : Place) (words : List ℕ) → Possible m port p words → IsEnabled m port
+    → sector_at m.drive.setup p (final m (whole_sector_written port m.drive.setup.address p words)).sectors ≡ words
+unfolding complete there ready granted selected wish_granted switch_of owner_noticed after_reset posted_on pick
+written_there m port p words q on =
+    rw (← (whole_run m port p words q on).ended)
+    (words_there m.drive.setup p m.sectors m.staging words
+    (room (with_place m.drive p) m.sectors m.staging (unsound _ (place_kept (sound m.drive q.sound.sound) q.inside)) q.sound.room)
+    q.whole)
+
+-- ---- enabled first
+
+-- the machine after Switch
+enabled_on : Machine → ℕ → Machine
+enabled_on m port = with_drive m (on m port)
+
+possible_still : (m : Machine) (port : ℕ) (p : Place) (words : List ℕ) → Possible m port p words → Possible (enabled_on m port) port p words
+unfolding enabled_on on switched pick
+possible_still m port p words q = record { sound = (switch_does m port q.real q.sound).sound; real = q.real; inside = q.inside; whole = q.whole }
+
+first_run : (m : Machine) (port : ℕ) (p : Place) (words : List ℕ) → Possible m port p words
+    → Ran m (enabled_and_written port m.drive.setup.address p words) (Done ∷ its_answers m.drive.setup p)
+    (complete (there (enabled_on m port) port p) m.sectors (sets m.staging 0 words))
+unfolding enabled_and_written enabled_on on switched pick
+first_run m port p words q =
+    follows (switch_does m port q.real q.sound) (whole_run (enabled_on m port) port p words (possible_still m port p words q) (on_now m port q.real))
+
 pub never_dead : NeverDead
-unfolding complete there ready granted selected owner_noticed after_reset posted_on pick
+unfolding enabled_and_written enabled_on on switched pick final
 never_dead =
     record {
-      answered = λ m port p words q. sym (whole_run m port p words q).answered;
-      written = λ m port p words q.
-          rw (← (whole_run m port p words q).ended)
-          (words_there m.drive.setup p m.sectors m.staging words
-          (room (with_place m.drive p) m.sectors m.staging (unsound _ (place_kept (sound m.drive q.sound.sound) q.inside)) q.sound.room)
-          q.whole);
+      answered = λ m port p words q on. sym (whole_run m port p words q on).answered;
+      written = written_there;
+      answered_first = λ m port p words q. sym (first_run m port p words q).answered;
+      written_first = λ m port p words q.
+          subst (λ (next : Machine). sector_at m.drive.setup p (final next (whole_sector_written port m.drive.setup.address p words)).sectors ≡ words)
+          (sym (switch_does m port q.real q.sound).next) (written_there (enabled_on m port) port p words (possible_still m port p words q) (on_now m port q.real));
     }

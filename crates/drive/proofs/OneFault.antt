@@ -12,12 +12,13 @@ use Rattle.laws.proofs.Tests.{or_l}
 use Rattle.parts.specs.Command.{read_status, code_of}
 use Rattle.parts.specs.Control.{control_of}
 use Rattle.parts.specs.Pending.{OneBit, bit7, bit6, bit5, bit4, with_bit, nothing_pending, noticed, faulted}
-use Rattle.parts.specs.Kind.{Kind, Select, Deselect, Use, Reset, Unknown, Work}
+use Rattle.parts.specs.Holding.{released}
+use Rattle.parts.specs.Kind.{Kind, Select, Deselect, Use, Reset, Switch, Unknown, Work}
 use Rattle.parts.specs.Tests.{is_taking, is_giving, no_transfer, transferring}
 use Rattle.parts.specs.declared.command.Function.{Function}
 use Rattle.parts.specs.declared.event.Event.{Event}
 use Rattle.parts.specs.declared.pending.Pending.{Pending}
-use Rattle.drive.specs.State.{pending_on, posted_on, Result}
+use Rattle.drive.specs.State.{with_holding, pending_on, posted_on, Result}
 use Rattle.drive.specs.Drive.{owner_noticed, selected, deselected, after_reset, reserved, unreserved, priority_reserved, head_stepped, at_its_target, closed, ended}
 use Rattle.drive.specs.Request.{octet2_cleared}
 use Rattle.drive.specs.Command.{status_cleared}
@@ -28,9 +29,12 @@ use Rattle.drive.specs.Ignored.{OneAtMost, none, one}
 use Rattle.drive.specs.Frame as frame
 use Rattle.drive.specs.declared.drive.Drive.{Drive}
 use Rattle.drive.specs.declared.answer.Outcome.{Outcome}
+use Rattle.drive.proofs.Switching.{granted_rest, switched_rest, rest_pending}
+use Rattle.drive.proofs.Sound.{sound}
+use Rattle.drive.proofs.SoundSessions.{switch_keeps_selected}
 use Rattle.drive.proofs.Laws.{by_cases, done_by, AllPassed, its_own}
 use Rattle.drive.proofs.Cleared.{posted_there}
-use Rattle.drive.proofs.Posted.{OnBoth, on_either, posted_on_lem}
+use Rattle.drive.proofs.Posted.{OnBoth, on_either, posted_on_lem, rest_keeps}
 use Rattle.drive.proofs.Outcomes
 use Rattle.parts.specs.declared.setup.Setup.{Setup}
 
@@ -134,12 +138,21 @@ module _ {d : Drive} (e : Event) (i : OneFault d) (own : d.holding.selected ≡ 
   work_one t (Outcomes.more high z) = record { few = i.few; coming = i.coming }
 
 kind_one : (k : Kind) (m : Machine) (e : Event) → AllPassed k m e → OneFault m.drive → OneFault (done_by k m e).outcome.drive
-unfolding selected owner_noticed deselected after_reset noticed
+unfolding selected owner_noticed deselected after_reset noticed pending_on
 kind_one Select m e p i =
     let d = m.drive in
-    unless_coming (either (OnBoth Few) _ (posted_on_lem Few d d.holding.owner _ i.few (on_either Few d d.holding.owner i.few)) i.few) none_taking
-kind_one Deselect m e p i = unless_coming i.few (idle_taking m.drive p.own.1.0)
+    unless_coming (rest_keeps Few (granted_rest _ _) (either (OnBoth Few) _ (posted_on_lem Few d d.holding.owner _ i.few (on_either Few d d.holding.owner i.few)) i.few)) none_taking
+kind_one Deselect m e p i =
+    let r = granted_rest (with_holding m.drive (released m.drive.holding)) m.drive.holding.selected in
+    unless_coming (rest_keeps Few r i.few) (rw r.transfer (idle_taking m.drive p.own.1.0))
 kind_one Reset m e p i = unless_coming (none, none) none_taking
+kind_one Switch m e p i =
+    let r = switched_rest m.drive e.port e.a0 in
+    record {
+      few = rest_keeps Few r i.few;
+      coming = λ t.
+          rw (switch_keeps_selected e.port e.a0 (sound m.drive p.sound), rest_pending r m.drive.holding.selected) (i.coming (rw r.transfer at t));
+    }
 kind_one Unknown m e p i = i
 kind_one (Use work) m e p i = work_one e i (its_own m e p.own.0) p.own.1.0 (Outcomes.work_done m.drive e m.sectors m.staging work)
 

@@ -12,7 +12,7 @@ use Rattle.laws.proofs.Pick.{cases}
 use Rattle.laws.proofs.Tests.{and_l}
 use Rattle.parts.specs.Holding.{nobody, is_owned_by_other}
 use Rattle.parts.specs.Pending.{OneBit, bit7, bit6, bit5, bit4, with_bit, pending_of, noticed, faulted, nothing_pending}
-use Rattle.parts.specs.Kind.{Kind, Select, Deselect, Use, Reset, Unknown, Work, kind_of}
+use Rattle.parts.specs.Kind.{Kind, Select, Deselect, Use, Reset, Switch, Unknown, Work, kind_of}
 use Rattle.parts.specs.Command.{read_status, parameter_words}
 use Rattle.parts.specs.Control.{words_to_come}
 use Rattle.parts.specs.declared.command.Function.{Function}
@@ -31,6 +31,7 @@ use Rattle.drive.specs.declared.answer.Answer.{Answer}
 use Rattle.drive.specs.declared.answer.Answer.TheVariants.{Done, LastWord}
 use Rattle.drive.specs.declared.answer.Outcome.{Outcome}
 use Rattle.drive.specs.declared.drive.Drive.{Drive}
+use Rattle.drive.proofs.Switching.{granted_rest, switched_rest, rest_pending}
 use Rattle.drive.proofs.Laws.{AllPassed, done_by}
 use Rattle.drive.proofs.Sound.{sound}
 use Rattle.drive.proofs.Cleared.{posted_there, posted_elsewhere, same_or_other, nothing_left_lem}
@@ -160,11 +161,13 @@ module _ (m : Machine) (e : Event) (port : ℕ) (real : port ≤ 1) where
   pending_by Select z p =
       let d = m.drive in
       let owner = d.holding.owner in
-      cases (λ (x : Drive). PendingFrame m e port Done (pending_on x port)) (is_owned_by_other d.holding e.port)
+      subst (PendingFrame m e port Done) (sym (rest_pending (granted_rest (owner_noticed d e.port) d.holding.selected) port))
+      (cases (λ (x : Drive). PendingFrame m e port Done (pending_on x port)) (is_owned_by_other d.holding e.port)
       (λ t. posted_framed d owner (noticed (pending_on d owner)) refl (owner_port d.holding e.port (sound d p.sound).owner t)
       (λ q. by_takeover z t q (ap (λ (n : ℕ). noticed (pending_on d n)) (sym q))))
-      (λ t. as_before refl)
-  pending_by Deselect z p = as_before refl
+      (λ t. as_before refl))
+  pending_by Deselect z p = as_before (rest_pending (granted_rest _ _) port)
   pending_by Reset z p = by_reset z (either_port (eqb port 0) _)
+  pending_by Switch z p = as_before (rest_pending (switched_rest m.drive _ _) port)
   pending_by Unknown z p = as_before refl
   pending_by (Use work) z p = work_left z (ltb-false 1 e.port p.port) (Outcomes.work_done m.drive e m.sectors m.staging work)

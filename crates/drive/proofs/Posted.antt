@@ -4,7 +4,7 @@ use Prim.Native.Nat.{ℕ}
 use mathlib.Core.List.{List}
 use Rattle.laws.proofs.Pick.{either}
 use Rattle.parts.specs.Pending.{OneBit, reset_complete, pending_of, nothing_pending, noticed, faulted}
-use Rattle.parts.specs.Kind.{Kind, Select, Deselect, Use, Reset, Unknown, Work}
+use Rattle.parts.specs.Kind.{Kind, Select, Deselect, Use, Reset, Switch, Unknown, Work}
 use Rattle.parts.specs.declared.event.Event.{Event}
 use Rattle.parts.specs.declared.pending.Pending.{Pending}
 use Rattle.drive.specs.State.{Result, pending_on, posted_on}
@@ -15,6 +15,7 @@ use Rattle.drive.specs.Command.{status_cleared}
 use Rattle.drive.specs.Run.{Machine, after}
 use Rattle.drive.specs.declared.drive.Drive.{Drive}
 use Rattle.drive.specs.declared.answer.Outcome.{Outcome}
+use Rattle.drive.proofs.Switching.{SameRest, granted_rest, switched_rest}
 use Rattle.drive.proofs.Laws.{by_cases, done_by}
 use Rattle.drive.proofs.Outcomes
 
@@ -36,6 +37,9 @@ on_either P d port o = either P _ o.0 o.1
 pub posted_on_lem : (P : Pending → Type 0) (d : Drive) (port : ℕ) (p : Pending) → OnBoth P d → P p → OnBoth P (posted_on d port p)
 unfolding posted_on
 posted_on_lem P d port p o h = (either P _ h o.0, either P _ o.1 h)
+
+pub rest_keeps : (P : Pending → Type 0) {d x : Drive} → SameRest d x → OnBoth P d → OnBoth P x
+rest_keeps P r o = (rw r.pending0 o.0, rw r.pending1 o.1)
 
 module _ (P : Pending → Type 0) (q : Postable P) where
   sought : {d at : Drive} {c : ℕ} → Outcomes.Sought d c at → OnBoth P d → OnBoth P at
@@ -99,9 +103,10 @@ module _ (P : Pending → Type 0) (q : Postable P) where
 
   kind_keeps : (k : Kind) (m : Machine) (e : Event) → OnBoth P m.drive → OnBoth P (done_by k m e).outcome.drive
   unfolding selected deselected after_reset
-  kind_keeps Select m e o = notice_keeps m.drive e.port o
-  kind_keeps Deselect m e o = o
+  kind_keeps Select m e o = rest_keeps P (granted_rest _ _) (notice_keeps m.drive e.port o)
+  kind_keeps Deselect m e o = rest_keeps P (granted_rest _ _) o
   kind_keeps Reset m e o = (q.reset, q.reset)
+  kind_keeps Switch m e o = rest_keeps P (switched_rest m.drive _ _) o
   kind_keeps Unknown m e o = o
   kind_keeps (Use work) m e o = work_keeps o (Outcomes.work_done m.drive e m.sectors m.staging work)
 

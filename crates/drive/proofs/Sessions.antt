@@ -7,12 +7,12 @@ use native.Mathlib.Omega.{arith}
 use lib.Seq.{append_snoc}
 use Rattle.laws.proofs.Pick.{cases}
 use Rattle.parts.specs.Holding.{nobody}
-use Rattle.parts.specs.Kind.{Select, Use, Work}
+use Rattle.parts.specs.Kind.{Select, Use, Switch, Work}
 use Rattle.drive.specs.Run.{Machine, answer_to, after, answers}
 use Rattle.drive.specs.Accepted.{is_refused, accepted}
-use Rattle.drive.specs.Sessions.{Is, Works, none, one, Sessions, nothing, reset, deselected, taken_over, cut_by_reset, still_open}
+use Rattle.drive.specs.Sessions.{Is, Works, none, one, switch, Sessions, nothing, reset, switched, deselected, taken_over, cut_by_reset, still_open}
 use Rattle.parts.specs.declared.event.Event.{Event}
-use Rattle.drive.proofs.Laws.{refused_changes_nothing, Move, selects, deselects, works, resets, selected_on, move}
+use Rattle.drive.proofs.Laws.{refused_changes_nothing, Move, selects, deselects, works, resets, switches, selected_on, move}
 
 -- events that move the selected port, one after another
 data Moves : ℕ → List Event → Type 0 where
@@ -31,6 +31,12 @@ accepted_move m (e ∷ events) =
 one_more : {port : ℕ} {work : List Event} (e : Event) → Works port work → (w : Work) → Is (Use w) e → e.port ≡ port → Works port (work ++ (e ∷ []))
 one_more e none w is own = one w is own none
 one_more e (one v is' own' work) w is own = one v is' own' (one_more e work w is own)
+one_more e (switch is' work) w is own = switch is' (one_more e work w is own)
+
+switch_more : {port : ℕ} {work : List Event} (e : Event) → Works port work → Is Switch e → Works port (work ++ (e ∷ []))
+switch_more e none is = switch is none
+switch_more e (one v is' own' work) is = one v is' own' (switch_more e work is)
+switch_more e (switch is' work) is = switch is' (switch_more e work is)
 
 -- with nobody selected a session begins; with a port selected its session goes on
 record FromHere (selected : ℕ) (events : List Event) : Type 0 where
@@ -56,6 +62,12 @@ from_here (more {e = e} {later = later} (works v is own port to) moves) =
 from_here (more {e = e} {later = later} (resets is to) moves) =
     let session : Sessions (e ∷ later) = reset is ((from_here moves).outside to) in
     record { outside = λ z. session; inside = λ selection work is' at w. cut_by_reset is' w is session }
+from_here (more {e = e} {later = later} (switches is to) moves) =
+    let rest = from_here moves in
+    record {
+      outside = λ z. switched is (rest.outside (to ∙ z));
+      inside = λ selection work is' at w. rw (append_snoc work e later) at (rest.inside selection (work ++ (e ∷ [])) is' (to ∙ at) (switch_more e w is));
+    }
 
 pub whole_sessions : (m : Machine) (events : List Event) → selected_on m ≡ nobody → Sessions (accepted events (answers m events))
 whole_sessions m events = (from_here (accepted_move m events)).outside

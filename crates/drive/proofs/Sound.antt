@@ -12,7 +12,7 @@ use Rattle.laws.proofs.Tests.{or_l, or_r}
 use Rattle.parts.specs.Setup.{within_limits, sector_words, all_words, sector_start, is_place, is_target}
 use Rattle.parts.specs.Holding.{nobody}
 use Rattle.drive.specs.Refusal.{row11, row10}
-use Rattle.parts.specs.Tests.{is_outside_limits, is_disowned, is_broken_transfer, has_stray_bit}
+use Rattle.parts.specs.Tests.{is_outside_limits, is_disowned, is_broken_transfer, has_stray_bit, is_misswitched}
 use Rattle.drive.specs.Able.{Room}
 use Rattle.drive.specs.declared.drive.Drive.{Drive}
 use Rattle.parts.proofs.Bounds.{inside, sector_in_room}
@@ -27,25 +27,27 @@ pub record Sound (d : Drive) : Type 0 where
   pub transfer : is_broken_transfer d.setup d.holding d.transfer ≡ false
   pub bits0 : has_stray_bit d.pending0 ≡ false
   pub bits1 : has_stray_bit d.pending1 ≡ false
+  pub switches : is_misswitched d.switches d.holding ≡ false
 
 pub sound : (d : Drive) → row11 d ≡ false → Sound d
 unfolding row11 is_outside_limits
 sound d h =
     record {
-      limits = not-false (within_limits d.setup) (search (or_l, or_r) depth 9);
-      selected = search (or_l, or_r) depth 9;
-      owner = search (or_l, or_r) depth 9;
-      place = not-false (is_place d.setup d.place) (search (or_l, or_r) depth 9);
-      target = not-false (is_target d.setup d.target) (search (or_l, or_r) depth 9);
-      owned = search (or_l, or_r) depth 9;
-      transfer = search (or_l, or_r) depth 9;
-      bits0 = search (or_l, or_r) depth 9;
-      bits1 = search (or_l, or_r) depth 9;
+      limits = not-false (within_limits d.setup) (search (or_l, or_r) depth 10);
+      selected = search (or_l, or_r) depth 10;
+      owner = search (or_l, or_r) depth 10;
+      place = not-false (is_place d.setup d.place) (search (or_l, or_r) depth 10);
+      target = not-false (is_target d.setup d.target) (search (or_l, or_r) depth 10);
+      owned = search (or_l, or_r) depth 10;
+      transfer = search (or_l, or_r) depth 10;
+      bits0 = search (or_l, or_r) depth 10;
+      bits1 = search (or_l, or_r) depth 10;
+      switches = search (or_l, or_r) depth 10;
     }
 
 pub unsound : (d : Drive) → Sound d → row11 d ≡ false
 unfolding row11 is_outside_limits
-unsound d s = rw (s.limits, s.selected, s.owner, s.place, s.target, s.owned, s.transfer, s.bits0, s.bits1)
+unsound d s = rw (s.limits, s.selected, s.owner, s.place, s.target, s.owned, s.transfer, s.bits0, s.bits1, s.switches)
 
 -- what row 10 leaves holds every sector of the drive
 pub room : (d : Drive) (sectors staging : List ℕ) → row11 d ≡ false → row10 d.setup sectors staging ≡ false

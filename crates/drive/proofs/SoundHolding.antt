@@ -1,41 +1,36 @@
--- A sound drive whose holding or transfer an event has changed is sound: selection, deselection, reset, a word more, an end; and so is power-up.
+-- A sound drive whose holding or transfer an event has changed is sound: a word more, an end, a hold by command.
 -- Assumes nothing.
 use Prim.Native.Nat.{ℕ, ◌<◌}
 use mathlib.Core.Path.{◌≡◌, refl}
-use mathlib.Core.Bool.{Bool, true, false, not, ◌&&◌, ◌||◌, and-false, true≢false}
-use native.Mathlib.Omega.{arith}
-use borrow.Author.Tests.{eqb-true, lt-leb, le-ltb, eq-eqb, ne_eqb, not-false}
-use lib.Dec.{eqb, ltb, leb}
-use Rattle.laws.proofs.Pick.{either}
+use mathlib.Core.Bool.{Bool, true, false, not, ◌&&◌, ◌||◌, and-false}
+use borrow.Author.Tests.{eqb-true, lt-leb, not-false}
+use lib.Dec.{eqb, ltb}
 use Rattle.laws.proofs.Tests.{or_l, or_r}
-use Rattle.parts.specs.Setup.{within_limits, is_place, is_target}
 use Rattle.parts.specs.Control.{control_of, takes_words, gives_words, words_to_come}
-use Rattle.parts.specs.Holding.{nobody, holds, free, with_hold, granted_to, hold_set, released, released_from}
-use Rattle.drive.specs.State.{at_place, with_holding, with_transfer}
-use Rattle.parts.specs.Tests.{transferring_with, no_transfer, is_open, is_disowned, is_broken_transfer, has_stray_bit}
-use Rattle.drive.specs.Drive.{owner_noticed, selected, deselected, after_reset, closed, ended}
-use Rattle.drive.specs.Power.{at_rest}
-use Rattle.drive.specs.Refusal.{is_one_open}
+use Rattle.parts.specs.Holding.{nobody, holds, free, with_hold}
+use Rattle.drive.specs.State.{with_holding, with_transfer, with_switches}
+use Rattle.parts.specs.Tests.{transferring_with, is_open, is_disowned, is_broken_transfer, is_misswitched}
+use Rattle.drive.specs.Drive.{selected, closed, ended}
 use Rattle.parts.specs.declared.holding.Hold.{Hold}
-use Rattle.parts.specs.declared.holding.Hold.TheVariants.{None, Plain, Strong}
 use Rattle.parts.specs.declared.holding.Holding.{Holding}
+use Rattle.parts.specs.declared.switches.Switches.{Switches}
 use Rattle.parts.specs.declared.transfer.Parameters.{Parameters}
 use Rattle.parts.specs.declared.transfer.Transfer.{Transfer}
-use Rattle.parts.specs.declared.setup.Setup.{Setup}
 use Rattle.drive.specs.declared.drive.Drive.{Drive}
 use Rattle.parts.proofs.Bounds.{limits, inside}
+use Rattle.drive.proofs.Switching.{InUse, in_use, not_misswitched}
 use Rattle.drive.proofs.Sound.{Sound}
-use Rattle.drive.proofs.SoundPlace.{is_place_lem, following_below, place_kept, posted_kept, pending_stray, notice_stray}
+use Rattle.drive.proofs.SoundPlace.{is_place_lem, following_below, place_kept}
 
 -- ---- who holds the drive, and the transfer
 
 -- who holds, with a transfer open or not
-record Owned (h : Holding) (open' : Bool) : Type 0 where
-  selected : (not (eqb h.selected nobody) && not (eqb h.selected h.owner)) ≡ false
-  hold : ((holds h.hold || open') && eqb h.owner nobody) ≡ false
-  owner : (not (eqb h.owner nobody) && eqb h.selected nobody && not (holds h.hold)) ≡ false
+pub record Owned (h : Holding) (open' : Bool) : Type 0 where
+  pub selected : (not (eqb h.selected nobody) && not (eqb h.selected h.owner)) ≡ false
+  pub hold : ((holds h.hold || open') && eqb h.owner nobody) ≡ false
+  pub owner : (not (eqb h.owner nobody) && eqb h.selected nobody && not (holds h.hold)) ≡ false
 
-owned : (h : Holding) (t : Transfer) → is_disowned h t ≡ false → Owned h (is_open t)
+pub owned : (h : Holding) (t : Transfer) → is_disowned h t ≡ false → Owned h (is_open t)
 unfolding is_disowned
 owned h t e = record { selected = search (or_l, or_r); hold = search (or_l, or_r); owner = search (or_l, or_r) }
 
@@ -43,10 +38,11 @@ not_disowned : (h : Holding) (t : Transfer) → Owned h (is_open t) → is_disow
 unfolding is_disowned
 not_disowned h t o = rw (o.selected, o.hold, o.owner)
 
--- a change of who holds, and of the transfer
-held_kept : {d : Drive} {h : Holding} {t : Transfer} → Sound d → ltb nobody h.selected ≡ false → ltb nobody h.owner ≡ false → Owned h (is_open t)
-    → is_broken_transfer d.setup h t ≡ false → Sound (with_transfer (with_holding d h) t)
-held_kept {d} {h} {t} s selected owner o b =
+-- a change of who holds, of the transfer and of the switches
+pub held_kept : {d : Drive} {h : Holding} {t : Transfer} {w : Switches} → Sound d → ltb nobody h.selected ≡ false → ltb nobody h.owner ≡ false → Owned h (is_open t)
+    → is_broken_transfer d.setup h t ≡ false → is_misswitched w h ≡ false
+    → Sound (with_transfer (with_holding (with_switches d w) h) t)
+held_kept {d} {h} {t} s selected owner o b u =
     record {
       limits = s.limits;
       selected = selected;
@@ -57,6 +53,7 @@ held_kept {d} {h} {t} s selected owner o b =
       transfer = b;
       bits0 = s.bits0;
       bits1 = s.bits1;
+      switches = u;
     }
 
 nothing_open : (hold open' free : Bool) → ((hold || open') && free) ≡ false → ((hold || false) && free) ≡ false
@@ -68,7 +65,7 @@ unfolding closed is_broken_transfer
 closed_kept {d} s =
     let o = owned d.holding d.transfer s.owned in
     let hold = nothing_open (holds d.holding.hold) (is_open d.transfer) _ o.hold in
-    held_kept s s.selected s.owner (record { selected = o.selected; hold = hold; owner = o.owner }) refl
+    held_kept s s.selected s.owner (record { selected = o.selected; hold = hold; owner = o.owner }) refl s.switches
 
 pub ended_kept : {d : Drive} → Sound d → Sound (ended d)
 unfolding ended closed
@@ -79,10 +76,13 @@ ended_kept {d} s =
     closed_kept (place_kept s (is_place_lem d.setup _ (record { cylinder = i.cylinder; head = i.head; sector = next })))
 
 -- the selected port is the owner
-owned_by_selected : (h : Holding) {open' : Bool} → eqb h.selected nobody ≡ false → Owned h open' → eqb h.owner nobody ≡ false
-owned_by_selected h n o =
+pub selected_owns : (h : Holding) {open' : Bool} → eqb h.selected nobody ≡ false → Owned h open' → h.selected ≡ h.owner
+selected_owns h n o =
     let e : not (eqb h.selected h.owner) ≡ false = rw n at o.selected in
-    rw (← (eqb-true h.selected h.owner (not-false (eqb h.selected h.owner) e))) n
+    eqb-true h.selected h.owner (not-false (eqb h.selected h.owner) e)
+
+owned_by_selected : (h : Holding) {open' : Bool} → eqb h.selected nobody ≡ false → Owned h open' → eqb h.owner nobody ≡ false
+owned_by_selected h n o = rw (← (selected_owns h n o)) n
 
 pub transfer_kept : {d : Drive} {c moved : ℕ} {p : Parameters} → Sound d → eqb d.holding.selected nobody ≡ false
     → (takes_words (control_of c) || gives_words (control_of c)) ≡ true → moved < words_to_come d.setup c → Sound (with_transfer d (transferring_with c moved p))
@@ -93,6 +93,17 @@ transfer_kept {d} {c} {moved} {p} s n opens h =
     held_kept s s.selected s.owner
     (record { selected = o.selected; hold = rw (owned_by_selected d.holding n o) (and-false (holds d.holding.hold || is_open t)); owner = o.owner })
     (rw (n, opens, lt-leb (words_to_come d.setup c) moved h) (and-false (is_open t)))
+    s.switches
+
+-- a selected port may hold
+owner_in_use : {w : Switches} {h : Holding} (hold : Hold) → h.selected ≡ h.owner → InUse w h → is_misswitched w (with_hold h hold) ≡ false
+owner_in_use {w} {h} hold mine u =
+    not_misswitched (record {
+      limit0 = u.limit0;
+      limit1 = u.limit1;
+      selected = u.selected;
+      holder = rw (← mine, u.selected) (and-false (holds hold));
+    })
 
 -- a hold by command: the selected port is the owner, whatever its hold
 pub hold_kept : {d : Drive} (hold : Hold) → Sound d → eqb d.holding.selected nobody ≡ false → Sound (with_holding d (with_hold d.holding hold))
@@ -103,80 +114,4 @@ hold_kept {d} hold s n =
     held_kept {t = d.transfer} s s.selected s.owner
     (record { selected = o.selected; hold = rw mine (and-false (holds hold || is_open d.transfer)); owner = rw (mine, n) })
     s.transfer
-
--- ---- selection, deselection, reset
-
-noticed_kept : {d : Drive} (port : ℕ) → Sound d → Sound (owner_noticed d port)
-unfolding owner_noticed
-noticed_kept {d} port s = either Sound _ (posted_kept d.holding.owner _ s (notice_stray _ (pending_stray d.holding.owner s))) s
-
-granted_kept : {d : Drive} (port octet : ℕ) → port < nobody → Sound d → Sound (with_transfer (with_holding d (granted_to port octet)) no_transfer)
-unfolding granted_to is_broken_transfer
-granted_kept port octet h s =
-    let n = ne_eqb port nobody (λ e. omega arith) in
-    held_kept s (le-ltb nobody port (omega arith)) (le-ltb nobody port (omega arith))
-    (record { selected = rw (n, eq-eqb port port refl); hold = rw n (and-false (holds (hold_set octet) || false)); owner = rw n })
-    refl
-
-pub selected_kept : {d : Drive} (port octet : ℕ) → port < nobody → Sound d → Sound (selected d port octet)
-unfolding selected
-selected_kept port octet h s = granted_kept port octet h (noticed_kept port s)
-
--- a state that row 11 lets pass has nothing open if no write and no read is
-not_open : (open' noOne one over : Bool) → (open' && (noOne || not one || over)) ≡ false → one ≡ false → open' ≡ false
-not_open false noOne one over e z = refl
-not_open true true one over e z = absurd (true≢false e)
-not_open true false one over e z = absurd (true≢false (rw z at e))
-
-record Released (h : Holding) : Type 0 where
-  selected : ltb nobody h.selected ≡ false
-  owner : ltb nobody h.owner ≡ false
-  owned : Owned h false
-
-released_by : (hold : Hold) (owner : ℕ) (open' : Bool) → ltb nobody owner ≡ false → ((holds hold || open') && eqb owner nobody) ≡ false
-    → Released (released_from hold owner)
-released_by None owner open' h e = record { selected = refl; owner = refl; owned = record { selected = refl; hold = refl; owner = refl } }
-released_by Plain owner open' h e = record { selected = refl; owner = h; owned = record { selected = refl; hold = e; owner = rw e } }
-released_by Strong owner open' h e = record { selected = refl; owner = h; owned = record { selected = refl; hold = e; owner = rw e } }
-
-pub deselected_kept : {d : Drive} → Sound d → is_one_open d ≡ false → Sound (deselected d)
-unfolding deselected released is_broken_transfer
-deselected_kept {d} s h =
-    let o = owned d.holding d.transfer s.owned in
-    let over = leb (words_to_come d.setup d.transfer.control) d.transfer.moved in
-    let z : is_open d.transfer ≡ false = not_open (is_open d.transfer) (eqb d.holding.selected nobody) (is_one_open d) over s.transfer h in
-    let r = released_by d.holding.hold d.holding.owner (is_open d.transfer) s.owner o.hold in
-    held_kept {t = d.transfer} s r.selected r.owner (rw z r.owned) (rw z)
-
-at_start_lem : (s : Setup) → within_limits s ≡ true → is_place s (at_place 0 0 0) ≡ true
-at_start_lem s h = let l = limits s h in is_place_lem s (at_place 0 0 0) (record { cylinder = l.some_cylinder; head = l.some_head; sector = l.some_sector })
-
-pub reset_kept : {d : Drive} → Sound d → Sound (after_reset d)
-unfolding after_reset is_target is_disowned is_broken_transfer has_stray_bit
-reset_kept {d} s =
-    record {
-      limits = s.limits;
-      selected = refl;
-      owner = refl;
-      place = at_start_lem d.setup s.limits;
-      target = refl;
-      owned = refl;
-      transfer = refl;
-      bits0 = refl;
-      bits1 = refl;
-    }
-
-pub rest_sound : (s : Setup) → within_limits s ≡ true → Sound (at_rest s)
-unfolding is_target is_disowned is_broken_transfer has_stray_bit
-rest_sound s h =
-    record {
-      limits = h;
-      selected = refl;
-      owner = refl;
-      place = at_start_lem s h;
-      target = refl;
-      owned = refl;
-      transfer = refl;
-      bits0 = refl;
-      bits1 = refl;
-    }
+    (owner_in_use hold (selected_owns d.holding n o) (in_use d.switches d.holding s.switches))

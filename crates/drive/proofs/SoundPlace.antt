@@ -43,6 +43,7 @@ place_kept s h =
       transfer = s.transfer;
       bits0 = s.bits0;
       bits1 = s.bits1;
+      switches = s.switches;
     }
 
 pub head_step_kept : {d : Drive} → Sound d → Sound (head_stepped d)
@@ -77,6 +78,7 @@ target_kept s h =
       transfer = s.transfer;
       bits0 = s.bits0;
       bits1 = s.bits1;
+      switches = s.switches;
     }
 
 -- ---- what is pending
@@ -140,6 +142,7 @@ posted_kept port p s h =
       transfer = s.transfer;
       bits0 = either (λ p. has_stray_bit p ≡ false) _ h s.bits0;
       bits1 = either (λ p. has_stray_bit p ≡ false) _ s.bits1 h;
+      switches = s.switches;
     }
 
 -- any of the bits that the base sets in octet 2, or none

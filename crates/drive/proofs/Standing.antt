@@ -8,7 +8,7 @@ use mathlib.Core.Option.{none}
 use Rattle.laws.specs.Pick.{pick}
 use Rattle.parts.specs.Control.{control_of, is_write, is_read, is_data}
 use Rattle.parts.specs.Tests.{transferring, no_transfer}
-use Rattle.parts.specs.Kind.{Kind, Select, Deselect, Use, Reset, Unknown, Work, kind_of}
+use Rattle.parts.specs.Kind.{Kind, Select, Deselect, Use, Reset, Switch, Unknown, Work, kind_of}
 use Rattle.parts.specs.declared.control.Control.{Control}
 use Rattle.parts.specs.declared.command.Function.{Function}
 use Rattle.parts.specs.declared.setup.Setup.{Setup}
@@ -26,6 +26,7 @@ use Rattle.drive.specs.declared.drive.Drive.{Drive}
 use Rattle.drive.specs.declared.answer.Answer.{Answer}
 use Rattle.drive.specs.declared.answer.Outcome.{Outcome}
 use Rattle.laws.proofs.Pick.{either}
+use Rattle.drive.proofs.Switching.{SameRest, granted_rest, switched_rest}
 use Rattle.drive.proofs.Laws.{by_cases, done_by, left, AllPassed, accepts}
 use Rattle.drive.proofs.StaysSound.{same_size_lem}
 use Rattle.drive.proofs.Outcomes
@@ -117,12 +118,18 @@ work_stands (Outcomes.miscompared high) = rw high
 work_stands (Outcomes.completed high z) = rw high
 work_stands (Outcomes.more high z) = rw high
 
+rest_stands : {d x : Drive} → SameRest d x → standing_of d ≡ standing_of x
+rest_stands r = rw (r.place, r.target, r.transfer)
+
 kind_stands : (k : Kind) (m : Machine) (e : Event) → AllPassed k m e
     → stands k m.drive.setup e (paper (done_by k m e).outcome.answer) (standing_of m.drive) ≡ standing_of (left (done_by k m e)).drive
 unfolding selected owner_noticed posted_on deselected after_reset
-kind_stands Select m e p = either (λ (d : Drive). with_transfer (standing_of m.drive) no_transfer ≡ with_transfer (standing_of d) no_transfer) _ refl refl
-kind_stands Deselect m e p = refl
+kind_stands Select m e p =
+    either (λ (d : Drive). with_transfer (standing_of m.drive) no_transfer ≡ with_transfer (standing_of d) no_transfer) _ refl refl
+    ∙ ap (λ (w : Standing). with_transfer w no_transfer) (rest_stands (granted_rest (owner_noticed m.drive e.port) _))
+kind_stands Deselect m e p = rest_stands (granted_rest _ _)
 kind_stands Reset m e p = refl
+kind_stands Switch m e p = rest_stands (switched_rest m.drive _ _)
 kind_stands Unknown m e p = refl
 kind_stands (Use work) m e p = work_stands (Outcomes.work_done m.drive e m.sectors m.staging work)
 

@@ -1,28 +1,29 @@
 -- `stays_sound`: no event leads a sound drive with slices long enough to one that rows 11 and 10 refuse.
 -- Assumes nothing.
-use Prim.Native.Nat.{ℕ, ◌+◌, ◌≤◌, ◌<◌}
-use mathlib.Core.Path.{◌≡◌, refl}
-use mathlib.Core.Bool.{true, false, or-true, true≢false}
+use Prim.Native.Nat.{ℕ, suc, ◌+◌, ◌<◌}
+use mathlib.Core.Path.{◌≡◌, refl, sym, ◌∙◌}
+use mathlib.Core.Bool.{Bool, true, false, not, ◌&&◌, or-true, true≢false, false≢true}
 use mathlib.Core.List.{List, [], ◌∷◌}
 use native.Mathlib.Omega.{arith}
-use borrow.Author.Tests.{eqb-false, ltb-false, ne_eqb, not-false}
+use borrow.Author.Tests.{eqb-false, ltb-false, eq-eqb, ne_eqb, not-false}
 use lib.Dec.{eqb}
 use lib.ListN.{length, length-set}
 use Rattle.laws.specs.Pick.{pick}
 use Rattle.laws.proofs.Pick.{either}
-use Rattle.laws.proofs.Rows.{numbered_up_to, first_up_to}
+use Rattle.laws.proofs.Tests.{and_r}
+use Rattle.laws.proofs.Rows.{EachNumber, first_among}
 use Rattle.laws.specs.Rows.{◌when◌}
 use Rattle.parts.specs.Holding.{nobody, at_least_plain}
 use Rattle.parts.specs.declared.command.Function.{Function}
 use Rattle.parts.specs.declared.holding.Hold.TheVariants.{None, Strong}
 use Rattle.parts.specs.Pending.{nothing_pending}
 use Rattle.drive.specs.Answer.{refusal_in}
-use Rattle.parts.specs.Kind.{Kind, Select, Deselect, Use, Reset, Unknown, Work, kind_of, word_of}
+use Rattle.parts.specs.Kind.{Kind, Select, Deselect, Use, Reset, Switch, Unknown, Work, kind_of, word_of}
 use Rattle.drive.specs.State.{Result, posted_on}
 use Rattle.drive.specs.Drive.{owner_noticed, selected, deselected, after_reset, reserved, unreserved, priority_reserved, at_its_target, closed}
 use Rattle.drive.specs.Request.{octet2_cleared}
 use Rattle.drive.specs.Command.{status_cleared}
-use Rattle.drive.specs.Refusal.{row1, row7, row10, own_rows, refusal_of}
+use Rattle.drive.specs.Refusal.{row1, row7, row10, rows_of, own_rows, refusal_of}
 use Rattle.parts.specs.Tests.{is_taking, is_giving}
 use Rattle.drive.specs.Able.{Passable}
 use Rattle.drive.specs.Run.{Machine, answer_to, after, answers}
@@ -33,12 +34,14 @@ use Rattle.parts.specs.declared.event.Event.{Event}
 use Rattle.drive.specs.declared.answer.Answer.{Answer}
 use Rattle.drive.specs.declared.answer.Outcome.{Outcome}
 use Rattle.drive.specs.declared.answer.Answer.TheVariants.{Refused, Done, Status, Opened, Word, LastWord, Response}
+use Rattle.drive.proofs.Switching.{granted_rest, switched_rest}
 use Rattle.drive.proofs.Sound.{Sound, sound, unsound, room}
 use Rattle.drive.proofs.Own.{able_to_write, able_to_read}
 use Rattle.drive.proofs.Frame.{commit_frame, staged_room}
 use Rattle.drive.proofs.Laws.{by_cases, done_by, left, AllPassed, stays, accepts, its_own}
 use Rattle.drive.proofs.SoundPlace.{place_kept, recalibrated_kept, head_step_kept, at_target_kept, target_kept, posted_kept, pending_stray, fault_stray, nothing_stray, cleared_kept}
-use Rattle.drive.proofs.SoundHolding.{closed_kept, ended_kept, transfer_kept, hold_kept, selected_kept, deselected_kept, reset_kept, rest_sound}
+use Rattle.drive.proofs.SoundHolding.{closed_kept, ended_kept, transfer_kept, hold_kept}
+use Rattle.drive.proofs.SoundSessions.{selected_kept, deselected_kept, switched_kept, reset_kept, rest_sound}
 use Rattle.drive.proofs.Outcomes
 
 -- ---- kinds 3 to 9
@@ -117,9 +120,13 @@ work_sound {d} p n t (Outcomes.more high z) =
 -- ---- every kind
 
 kind_sound : (k : Kind) (m : Machine) (e : Event) → AllPassed k m e → Sound (done_by k m e).outcome.drive
-kind_sound Select m e p = selected_kept e.port e.a0 (omega (arith, ltb-false 1 e.port p.port)) (sound m.drive p.sound)
-kind_sound Deselect m e p = deselected_kept (sound m.drive p.sound) p.own.1.0
+kind_sound Select m e p =
+    selected_kept e.port e.a0 (omega (arith, ltb-false 1 e.port p.port)) (λ same. eqb-false _ e.port p.own.1.0 (sym same))
+    (not-false _ p.own.0) (sound m.drive p.sound)
+kind_sound Deselect m e p =
+    deselected_kept (sound m.drive p.sound) (λ z. omega (arith, its_own m e p.own.0, ltb-false 1 e.port p.port)) p.own.1.0
 kind_sound Reset m e p = reset_kept (sound m.drive p.sound)
+kind_sound Switch m e p = switched_kept e.port e.a0 (sound m.drive p.sound)
 kind_sound Unknown m e p = absurd (true≢false p.formed)
 kind_sound (Use work) m e p =
     let n = ne_eqb m.drive.holding.selected nobody (λ z. omega (arith, its_own m e p.own.0, ltb-false 1 e.port p.port)) in
@@ -137,9 +144,15 @@ work_size {staging = staging} p (Outcomes.more high z) = (refl, length-set stagi
 
 kind_size : (k : Kind) (m : Machine) (e : Event) → AllPassed k m e → SameSize m (left (done_by k m e))
 unfolding selected owner_noticed posted_on deselected after_reset
-kind_size Select m e p = record { setup = either (λ (d : Drive). d.setup ≡ m.drive.setup) _ refl refl; sectors = refl; staging = refl }
-kind_size Deselect m e p = record { setup = refl; sectors = refl; staging = refl }
+kind_size Select m e p =
+    record {
+      setup = (granted_rest (owner_noticed m.drive e.port) _).setup ∙ either (λ (d : Drive). d.setup ≡ m.drive.setup) _ refl refl;
+      sectors = refl;
+      staging = refl;
+    }
+kind_size Deselect m e p = record { setup = (granted_rest _ _).setup; sectors = refl; staging = refl }
 kind_size Reset m e p = record { setup = refl; sectors = refl; staging = refl }
+kind_size Switch m e p = record { setup = (switched_rest m.drive _ _).setup; sectors = refl; staging = refl }
 kind_size Unknown m e p = record { setup = refl; sectors = refl; staging = refl }
 kind_size (Use work) m e p =
     let l = work_size (record { sound = p.sound; room = p.room }) (Outcomes.work_done m.drive e m.sectors m.staging work) in
@@ -161,17 +174,30 @@ sound_after m e s =
     (λ k z p l. record { sound = unsound _ (kind_sound k m e p); room = same_room m (left (done_by k m e)) l s.room })
     (same_size_lem m e)
 
--- without 11 and 10 the numbers end at 8
-small_numbers : (k : Kind) (d : Drive) (e : Event) → numbered_up_to 8 (1 when row1 e ∷ own_rows k d e) ≡ true
-small_numbers Select d e = refl
-small_numbers Deselect d e = refl
-small_numbers Reset d e = refl
-small_numbers Unknown d e = refl
-small_numbers (Use work) d e = refl
+-- without rows 11 and 10 no row has their numbers
+abbrev is_neither : ℕ → Bool
+is_neither n = not (eqb n 11) && not (eqb n 10)
 
-small_refusal : (k : Kind) (m : Machine) (e : Event) → IsSound m → refusal_of k m.drive e m.sectors m.staging ≤ 8
+abbrev Neither : ℕ → Type 0
+Neither n = (n ≡ 11 → ⊥) × (n ≡ 10 → ⊥)
+
+neither : (n : ℕ) → is_neither n ≡ true → Neither n
+neither n h =
+    (λ z. false≢true (rw (eq-eqb n 11 z) at h), λ z. false≢true (rw (eq-eqb n 10 z) at (and_r (not (eqb n 11)) (not (eqb n 10)) h)))
+
+own_numbers : (k : Kind) (d : Drive) (e : Event) → EachNumber (λ n. is_neither n ≡ true) (rows_of k d e)
+own_numbers Select d e = (refl, (refl, (refl, (refl, (refl, tt)))))
+own_numbers Deselect d e = (refl, (refl, tt))
+own_numbers Reset d e = tt
+own_numbers Switch d e = (refl, tt)
+own_numbers Unknown d e = tt
+own_numbers (Use work) d e = (refl, (refl, tt))
+
+neither_given : (k : Kind) (m : Machine) (e : Event) → IsSound m → (n : ℕ) → refusal_of k m.drive e m.sectors m.staging ≡ suc n → Neither (suc n)
 unfolding refusal_of pick
-small_refusal k m e s = rw (s.sound, s.room) (first_up_to 8 (1 when row1 e ∷ own_rows k m.drive e) (small_numbers k m.drive e))
+neither_given k m e s n z =
+    neither (suc n)
+    (first_among (λ n. is_neither n ≡ true) (1 when row1 e ∷ own_rows k m.drive e) (refl, (refl, own_numbers k m.drive e)) n (rw (s.sound, s.room) at z))
 
 pub no_refusal : (answer : Answer) → is_refused answer ≡ false → refusal_in answer ≡ 0
 no_refusal (Refused n) h = absurd (true≢false h)
@@ -182,15 +208,16 @@ no_refusal (Word w) h = refl
 no_refusal (LastWord w) h = refl
 no_refusal (Response octet0 octet1 octet2) h = refl
 
-small_answer : (m : Machine) (e : Event) → IsSound m → refusal_in (answer_to m e) ≤ 8
-small_answer m e s =
-    by_cases (λ answer next. refusal_in answer ≤ 8) m e (λ n z. omega (arith, small_refusal (kind_of e.kind) m e s))
-    (λ k z p. omega (arith, no_refusal (done_by k m e).outcome.answer (accepts k m e)))
+neither_answered : (m : Machine) (e : Event) → IsSound m → Neither (refusal_in (answer_to m e))
+neither_answered m e s =
+    by_cases (λ answer next. Neither (refusal_in answer)) m e (λ n z. neither_given (kind_of e.kind) m e s n z)
+    (λ k z p. rw (no_refusal (done_by k m e).outcome.answer (accepts k m e)) (neither 0 refl))
 
 never_11_or_10 : (m : Machine) (events : List Event) → IsSound m → Never11Or10 (answers m events)
 unfolding answers
 never_11_or_10 m [] s = tt
-never_11_or_10 m (e ∷ events) s = (small_answer m e s, never_11_or_10 (after m e) events (sound_after m e s))
+never_11_or_10 m (e ∷ events) s =
+    let n = neither_answered m e s in (n.0, n.1, never_11_or_10 (after m e) events (sound_after m e s))
 
 pub stays_sound : StaysSound
 stays_sound =

@@ -1,7 +1,7 @@
 -- The runs of wrong drives are refused, by computation: each differs from what the part says in one number, or has a host's event inside the other's
 -- session. The idle drive is not.
 -- Assumes nothing.
-use Prim.Native.Nat.{ℕ, ◌≤◌}
+use Prim.Native.Nat.{ℕ}
 use mathlib.Core.Path.{◌≡◌, refl, sym, ap, ◌∙◌}
 use mathlib.Core.Bool.{Bool, true, false, true≢false, false≢true, ◌&&◌}
 use mathlib.Core.List.{List, [], ◌∷◌, ◌++◌, map, append-nil}
@@ -13,7 +13,7 @@ use Rattle.laws.specs.Pick.{pick}
 use Rattle.laws.proofs.Differ.{told_apart, absent}
 use Rattle.parts.specs.Control.{control_of, is_read}
 use Rattle.parts.specs.Holding.{nobody}
-use Rattle.parts.specs.Kind.{Kind, Select, Deselect, Use, Reset, Unknown, kind_of}
+use Rattle.parts.specs.Kind.{Kind, Select, Deselect, Use, Reset, Switch, Unknown, kind_of}
 use Rattle.parts.specs.declared.control.Control.TheVariants.{Read}
 use Rattle.parts.specs.declared.setup.Place.{Place}
 use Rattle.parts.specs.declared.event.Event.{Event}
@@ -48,6 +48,7 @@ is_own Select port sender = true
 is_own Deselect port sender = eqb sender port
 is_own (Use work) port sender = eqb sender port
 is_own Reset port sender = true
+is_own Switch port sender = true
 is_own Unknown port sender = false
 
 abbrev selected_after : Kind → ℕ → ℕ → ℕ
@@ -55,6 +56,7 @@ selected_after Select port sender = sender
 selected_after Deselect port sender = nobody
 selected_after (Use work) port sender = port
 selected_after Reset port sender = nobody
+selected_after Switch port sender = port
 selected_after Unknown port sender = port
 
 abbrev all_own : ℕ → List Event → Bool
@@ -64,10 +66,12 @@ all_own port (e ∷ events) = is_own (kind_of e.kind) port e.port && all_own (se
 work_own : {port : ℕ} {work : List Event} (rest : List Event) → Works port work → all_own port rest ≡ true → all_own port (work ++ rest) ≡ true
 work_own rest sessions.none h = h
 work_own {port} rest (sessions.one {e} w z p more) h = rw (z, eq-eqb e.port port p) (work_own rest more h)
+work_own rest (sessions.switch z more) h = rw z (work_own rest more h)
 
-sessions_own : {events : List Event} → Sessions events → (port : ℕ) → all_own port events ≡ true
+pub sessions_own : {events : List Event} → Sessions events → (port : ℕ) → all_own port events ≡ true
 sessions_own sessions.nothing port = refl
 sessions_own (sessions.reset z later) port = rw z (sessions_own later nobody)
+sessions_own (sessions.switched z later) port = rw z (sessions_own later port)
 sessions_own (sessions.deselected {selection} deselection {later} z work y p more) port =
     rw z (work_own (deselection ∷ later) work (rw (y, eq-eqb deselection.port selection.port p) (sessions_own more nobody)))
 sessions_own (sessions.taken_over {selection} {takeover = takeover} {later} z work y other more) port =
@@ -103,9 +107,9 @@ behind : (P : Saying) → ((before : List Event) (told : List Answer) (e : Event
 behind P each before told [] = tt
 behind P each before told (e ∷ events) = (each before told e, behind P each (before ++ (e ∷ [])) (told ++ (Refused 6 ∷ [])) events)
 
-none_over_8 : (events : List Event) → Never11Or10 (refused events)
-none_over_8 [] = tt
-none_over_8 (e ∷ events) = (omega arith, none_over_8 events)
+never_either : (events : List Event) → Never11Or10 (refused events)
+never_either [] = tt
+never_either (e ∷ events) = (λ z. omega arith, λ z. omega arith, never_either events)
 
 idle : (events : List Event) → MeetsDemand3 power_up events (refused events) power_up
 unfolding computing
@@ -121,7 +125,7 @@ idle events =
       cut_short = λ stretch same.
           (demand_3.met power_up.drive.setup power_up.sectors power_up.staging refl refl []).cut_short stretch
           (sym (journal_behind events stretch (answers power_up stretch)) ∙ same ∙ none);
-      never_11_or_10 = none_over_8 events;
+      never_11_or_10 = never_either events;
     }
 
 -- ---- the runs
@@ -129,7 +133,7 @@ idle events =
 abbrev status_at : ℕ → List Answer → ℕ
 status_at i told = or_ffff (paper (get_or told i Done)).status
 
-abbrev refusal_at : ℕ → List Answer → ℕ
+abbrev pub refusal_at : ℕ → List Answer → ℕ
 refusal_at i told = refusal_in (get_or told i Done)
 
 -- a read of the second word, which is zero, does not tell AA
@@ -155,7 +159,7 @@ wrong_runs =
       parts = λ h.
           (h.struck_out, h.whole_sessions, h.last_write_lem, h.whole_writes, h.words_read_lem, h.openings, h.cut_short, h.never_11_or_10);
       idle = idle;
-      refuses_all = λ calls. told_apart 6 0 refl (ap (refusal_at 0) ((demand_3_of_calls.ran calls).answered ∙ never_dead.answered power_up 0 _ _ possible));
+      refuses_all = λ calls. told_apart 6 0 refl (ap (refusal_at 0) ((demand_3_of_calls.ran calls).answered ∙ never_dead.answered power_up 0 _ _ possible refl));
       always_zero = λ h. told_apart 8 0 refl (ap (status_at 1) h.same_answers);
       does_nothing = λ h. told_apart 0 0xAA refl (h.word 1 (omega arith));
       only_the_first_sector = λ h. told_apart 0 0xAA refl (h.word 5 (omega arith));
@@ -172,7 +176,7 @@ wrong_runs =
       never_written = λ h. never_read refl refl (h.1.1.0 0xAA refl);
       stranger_deselects = λ h. false≢true (sessions_own h nobody);
       refusal_moves = λ h. told_apart 0 1 refl (ap (λ (m : Machine). m.drive.place.sector) h.same_end);
-      finds_itself_unsound = λ h. let over : 11 ≤ 8 = h.0 in omega arith;
+      finds_itself_unsound = λ h. h.0 refl;
       bad_position_moves = λ h. told_apart 0 1 refl (ap (λ (m : Machine). m.drive.place.cylinder) h.same_end);
       cut_short_moves = λ h. told_apart 1 0 refl (ap (λ (p : Place). p.cylinder) (h.1.1.1.1.1.1.0 (at_place 1 0 0) refl).follows);
       command_staged = λ h. told_apart 0 1 refl (ap (λ (m : Machine). get_or m.staging 1 0) h.same_end);

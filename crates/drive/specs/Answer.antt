@@ -26,7 +26,7 @@ pub record Paper : Type 0 where
   pub word : Option ℕ
   pub response : Option (List ℕ)
 
--- "A refusal reports its number and nothing else". "Kinds 1, 2 and 10, an opening and a word before the last carry no status."
+-- "A refusal reports its number and nothing else". "Kinds 1, 2 and 10, an opening and a word before the last carry no status." M-105, of kind 11: "its answer carries no status".
 -- "The answer that opens a transfer tells the number of words to come and the place." "Take answers the next word."
 -- "The response is 8 octets .. All else 0." "Read status answers 0 with the octets".
 unfoldable pub paper : Answer → Paper

@@ -26,7 +26,7 @@ pub record Holds (c : CommandCase) : Type 0 where
   pub answered : answers (bench_with (zeros 4)) c.events ≡ c.answers
   pub ended : final (bench_with (zeros 4)) c.events ≡ machine c.end (zeros 48) (zeros 4)
 
-abbrev reset : ℕ → Event
+abbrev pub reset : ℕ → Event
 reset port = event port 10 0 0
 
 -- Load Drive Function, with this function code in both octets.

@@ -5,7 +5,7 @@ use Rattle.parts.specs.Setup.{is_place, is_target}
 use Rattle.parts.specs.Command.{load_drive_function, load_position, read_status, function_in}
 use Rattle.parts.specs.Control.{is_data}
 use Rattle.parts.specs.Holding.{at_least_plain, with_hold}
-use Rattle.parts.specs.Kind.{Kind, Select, Deselect, Use, Reset, Unknown, Work, DataControl, WordFromHost, TakeWord, End, Position, Target, ReadStatus, kind_of, word_of}
+use Rattle.parts.specs.Kind.{Kind, Select, Deselect, Use, Reset, Switch, Unknown, Work, DataControl, WordFromHost, TakeWord, End, Position, Target, ReadStatus, kind_of, word_of}
 use Rattle.parts.specs.Tests.{transferring}
 use Rattle.parts.specs.declared.command.Function.{Function}
 use Rattle.parts.specs.declared.command.Function.TheVariants.{PriorityReserve, Reserve, Release, NoOperation, Recalibrate, ActsOnMore, NotListed}
@@ -14,7 +14,7 @@ use Rattle.parts.specs.declared.holding.Hold.TheVariants.{None, Strong}
 use Rattle.parts.specs.declared.setup.Place.{Place}
 use Rattle.parts.specs.declared.event.Event.{Event}
 use Rattle.drive.specs.Answer.{normal}
-use Rattle.drive.specs.State.{with_transfer, pending_on}
+use Rattle.drive.specs.State.{with_transfer, pending_on, with_switches}
 use Rattle.drive.specs.Drive.{selected, after_reset, closed}
 use Rattle.drive.specs.Request.{octet2_cleared}
 use Rattle.drive.specs.Command.{status_told}
@@ -86,15 +86,16 @@ cut_alone Select e d = selected d e.port e.a0
 cut_alone Reset e d = after_reset d
 cut_alone (Use work) e d = closed d
 cut_alone Deselect e d = d
+cut_alone Switch e d = d
 cut_alone Unknown e d = d
 
 -- "a command cut short has no effect beyond its opening", and neither has a response: one opened with n words to come, fewer were sent or taken, and End, a
--- takeover or a reset came.
+-- takeover or a reset came. Switch events between its words are not its own: the switches are as they stand at the cut.
 abbrev pub CommandCutShort : Type 0
 CommandCutShort =
     (m : Machine) (opening cut : Event) (n k : ℕ) (place : Place) (way : Work) (words : List Event) → is_data opening.a0 ≡ false
     → answer_to m opening ≡ Opened n place → (way ≡ WordFromHost) ⊎ (way ≡ TakeWord) → Words way (after m opening) words k → k < n → let short = final (after m opening) words in
-    Cuts short cut → (after short cut).drive ≡ cut_alone (kind_of cut.kind) cut (as_opened opening m.drive)
+    Cuts short cut → (after short cut).drive ≡ cut_alone (kind_of cut.kind) cut (with_switches (as_opened opening m.drive) short.drive.switches)
 
 -- ---- `status_by_44` and `position_by_07`
 

@@ -1,7 +1,7 @@
 -- "A write cut short at any word writes nothing", said of the machine itself, from any state.
 use Rattle.std.specs.Prelude.{ℕ, zero, suc, ◌<◌, ◌≡◌, Bool, true, false, List, [], ◌∷◌}
 use Rattle.parts.specs.Control.{control_of, is_write}
-use Rattle.parts.specs.Kind.{Select, Use, Reset, Work, WordFromHost, End}
+use Rattle.parts.specs.Kind.{Select, Use, Reset, Switch, Work, WordFromHost, End}
 use Rattle.parts.specs.declared.setup.Place.{Place}
 use Rattle.parts.specs.declared.event.Event.{Event}
 use Rattle.drive.specs.Accepted.{is_refused}
@@ -20,10 +20,11 @@ opens_write e (Word word) = false
 opens_write e (LastWord word) = false
 opens_write e (Response octet0 octet1 octet2) = false
 
--- So many words passed one after another this way, from the host or to it, with any refused events between them.
+-- So many words passed one after another this way, from the host or to it, with any refused and any switch events between them.
 pub data Words (way : Work) : Machine → List Event → ℕ → Type 0 where
   none : {m : Machine} → Words way m [] zero
   refused : {m : Machine} {e : Event} {events : List Event} {k : ℕ} → is_refused (answer_to m e) ≡ true → Words way (after m e) events k → Words way m (e ∷ events) k
+  switched : {m : Machine} {e : Event} {events : List Event} {k : ℕ} → Is Switch e → Words way (after m e) events k → Words way m (e ∷ events) k
   word : {m : Machine} {e : Event} {events : List Event} {k : ℕ} → is_refused (answer_to m e) ≡ false → Is (Use way) e → Words way (after m e) events k
       → Words way m (e ∷ events) (suc k)
 

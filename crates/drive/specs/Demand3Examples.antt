@@ -146,6 +146,18 @@ taken_over_between =
       sectors = (7 ∷ 0xAA ∷ 0xBB ∷ 5 ∷ []) ++ blank 8 ++ (8 ∷ 1 ∷ 2 ∷ 3 ∷ []) ++ blank 2;
     }
 
+-- Both ports are switched in the middle of a write, which goes on and completes. Its port is disabled by the deselection, and then refused.
+abbrev pub switched_half_way : Example
+switched_half_way =
+    record {
+      stored = stored;
+      events =
+          sent 0 1 0x3000 ∷ sent 0 3 0x8500 ∷ sent 0 4 7 ∷ sent 1 11 0 ∷ sent 0 4 0xAA ∷ sent 0 11 0 ∷ sent 0 4 0xBB ∷ sent 0 2 0
+          ∷ sent 0 1 0x3000 ∷ [];
+      journal = write 0x85 0 0 0 (7 ∷ 0xAA ∷ 0xBB ∷ []) ∷ [];
+      sectors = (7 ∷ 0xAA ∷ 0xBB ∷ 5 ∷ []) ++ blank 11;
+    }
+
 pub record Demand3Examples : Type 0 where
   pub completes : Shown completes
   pub taken_over_half_way : Shown taken_over_half_way
@@ -156,3 +168,4 @@ pub record Demand3Examples : Type 0 where
   pub last_sector : Shown last_sector
   pub at_target : Shown at_target
   pub taken_over_between : Shown taken_over_between
+  pub switched_half_way : Shown switched_half_way

@@ -1,10 +1,11 @@
--- What changes the drive's state: selection, deselection and reset ("Who holds the drive"), holds by command, and the moves of its position.
-use Rattle.std.specs.Prelude.{ℕ}
+-- What changes the drive's state: selection, deselection and reset ("Who holds the drive"), port switches, holds by command, and the moves of its position.
+use Rattle.std.specs.Prelude.{ℕ, eqb}
 use Rattle.laws.specs.Pick.{pick}
 use Rattle.parts.specs.Setup.{no_target, following}
 use Rattle.parts.specs.Holding.{is_owned_by_other, granted_to, released, free, at_least_plain, with_hold}
+use Rattle.parts.specs.Switches.{wishes, disabled, enabled, wishing, switch_of, with_switch}
 use Rattle.parts.specs.Pending.{reset_complete, pending_of, noticed}
-use Rattle.drive.specs.State.{at_place, with_holding, with_place, with_transfer, pending_on, posted_on}
+use Rattle.drive.specs.State.{at_place, with_holding, with_place, with_transfer, with_switches, pending_on, posted_on}
 use Rattle.parts.specs.Tests.{no_transfer}
 use Rattle.parts.specs.declared.holding.Hold.TheVariants.{None, Strong}
 use Rattle.drive.specs.declared.drive.Drive.{Drive}
@@ -15,16 +16,33 @@ owner_noticed d port =
     let owner = d.holding.owner in
     pick (is_owned_by_other d.holding port) (posted_on d owner (noticed (pending_on d owner))) d
 
--- "A grant over another owner is a takeover: its selection, hold and open transfer are gone". The selection and the hold are the asker's; where there
--- is nothing to take over, no transfer is open.
-unfoldable pub selected : Drive → ℕ → ℕ → Drive
-selected d port octet = with_transfer (with_holding (owner_noticed d port) (granted_to port octet)) no_transfer
+-- M-105: "Its hold, if any, goes when it is disabled."
+unfoldable pub disabled_on : Drive → ℕ → Drive
+disabled_on d port =
+    with_holding (with_switches d (with_switch d.switches port disabled)) (pick (eqb d.holding.owner port) free d.holding)
 
--- "Deselect frees the drive if the hold is none; otherwise the port still owns it."
+-- "a selected one when its session ends by any cause": the session of a port has ended, and its wish is granted. Nobody has one.
+unfoldable pub wish_granted : Drive → ℕ → Drive
+wish_granted d port = pick (wishes (switch_of d.switches port)) (disabled_on d port) d
+
+-- "A grant over another owner is a takeover: its selection, hold and open transfer are gone". The selection and the hold are the asker's; where there
+-- is nothing to take over, no transfer is open. A session that it ends has its wish granted.
+unfoldable pub selected : Drive → ℕ → ℕ → Drive
+selected d port octet =
+    with_transfer (with_holding (wish_granted (owner_noticed d port) d.holding.selected) (granted_to port octet)) no_transfer
+
+-- "Deselect frees the drive if the hold is none; otherwise the port still owns it." M-105: unless it wished to be disabled.
 unfoldable pub deselected : Drive → Drive
-deselected d = with_holding d (released d.holding)
+deselected d = wish_granted (with_holding d (released d.holding)) d.holding.selected
+
+-- M-105, kind 11: "1 enable or 0 disable". "Enabling drops the wish. An unselected port is disabled at once", a selected one wishes it.
+unfoldable pub switched : Drive → ℕ → ℕ → Drive
+switched d port octet =
+    pick (eqb octet 1) (with_switches d (with_switch d.switches port enabled))
+    (pick (eqb d.holding.selected port) (with_switches d (with_switch d.switches port wishing)) (disabled_on d port))
 
 -- "Reset, from either port: nobody selected, no hold, no transfer, position 0/0/0, target FFFF, and exactly Reset Complete pending on both ports."
+-- M-105: "Reset leaves both switches, but grants the wish of a session it ends."
 unfoldable pub after_reset : Drive → Drive
 after_reset d =
     record {
@@ -35,6 +53,7 @@ after_reset d =
       transfer = no_transfer;
       pending0 = pending_of reset_complete 0;
       pending1 = pending_of reset_complete 0;
+      switches = (wish_granted d d.holding.selected).switches;
     }
 
 -- "Reserve by the selected port makes at least a plain hold, Release by that port makes the hold none, and Priority Reserve makes it strong."

@@ -3,9 +3,9 @@ use Rattle.std.specs.Prelude.{ℕ, ◌≡◌, List}
 use Rattle.laws.specs.Rows.{unless_refused}
 use Rattle.drive.specs.Answer.{normal, paper, Says}
 use Rattle.drive.specs.State.{told, Result, result}
-use Rattle.parts.specs.Kind.{Kind, Select, Deselect, Use, Reset, Unknown, DataControl, WordFromHost, TakeWord, End, Position, Target, ReadStatus, kind_of, word_of, place_of}
+use Rattle.parts.specs.Kind.{Kind, Select, Deselect, Use, Reset, Switch, Unknown, DataControl, WordFromHost, TakeWord, End, Position, Target, ReadStatus, kind_of, word_of, place_of}
 use Rattle.drive.specs.Refusal.{refusal_of}
-use Rattle.drive.specs.Drive.{selected, deselected, after_reset}
+use Rattle.drive.specs.Drive.{selected, deselected, after_reset, switched}
 use Rattle.drive.specs.Request.{data_control, positioned, targeted, status_read}
 use Rattle.drive.specs.Command.{word_from_host, word_to_host, ended_early}
 use Rattle.drive.specs.declared.drive.Drive.{Drive}
@@ -17,6 +17,7 @@ abbrev pub act : Kind → Drive → Event → List ℕ → List ℕ → Result
 act Select d e sectors staging = result (told Done (selected d e.port e.a0)) sectors staging
 act Deselect d e sectors staging = result (told Done (deselected d)) sectors staging
 act Reset d e sectors staging = result (told Done (after_reset d)) sectors staging
+act Switch d e sectors staging = result (told Done (switched d e.port e.a0)) sectors staging
 act (Use DataControl) d e sectors staging = result (data_control d e.port e.a0) sectors staging
 act (Use WordFromHost) d e sectors staging = word_from_host d e.port (word_of e) sectors staging
 act (Use TakeWord) d e sectors staging = result (word_to_host d e.port sectors) sectors staging

@@ -1,7 +1,7 @@
 -- Demand 1: "Every event on either port, from any caller with any arguments, gets one of the answers in document 01."
 use Rattle.std.specs.Prelude.{ℕ, ◌≡◌, true, List, [], ◌∷◌}
 use Rattle.laws.specs.Lists.{one_of}
-use Rattle.parts.specs.Kind.{Kind, Select, Deselect, Use, Reset, DataControl, WordFromHost, TakeWord, End, Position, Target, ReadStatus, kind_of}
+use Rattle.parts.specs.Kind.{Kind, Select, Deselect, Use, Reset, Switch, DataControl, WordFromHost, TakeWord, End, Position, Target, ReadStatus, kind_of}
 use Rattle.parts.specs.declared.setup.Place.{Place}
 use Rattle.parts.specs.declared.event.Event.{Event}
 use Rattle.drive.specs.Event.{handled}
@@ -15,10 +15,11 @@ request_statuses = 0 ∷ 8 ∷ 0xC ∷ []
 
 -- The answers to an accepted event, by its kind.
 pub data Accepted : Kind → Answer → Type 0 where
-  -- "Kinds 1, 2 and 10 .. carry no status."
+  -- "Kinds 1, 2 and 10 .. carry no status." M-105, of kind 11: "its answer carries no status".
   selected : Accepted Select Done
   deselected : Accepted Deselect Done
   reset : Accepted Reset Done
+  switched : Accepted Switch Done
   -- "The answer that opens a transfer tells the number of words to come and the place."
   opened : {words : ℕ} {place : Place} → Accepted (Use DataControl) (Opened words place)
   controlled : {status : ℕ} → one_of request_statuses status ≡ true → Accepted (Use DataControl) (Status status)
@@ -40,7 +41,7 @@ pub data Accepted : Kind → Answer → Type 0 where
 
 -- The numbers of the table that an event can be refused with.
 abbrev pub refusal_numbers : List ℕ
-refusal_numbers = 1 ∷ 2 ∷ 3 ∷ 4 ∷ 5 ∷ 6 ∷ 7 ∷ 8 ∷ 10 ∷ 11 ∷ []
+refusal_numbers = 1 ∷ 2 ∷ 3 ∷ 4 ∷ 5 ∷ 6 ∷ 7 ∷ 8 ∷ 10 ∷ 11 ∷ 15 ∷ []
 
 pub data Listed (k : Kind) : Answer → Type 0 where
   refused : {n : ℕ} → one_of refusal_numbers n ≡ true → Listed k (Refused n)

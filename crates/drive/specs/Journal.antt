@@ -5,7 +5,7 @@ use Rattle.laws.specs.Pick.{pick}
 use Rattle.parts.specs.Setup.{sector_start, is_place}
 use Rattle.parts.specs.Control.{control_of, is_write, words_to_come}
 use Rattle.drive.specs.Answer.{Paper, paper, normal}
-use Rattle.parts.specs.Kind.{Kind, Select, Deselect, Use, Reset, Unknown, DataControl, WordFromHost, TakeWord, End, Position, Target, ReadStatus, kind_of, word_of}
+use Rattle.parts.specs.Kind.{Kind, Select, Deselect, Use, Reset, Switch, Unknown, DataControl, WordFromHost, TakeWord, End, Position, Target, ReadStatus, kind_of, word_of}
 use Rattle.drive.specs.Accepted.{is_refused}
 use Rattle.drive.specs.Frame.{word_written}
 use Rattle.parts.specs.declared.setup.Setup.{Setup}
@@ -41,7 +41,8 @@ grown word status none = page none []
 grown word none (some write) = page (some (with_word write word)) []
 grown word (some status) (some write) = page none (pick (eqb status normal) (with_word write word ∷ []) [])
 
--- An accepted event with its answer: a selection, a deselection, End and reset end a write without completing it.
+-- An accepted event with its answer: a selection, a deselection, End and reset end a write without completing it. A port switch
+-- leaves it going.
 abbrev pub noted : Kind → Event → Paper → Option Write → Page
 noted Select e told going = page none []
 noted Deselect e told going = page none []
@@ -53,6 +54,7 @@ noted (Use TakeWord) e told going = page going []
 noted (Use Position) e told going = page going []
 noted (Use Target) e told going = page going []
 noted (Use ReadStatus) e told going = page going []
+noted Switch e told going = page going []
 noted Unknown e told going = page going []
 
 -- The page after any event and its answer. "A refusal .. changes nothing."

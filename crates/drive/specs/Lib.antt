@@ -28,11 +28,14 @@ pub mod Demand3
 pub mod Calls
 pub mod Demand3Examples
 pub mod NeverDead
+pub mod PortSwitch
 pub mod CommandCases
 pub mod Commands
 pub mod Ignored
 pub mod IgnoredCases
+pub mod SwitchCases
 pub mod WrongAnswers
 pub mod WrongRuns
+pub mod WrongSwitchRuns
 -- what the private functions of `events` go by: nothing that a reader of the rules needs
 pub mod Able

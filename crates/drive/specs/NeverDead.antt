@@ -1,6 +1,7 @@
 -- `never_dead`: "Striking out refused events is also true of an idle drive". A drive that refuses all satisfies the shape of demand 3; this it does not.
 use Rattle.std.specs.Prelude.{ℕ, ◌-◌, ◌*◌, ◌/◌, ◌%◌, ◌≤◌, ◌≡◌, true, List, [], ◌∷◌, ◌++◌, map, length, replicate}
 use Rattle.parts.specs.Setup.{sector_words, sector_at, is_place}
+use Rattle.parts.specs.Switches.{enabled, switch_of}
 use Rattle.parts.specs.Pending.{reset_complete}
 use Rattle.parts.specs.declared.setup.Setup.{Setup}
 use Rattle.parts.specs.declared.setup.Place.{Place}
@@ -40,7 +41,11 @@ whole_sector_written port address p words =
     ∷ sent port 3 whole_sector 0
     ∷ map (word_sent port) words
 
--- What they are answered: done, granted, Reset Complete and nothing else, 0, the words to come and the place, "more" at each word but the last, and 0.
+-- The same of a port that may be disabled: it is enabled first.
+unfoldable pub enabled_and_written : ℕ → ℕ → Place → List ℕ → List Event
+enabled_and_written port address p words = sent port 11 1 0 ∷ whole_sector_written port address p words
+
+-- What those are answered: done, granted, Reset Complete and nothing else, 0, the words to come and the place, "more" at each word but the last, and 0.
 unfoldable pub its_answers : Setup → Place → List Answer
 its_answers s p =
     Done
@@ -57,10 +62,19 @@ pub record Possible (m : Machine) (port : ℕ) (p : Place) (words : List ℕ) : 
   pub inside : is_place m.drive.setup p ≡ true
   pub whole : length words ≡ sector_words m.drive.setup
 
+-- The port is enabled and wishes nothing, as both are from power-up on while no switch event comes.
+abbrev pub IsEnabled : Machine → ℕ → Type 0
+IsEnabled m port = switch_of m.drive.switches port ≡ enabled
+
 pub record NeverDead : Type 0 where
   -- None of these events is refused: the answers are exactly those,
-  pub answered : (m : Machine) (port : ℕ) (p : Place) (words : List ℕ) → Possible m port p words
+  pub answered : (m : Machine) (port : ℕ) (p : Place) (words : List ℕ) → Possible m port p words → IsEnabled m port
       → answers m (whole_sector_written port m.drive.setup.address p words) ≡ its_answers m.drive.setup p
   -- and then the sector at that place is these words.
-  pub written : (m : Machine) (port : ℕ) (p : Place) (words : List ℕ) → Possible m port p words
+  pub written : (m : Machine) (port : ℕ) (p : Place) (words : List ℕ) → Possible m port p words → IsEnabled m port
       → sector_at m.drive.setup p (final m (whole_sector_written port m.drive.setup.address p words)).sectors ≡ words
+  -- A port that enables itself first needs no premise, whatever its switch is.
+  pub answered_first : (m : Machine) (port : ℕ) (p : Place) (words : List ℕ) → Possible m port p words
+      → answers m (enabled_and_written port m.drive.setup.address p words) ≡ Done ∷ its_answers m.drive.setup p
+  pub written_first : (m : Machine) (port : ℕ) (p : Place) (words : List ℕ) → Possible m port p words
+      → sector_at m.drive.setup p (final m (enabled_and_written port m.drive.setup.address p words)).sectors ≡ words

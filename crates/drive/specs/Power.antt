@@ -5,6 +5,7 @@ use Rattle.laws.specs.Rows.{Row, first, ◌when◌, unless_refused}
 use Rattle.parts.specs.Setup.{within_limits, no_target}
 use Rattle.parts.specs.Holding.{free}
 use Rattle.parts.specs.Pending.{nothing_pending}
+use Rattle.parts.specs.Switches.{both_enabled}
 use Rattle.drive.specs.State.{at_place}
 use Rattle.parts.specs.Tests.{no_transfer}
 use Rattle.drive.specs.Refusal.{row10}
@@ -14,6 +15,7 @@ use Rattle.drive.specs.declared.power.Powered.{Powered}
 use Rattle.drive.specs.declared.power.Powered.TheVariants.{Up, Refused}
 
 -- "Power-up: nobody selected, no hold, position 0/0/0, target FFFF hex .., nothing pending; the lent words stay as found."
+-- M-105: "enabled (both at power-up) and a wish to disable (none)".
 abbrev pub at_rest : Setup → Drive
 at_rest s =
     record {
@@ -24,6 +26,7 @@ at_rest s =
       transfer = no_transfer;
       pending0 = nothing_pending;
       pending1 = nothing_pending;
+      switches = both_enabled;
     }
 
 -- "Power-up tests 9, then 10, and a refused power-up hands back no drive." 9: "a number outside its limits".

@@ -1,10 +1,11 @@
 -- "Events and refusals": the rows by their numbers, and the order in which they are tested.
 use Rattle.std.specs.Prelude.{ℕ, Bool, not, ◌||◌, List, [], ◌∷◌, ltb, eqb, length}
 use Rattle.laws.specs.Rows.{Row, first, ◌when◌}
-use Rattle.parts.specs.Tests.{is_taking, is_giving, is_outside_limits, is_disowned, is_broken_transfer, has_stray_bit, is_misaddressed, changes_mode}
+use Rattle.parts.specs.Tests.{is_taking, is_giving, is_outside_limits, is_disowned, is_broken_transfer, has_stray_bit, is_misswitched, is_misaddressed, changes_mode}
 use Rattle.parts.specs.Setup.{sector_words, all_words, is_place, is_target}
 use Rattle.parts.specs.Holding.{is_busy}
-use Rattle.parts.specs.Kind.{Kind, Select, Deselect, Use, Reset, Unknown, Work, DataControl, WordFromHost, TakeWord, End, Position, Target, ReadStatus, uses_only_its_own}
+use Rattle.parts.specs.Switches.{is_enabled, switch_of}
+use Rattle.parts.specs.Kind.{Kind, Select, Deselect, Use, Reset, Switch, Unknown, Work, DataControl, WordFromHost, TakeWord, End, Position, Target, ReadStatus, uses_only_its_own}
 use Rattle.parts.specs.declared.setup.Setup.{Setup}
 use Rattle.drive.specs.declared.drive.Drive.{Drive}
 use Rattle.parts.specs.declared.event.Event.{Event}
@@ -13,7 +14,7 @@ use Rattle.parts.specs.declared.event.Event.{Event}
 
 -- "state handed in with a number outside its limits or a position or target outside the drive; a port selected, a hold or a transfer without
 -- that port as owner; an owner neither selected nor holding; a transfer open with nobody selected, with a control that opens none, or with all
--- its words moved or more; a pending bit the base never sets"
+-- its words moved or more; a pending bit the base never sets". M-105: "also .. a disabled port that is selected or holds".
 unfoldable pub row11 : Drive → Bool
 row11 d =
     is_outside_limits d.setup d.holding
@@ -23,6 +24,7 @@ row11 d =
     || is_broken_transfer d.setup d.holding d.transfer
     || has_stray_bit d.pending0
     || has_stray_bit d.pending1
+    || is_misswitched d.switches d.holding
 
 -- "The sector slice must hold every sector; staging must hold one sector."
 unfoldable pub row10 : Setup → List ℕ → List ℕ → Bool
@@ -32,9 +34,17 @@ row10 s sectors staging = ltb (length sectors) (all_words s) || ltb (length stag
 abbrev pub row1 : Event → Bool
 row1 e = ltb 1 e.port
 
--- "event: kind not 1 to 10 or an unused argument octet not zero"
+-- "event: kind not 1 to 10 or an unused argument octet not zero"; M-105: "kinds 1 to 11".
 abbrev pub row8 : Kind → Event → Bool
 row8 k e = not (uses_only_its_own k e)
+
+-- M-105: "and covers any other octet" of kind 11 than 1 and 0.
+abbrev pub row8_of_switch : Event → Bool
+row8_of_switch e = ltb 1 e.a0
+
+-- M-105: "A disabled port's Select is refused with 15".
+abbrev pub row15 : Drive → Event → Bool
+row15 d e = not (is_enabled (switch_of d.switches e.port))
 
 -- "Select, port already selected"
 abbrev pub row3 : Drive → Event → Bool
@@ -72,12 +82,14 @@ row7 ReadStatus d = is_one_open d
 
 -- ---- the order
 
--- "then Select 3, 4, 5, 6; others 2, then 7. Reset is never refused after 8."
+-- "then Select 3, 4, 5, 6; others 2, then 7. Reset is never refused after 8." M-105: 15 is "tested after 1 and 8 and before 3", and kind 11 "is refused
+-- only by 11, 10, 1 and 8".
 abbrev pub rows_of : Kind → Drive → Event → List Row
-rows_of Select d e = 3 when row3 d e ∷ 4 when row4 d e ∷ 5 when row5 e ∷ 6 when row6 d e ∷ []
+rows_of Select d e = 15 when row15 d e ∷ 3 when row3 d e ∷ 4 when row4 d e ∷ 5 when row5 e ∷ 6 when row6 d e ∷ []
 rows_of Deselect d e = 2 when row2 d e ∷ 7 when is_one_open d ∷ []
 rows_of (Use work) d e = 2 when row2 d e ∷ 7 when row7 work d ∷ []
 rows_of Reset d e = []
+rows_of Switch d e = 8 when row8_of_switch e ∷ []
 rows_of Unknown d e = []
 
 -- "Events test 11, 10, 1, 8; then" those of the kind.

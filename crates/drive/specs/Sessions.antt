@@ -1,22 +1,25 @@
 -- "A session is a granted selection and that port's accepted events up to its deselection, a takeover or a reset; a reset is a session of its own."
 -- The events here are those that were not refused.
 use Rattle.std.specs.Prelude.{ℕ, ◌≡◌, List, [], ◌∷◌, ◌++◌}
-use Rattle.parts.specs.Kind.{Kind, Select, Deselect, Use, Reset, Work, kind_of}
+use Rattle.parts.specs.Kind.{Kind, Select, Deselect, Use, Reset, Switch, Work, kind_of}
 use Rattle.parts.specs.declared.event.Event.{Event}
 
 abbrev pub Is : Kind → Event → Type 0
 Is kind e = kind_of e.kind ≡ kind
 
--- "that port's accepted events": kinds 3 to 9.
+-- "that port's accepted events": kinds 3 to 9. M-105: and "a switch event, from either port, as an event of the running session where a port is selected".
 pub data Works (port : ℕ) : List Event → Type 0 where
   none : Works port []
   one : {e : Event} {more : List Event} (work : Work) → Is (Use work) e → e.port ≡ port → Works port more → Works port (e ∷ more)
+  switch : {e : Event} {more : List Event} → Is Switch e → Works port more → Works port (e ∷ more)
 
 -- "whole sessions, one after another, the last perhaps still open"
 pub data Sessions : List Event → Type 0 where
   nothing : Sessions []
   -- "a reset is a session of its own"
   reset : {e : Event} {later : List Event} → Is Reset e → Sessions later → Sessions (e ∷ later)
+  -- M-105: a switch event is "a session of its own where none is"
+  switched : {e : Event} {later : List Event} → Is Switch e → Sessions later → Sessions (e ∷ later)
   -- "up to its deselection"
   deselected : {selection : Event} {work : List Event} (deselection : Event) {later : List Event} → Is Select selection → Works selection.port work
       → Is Deselect deselection → deselection.port ≡ selection.port → Sessions later → Sessions (selection ∷ work ++ deselection ∷ later)

@@ -6,7 +6,7 @@ use Rattle.parts.specs.Setup.{no_target, following, is_place}
 use Rattle.parts.specs.Command.{load_drive_function, function_in}
 use Rattle.parts.specs.Control.{control_of, is_data, is_at_target, words_to_come}
 use Rattle.parts.specs.Tests.{transferring, moved_on, no_transfer}
-use Rattle.parts.specs.Kind.{Kind, Select, Deselect, Use, Reset, Unknown, DataControl, WordFromHost, TakeWord, End, Position, Target, ReadStatus, kind_of, word_of, place_of}
+use Rattle.parts.specs.Kind.{Kind, Select, Deselect, Use, Reset, Switch, Unknown, DataControl, WordFromHost, TakeWord, End, Position, Target, ReadStatus, kind_of, word_of, place_of}
 use Rattle.parts.specs.declared.control.Control.{Control}
 use Rattle.parts.specs.declared.control.Control.TheVariants.{Write, Read, Command, Response, StepHead, Reserved, Unsupported, Invalid}
 use Rattle.parts.specs.declared.command.Function.{Function}
@@ -110,6 +110,7 @@ stands (Use End) s e told w = finished s w
 stands (Use Position) s e told w = pick (is_normal told.status) (standing (place_of e) w.target w.transfer) w
 stands (Use Target) s e told w = pick (is_normal told.status) (standing w.place (word_of e) w.transfer) w
 stands (Use ReadStatus) s e told w = w
+stands Switch s e told w = w
 stands Unknown s e told w = w
 
 -- "A refusal .. changes nothing."

@@ -4,6 +4,7 @@ use Rattle.laws.specs.Pick.{pick}
 use Rattle.parts.specs.declared.setup.Place.{Place}
 use Rattle.parts.specs.declared.holding.Holding.{Holding}
 use Rattle.parts.specs.declared.pending.Pending.{Pending}
+use Rattle.parts.specs.declared.switches.Switches.{Switches}
 use Rattle.parts.specs.declared.transfer.Transfer.{Transfer}
 use Rattle.drive.specs.declared.drive.Drive.{Drive}
 use Rattle.drive.specs.declared.answer.Answer.{Answer}
@@ -22,6 +23,7 @@ with_holding d h =
       transfer = d.transfer;
       pending0 = d.pending0;
       pending1 = d.pending1;
+      switches = d.switches;
     }
 
 abbrev pub with_place : Drive → Place → Drive
@@ -34,6 +36,7 @@ with_place d p =
       transfer = d.transfer;
       pending0 = d.pending0;
       pending1 = d.pending1;
+      switches = d.switches;
     }
 
 abbrev pub with_target : Drive → ℕ → Drive
@@ -46,6 +49,7 @@ with_target d target =
       transfer = d.transfer;
       pending0 = d.pending0;
       pending1 = d.pending1;
+      switches = d.switches;
     }
 
 abbrev pub with_transfer : Drive → Transfer → Drive
@@ -58,6 +62,7 @@ with_transfer d t =
       transfer = t;
       pending0 = d.pending0;
       pending1 = d.pending1;
+      switches = d.switches;
     }
 
 abbrev pub with_pending : Drive → Pending → Pending → Drive
@@ -70,6 +75,20 @@ with_pending d p q =
       transfer = d.transfer;
       pending0 = p;
       pending1 = q;
+      switches = d.switches;
+    }
+
+abbrev pub with_switches : Drive → Switches → Drive
+with_switches d w =
+    record {
+      setup = d.setup;
+      holding = d.holding;
+      place = d.place;
+      target = d.target;
+      transfer = d.transfer;
+      pending0 = d.pending0;
+      pending1 = d.pending1;
+      switches = w;
     }
 
 -- What is pending on a port, and the drive with that replaced.

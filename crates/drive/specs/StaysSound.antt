@@ -1,5 +1,5 @@
 -- `stays_sound`: from a sound drive with slices long enough no event leads out, so that a run from power-up never meets 11 or 10.
-use Rattle.std.specs.Prelude.{ℕ, ◌≤◌, ◌≡◌, true, false, List, [], ◌∷◌, length}
+use Rattle.std.specs.Prelude.{ℕ, ◌≡◌, true, false, List, [], ◌∷◌, length}
 use Rattle.parts.specs.Setup.{within_limits}
 use Rattle.drive.specs.Answer.{refusal_in}
 use Rattle.drive.specs.Refusal.{row10}
@@ -19,10 +19,9 @@ pub record SameSize (m n : Machine) : Type 0 where
   pub sectors : length n.sectors ≡ length m.sectors
   pub staging : length n.staging ≡ length m.staging
 
--- Of the numbers that an event can be refused with, 11 and 10 are those over 8.
 abbrev pub Never11Or10 : List Answer → Type 0
 Never11Or10 [] = Unit
-Never11Or10 (answer ∷ told) = (refusal_in answer ≤ 8) × Never11Or10 told
+Never11Or10 (answer ∷ told) = (refusal_in answer ≡ 11 → ⊥) × (refusal_in answer ≡ 10 → ⊥) × Never11Or10 told
 
 pub record StaysSound : Type 0 where
   -- From a sound drive with slices long enough no event leads out.

@@ -59,7 +59,7 @@ abbrev pub NeverUnsound : Machine → List Event → List Answer → Machine →
 NeverUnsound start events told end = Never11Or10 told
 
 -- A port is selected without a hold, the position is this sector of track 0/0, this transfer is open; the first sector's words, and the staging.
-abbrev left : ℕ → ℕ → Transfer → List ℕ → List ℕ → Machine
+abbrev pub left : ℕ → ℕ → Transfer → List ℕ → List ℕ → Machine
 left port sector transfer first staging =
     machine (with_transfer (with_place (selected_by port None) (at_place 0 0 sector)) transfer) (first ++ replicate 44 0) staging
 
@@ -70,16 +70,16 @@ owing m p q = machine (with_pending m.drive p q) m.sectors m.staging
 abbrev noticed : Machine → Machine
 noticed m = owing m (pending_of alternate_port_priority_select 0) nothing_pending
 
-abbrev untouched : List ℕ
+abbrev pub untouched : List ℕ
 untouched = 7 ∷ 0 ∷ 0 ∷ 0 ∷ []
 
-abbrev half : List ℕ
+abbrev pub half : List ℕ
 half = 7 ∷ 0xAA ∷ 0 ∷ 0 ∷ []
 
-abbrev whole : List ℕ
+abbrev pub whole : List ℕ
 whole = 7 ∷ 0xAA ∷ 0xBB ∷ 0 ∷ []
 
-abbrev zeros : List ℕ
+abbrev pub zeros : List ℕ
 zeros = replicate 4 0
 
 -- "a drive that refuses all"

@@ -6,7 +6,7 @@ use parts::Place;
 pub enum Answer {
     // The number of the refusal: nothing changed.
     Refused(u8),
-    // Kinds 1, 2 and 10, and a word of a write before its last.
+    // Kinds 1, 2, 10 and 11, and a word of a write before its last.
     Done,
     // The drive status octet.
     Status(u8),

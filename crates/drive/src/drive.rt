@@ -1,11 +1,11 @@
 // The drive's state, by value, and what changes it: selection, deselection, reset and holds by command hand the new state back.
-ghost use Rattle.std.specs.Prelude.{◌≡◌};
+ghost use Rattle.std.specs.Prelude.{◌≡◌, eqb};
 ghost use Rattle.laws.specs.Pick.{pick};
-ghost use Rattle.parts.specs.Holding.{at_least_plain, with_hold};
+ghost use Rattle.parts.specs.Holding.{free, at_least_plain, with_hold};
 ghost use Rattle.drive.specs.State.{with_holding, posted_on};
-ghost use Rattle.drive.specs.Drive.{owner_noticed, selected, deselected, after_reset, reserved, priority_reserved, unreserved};
+ghost use Rattle.drive.specs.Drive.{owner_noticed, disabled_on, wish_granted, selected, deselected, after_reset, reserved, priority_reserved, unreserved};
 
-use parts::{Hold, Holding, Pending, Place, Setup, Transfer};
+use parts::{Hold, Holding, Pending, Place, Setup, Switches, Transfer};
 
 #[derive(Drop)]
 pub struct Drive {
@@ -16,6 +16,7 @@ pub struct Drive {
     pub transfer: Transfer,
     pub pending0: Pending,
     pub pending1: Pending,
+    pub switches: Switches,
 }
 
 impl Drive {
@@ -36,9 +37,11 @@ impl Drive {
     pub fn select(self, port: u16, octet: u8) -> Drive
         ensures { result ≡ selected self port octet }
     {
+        let h = self.holding;
         let granted = parts::granted_to(port, octet);
         let none = parts::no_transfer();
-        let mut d = self.owner_noticed(port);
+        let told = self.owner_noticed(port);
+        let mut d = told.wish_granted(h.selected);
         d.holding = granted;
         d.transfer = none;
         d
@@ -51,13 +54,16 @@ impl Drive {
         let left = h.released();
         let mut d = self;
         d.holding = left;
-        d
+        d.wish_granted(h.selected)
     }
 
     pub fn reset(self) -> Drive
         ensures { result ≡ after_reset self }
     {
         let s = self.setup;
+        let h = self.holding;
+        let left = self.wish_granted(h.selected);
+        let switches = left.switches;
         Drive {
             setup: s,
             holding: parts::no_holding(),
@@ -76,6 +82,7 @@ impl Drive {
                 octet1: parts::RESET_COMPLETE,
                 octet2: 0,
             },
+            switches,
         }
     }
 
@@ -114,6 +121,34 @@ impl Drive {
         d
     }
 
+    // A disabled port holds nothing.
+    fn disabled_on(self, port: u16) -> Drive
+        ensures { result ≡ disabled_on self port }
+    {
+        let w = self.switches;
+        let switches = w.with_switch(port, parts::DISABLED);
+        let left = freed_of(port, self.holding);
+        let mut d = self;
+        d.switches = switches;
+        d.holding = left;
+        d
+    }
+
+    // The session of a port, or of nobody, has ended.
+    fn wish_granted(self, port: u16) -> Drive
+        ensures { result ≡ wish_granted self port }
+    {
+        // Nobody has no wish: asked first, since most selections end no session.
+        if port == parts::NOBODY {
+            return self;
+        }
+        let w = self.switches;
+        if parts::wishes(w.switch_of(port)) {
+            return self.disabled_on(port);
+        }
+        self
+    }
+
     // A takeover is told to the port that loses the drive.
     fn owner_noticed(self, port: u16) -> Drive
         ensures { result ≡ owner_noticed self port }
@@ -128,6 +163,16 @@ impl Drive {
         }
         self
     }
+}
+
+// What a port owned is nobody's.
+fn freed_of(port: u16, h: Holding) -> Holding
+    ensures { result ≡ pick (eqb h.owner port) free h }
+{
+    if h.owner == port {
+        return parts::no_holding();
+    }
+    h
 }
 
 fn at_least_plain(hold: Hold) -> Hold

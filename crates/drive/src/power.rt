@@ -3,7 +3,7 @@ ghost use Rattle.std.specs.Prelude.{◌≡◌};
 ghost use Rattle.drive.specs.Power.{setup_of, at_rest, PoweredUp};
 
 use crate::drive::Drive;
-use parts::{Pending, Place, Setup};
+use parts::{Pending, Place, Setup, Switches};
 
 #[derive(Drop)]
 pub enum Powered {
@@ -63,6 +63,10 @@ fn at_rest(setup: Setup) -> Drive
         pending1: Pending {
             octet1: 0,
             octet2: 0,
+        },
+        switches: Switches {
+            port0: parts::ENABLED,
+            port1: parts::ENABLED,
         },
     }
 }

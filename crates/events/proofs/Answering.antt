@@ -21,7 +21,7 @@ use Rattle.events.proofs.Done.{fit, known}
 use Rattle.events.proofs.Goes.{moved_known, unmoved}
 use Rattle.events.proofs.ToldWords.{Numbered}
 
-pub answered_refused : (e : Event) (state sectors staging : List ℕ) (n : ℕ) → 21 ≤ length state → n ≡ judgement (drive_in state) sectors staging → (n ≡ 0 → ⊥)
+pub answered_refused : (e : Event) (state sectors staging : List ℕ) (n : ℕ) → 23 ≤ length state → n ≡ judgement (drive_in state) sectors staging → (n ≡ 0 → ⊥)
     → Answered e state sectors staging (Refused n) state sectors staging
 unfolding answer_to after
 answered_refused e state sectors staging n h j z =

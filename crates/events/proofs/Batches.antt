@@ -31,14 +31,14 @@ use Rattle.events.proofs.Answering.{answered_refused, numbered, turn_told}
 use Rattle.events.proofs.ToldWords.{refusal_kept, told_out}
 
 pub record Going (telling : Bool) (count : ℕ) (records state₀ sectors₀ staging₀ out₀ state sectors staging out : List ℕ) (i : ℕ) : Type 0 where
-  pub long : 21 ≤ length state
+  pub long : 23 ≤ length state
   pub judged : 0 ≡ judgement (drive_in state) sectors staging
   pub again : (d : Drive) → state_after state d ≡ state_after state₀ d
   pub turned : Turned (machine_in state₀ sectors₀ staging₀) (events_in count records) out₀ (machine_in state sectors staging) (events_in (count - i) (drop (8 * i) records)) (13 * i) out
   pub first : i ≡ 0 → (state ≡ state₀) × (sectors ≡ sectors₀) × (staging ≡ staging₀) × (out ≡ out₀)
   pub quiet : telling ≡ false → (i ≡ 0 → ⊥) → refusal_in (answer_to (machine_in state₀ sectors₀ staging₀) (event_of records)) ≡ 0
 
-pub going_start : (telling : Bool) (count : ℕ) (records state sectors staging out : List ℕ) → 21 ≤ length state → 0 ≡ judgement (drive_in state) sectors staging
+pub going_start : (telling : Bool) (count : ℕ) (records state sectors staging out : List ℕ) → 23 ≤ length state → 0 ≡ judgement (drive_in state) sectors staging
     → Going telling count records state sectors staging out state sectors staging out 0
 going_start telling count records state sectors staging out h j =
     record {
@@ -51,14 +51,14 @@ going_start telling count records state sectors staging out h j =
     }
 
 -- what a turn leaves, as the machine's
-pub machine_after : {telling : Bool} {e : Event} {state sectors staging out : List ℕ} {n : ℕ} {state' sectors' staging' out' : List ℕ} → 21 ≤ length state
+pub machine_after : {telling : Bool} {e : Event} {state sectors staging out : List ℕ} {n : ℕ} {state' sectors' staging' out' : List ℕ} → 23 ≤ length state
     → Turn telling e state sectors staging out n state' sectors' staging' out' → machine_in state' sectors' staging' ≡ after (machine_in state sectors staging) e
 machine_after {e = e} {state} {sectors} {staging} h t =
     let a = t.answered in
     let g = goes state sectors staging e h in
     rw (a.state, a.sectors, a.staging, g.drive)
 
-taken_turn : {telling : Bool} {e : Event} {state sectors staging out : List ℕ} {n : ℕ} {state' sectors' staging' out' : List ℕ} → 21 ≤ length state → n ≡ 0
+taken_turn : {telling : Bool} {e : Event} {state sectors staging out : List ℕ} {n : ℕ} {state' sectors' staging' out' : List ℕ} → 23 ≤ length state → n ≡ 0
     → Turn telling e state sectors staging out n state' sectors' staging' out'
     → TurnTaken (machine_in state sectors staging) e out (machine_in state' sectors' staging') out'
 taken_turn h z t = record { machine = machine_after h t; out = rw z at (told_out _ _ (numbered _ _) t.told) }
@@ -150,14 +150,14 @@ going_ended telling count records state₀ sectors₀ staging₀ out₀ state se
     by_mode false one quiet = sym (quiet refl (λ y. omega (arith, one refl)))
 
 -- no event at all
-pub worked_none : (count : ℕ) (records state sectors staging out : List ℕ) → 21 ≤ length state → count ≡ 0 → Worked true count records state sectors staging out 0 state sectors staging out
+pub worked_none : (count : ℕ) (records state sectors staging out : List ℕ) → 23 ≤ length state → count ≡ 0 → Worked true count records state sectors staging out 0 state sectors staging out
 unfolding pick final answers words_of_answers events_in
 worked_none count records state sectors staging out h z = rw z (record { number = refl; state = sym (unmoved state h); sectors = refl; staging = refl; out = refl })
 
 -- ---- a state that rows 11 and 10 refuse
 
 -- the one event of a quiet batch
-pub refused_quietly : (records state sectors staging out : List ℕ) (n : ℕ) → 21 ≤ length state → n ≡ judgement (drive_in state) sectors staging → (n ≡ 0 → ⊥)
+pub refused_quietly : (records state sectors staging out : List ℕ) (n : ℕ) → 23 ≤ length state → n ≡ judgement (drive_in state) sectors staging → (n ≡ 0 → ⊥)
     → Worked false 1 records state sectors staging out n state sectors staging out
 refused_quietly records state sectors staging out n h j z =
     stopped records state sectors staging out n state sectors staging out z
@@ -171,7 +171,7 @@ no_staging d sectors false e =
     let k = limits d.setup (sound d e).limits in
     rw (e, lt-ltb 0 (sector_words d.setup) (omega (arith, k.some_field1)), or-true (ltb (length sectors) (setup.all_words d.setup)))
 
-pub refused_short : {records state sectors out : List ℕ} {r : ℕ} {state' sectors' staging' out' : List ℕ} → 21 ≤ length state
+pub refused_short : {records state sectors out : List ℕ} {r : ℕ} {state' sectors' staging' out' : List ℕ} → 23 ≤ length state
     → Worked false 1 records state sectors [] out r state' sectors' staging' out' → RefusedShort state sectors r state' sectors'
 refused_short {records} {state} {sectors} {out} h w =
     let unsound = row11 (drive_in state) in
@@ -212,7 +212,7 @@ unfolding after
 still state sectors staging e z = rw (refused_as_judged (drive_in state) e sectors staging z)
 
 -- a batch that tells
-pub refused_all : (count : ℕ) (records state sectors staging out : List ℕ) (n : ℕ) {out' : List ℕ} → 21 ≤ length state → n ≡ judgement (drive_in state) sectors staging
+pub refused_all : (count : ℕ) (records state sectors staging out : List ℕ) (n : ℕ) {out' : List ℕ} → 23 ≤ length state → n ≡ judgement (drive_in state) sectors staging
     → (n ≡ 0 → ⊥) → out' ≡ written_over out (refusals n count) → Worked true count records state sectors staging out 0 state sectors staging out'
 unfolding pick
 refused_all count records state sectors staging out n h j z w =

@@ -54,14 +54,14 @@ front_read (Response first second third) rest = refl
 
 -- ---- one call
 
-limits_kept : (state : List ℕ) (e : Event) (sectors staging answer : List ℕ) → 21 ≤ length state → 0 ≡ event_refusal state e sectors staging answer
+limits_kept : (state : List ℕ) (e : Event) (sectors staging answer : List ℕ) → 23 ≤ length state → 0 ≡ event_refusal state e sectors staging answer
     → within_limits (drive_in state).setup ≡ true
 unfolding pick
 limits_kept state e sectors staging answer long z = (sound (drive_in state) (by_row11 (row11 (drive_in state)) refl)).limits
   where
     by_row11 : (unsound : Bool) → row11 (drive_in state) ≡ unsound → row11 (drive_in state) ≡ false
     by_row11 false u = u
-    by_row11 true u = absurd (let n : 0 ≡ 11 = rw (le-ltb (length state) 21 long, u) at z in omega arith)
+    by_row11 true u = absurd (let n : 0 ≡ 11 = rw (le-ltb (length state) 23 long, u) at z in omega arith)
 
 -- an answer can be read from the words that a call leaves
 pub told_fit : {state : List ℕ} {e : Event} {sectors staging answer : List ℕ} (r : ℕ) {state' sectors' staging' answer' : List ℕ} → 13 ≤ length answer → get_or answer 1 0 < 256
@@ -77,7 +77,7 @@ told_fit {state} {e} {sectors} {staging} {answer} zero room start octets call =
 told_fit (suc n) room start octets call = rw call.answer (record { long = room; status = λ h. start })
 
 -- and it is the answer to the event
-told_again : {state : List ℕ} {e : Event} {sectors staging answer : List ℕ} (r : ℕ) {state' sectors' staging' answer' : List ℕ} → 21 ≤ length state → 13 ≤ length answer
+told_again : {state : List ℕ} {e : Event} {sectors staging answer : List ℕ} (r : ℕ) {state' sectors' staging' answer' : List ℕ} → 23 ≤ length state → 13 ≤ length answer
     → OnBoth AreOctets (drive_in state) → EventOnWords state e sectors staging answer r state' sectors' staging' answer'
     → answer_in r answer' ≡ answer_to (machine_in state sectors staging) e
 unfolding answer_in
@@ -96,7 +96,7 @@ octets_made d words same o = subst (OnBoth AreOctets) (sym same) o
 
 -- what the call tells is what the rule says of it
 pub handled_by : (d : Drive) {e : Event} {sectors staging words answer : List ℕ} {r : ℕ} {words' sectors' staging' answer' : List ℕ} {answered : Answer} {d' : Drive}
-    → 21 ≤ length words → 13 ≤ length answer → drive_in words ≡ d → OnBoth AreOctets (drive_in words)
+    → 23 ≤ length words → 13 ≤ length answer → drive_in words ≡ d → OnBoth AreOctets (drive_in words)
     → EventOnWords words e sectors staging answer r words' sectors' staging' answer' → answered ≡ answer_in r answer' → d' ≡ drive_in words'
     → Handled d e sectors staging (told answered d') sectors' staging'
 unfolding answer_to after

@@ -21,7 +21,7 @@ unsound_hold : (state : List ℕ) → hold_is_known state ≡ false → row11 (d
 unfolding row11 is_outside_limits drive_in selected_in pick
 unsound_hold state k = rw (k, or-true (not (within_limits (drive_in state).setup)))
 
-pub unmoved : (state : List ℕ) → 21 ≤ length state → state_after state (drive_in state) ≡ state
+pub unmoved : (state : List ℕ) → 23 ≤ length state → state_after state (drive_in state) ≡ state
 unfolding state_after pick
 unmoved state h = by_hold (hold_is_known state) refl
   where
@@ -31,7 +31,7 @@ unmoved state h = by_hold (hold_is_known state) refl
 
 -- after an event the words stand for the drive after it, and the next ones are written as from the start
 pub record Goes (state : List ℕ) (d : Drive) : Type 0 where
-  pub long : 21 ≤ length (state_after state d)
+  pub long : 23 ≤ length (state_after state d)
   pub drive : drive_in (state_after state d) ≡ d
   pub again : (d' : Drive) → state_after (state_after state d) d' ≡ state_after state d'
 
@@ -39,7 +39,7 @@ pub moved_known : (state : List ℕ) (d : Drive) → hold_is_known state ≡ tru
 unfolding state_after pick
 moved_known state d k = rw k
 
-goes_known : (state sectors staging : List ℕ) (e : Event) → 21 ≤ length state → hold_is_known state ≡ true → Goes state (after (machine_in state sectors staging) e).drive
+goes_known : (state sectors staging : List ℕ) (e : Event) → 23 ≤ length state → hold_is_known state ≡ true → Goes state (after (machine_in state sectors staging) e).drive
 goes_known state sectors staging e h k =
     let m = machine_in state sectors staging in
     let d = (after m e).drive in
@@ -50,14 +50,14 @@ goes_known state sectors staging e h k =
       again = λ d'. rw moved (after_again state d d' h k);
     }
 
-goes_refused : (state sectors staging : List ℕ) (e : Event) → 21 ≤ length state → hold_is_known state ≡ false → Goes state (after (machine_in state sectors staging) e).drive
+goes_refused : (state sectors staging : List ℕ) (e : Event) → 23 ≤ length state → hold_is_known state ≡ false → Goes state (after (machine_in state sectors staging) e).drive
 unfolding after
 goes_refused state sectors staging e h k =
     let still = refused_with_11 (drive_in state) e sectors staging (unsound_hold state k) in
     let same = unmoved state h in
     record { long = rw (still, same) h; drive = rw (still, same); again = λ d'. rw (still, same) }
 
-pub goes : (state sectors staging : List ℕ) (e : Event) → 21 ≤ length state → Goes state (after (machine_in state sectors staging) e).drive
+pub goes : (state sectors staging : List ℕ) (e : Event) → 23 ≤ length state → Goes state (after (machine_in state sectors staging) e).drive
 goes state sectors staging e h = by_hold (hold_is_known state) refl
   where
     by_hold : (test : Bool) → hold_is_known state ≡ test → Goes state (after (machine_in state sectors staging) e).drive
@@ -65,7 +65,7 @@ goes state sectors staging e h = by_hold (hold_is_known state) refl
     by_hold false k = goes_refused state sectors staging e h k
 
 -- and after a run
-pub goes_along : (state sectors staging : List ℕ) (events : List Event) → 21 ≤ length state → Goes state (final (machine_in state sectors staging) events).drive
+pub goes_along : (state sectors staging : List ℕ) (events : List Event) → 23 ≤ length state → Goes state (final (machine_in state sectors staging) events).drive
 unfolding final
 goes_along state sectors staging [] h =
     let same = unmoved state h in
@@ -82,7 +82,7 @@ goes_along state sectors staging (e ∷ events) h =
     from_there state d d' now later =
         let same = now.again d' in
         record {
-          long = subst (λ (l : List ℕ). 21 ≤ length l) same later.long;
+          long = subst (λ (l : List ℕ). 23 ≤ length l) same later.long;
           drive = ap drive_in (sym same) ∙ later.drive;
           again = λ d''. ap (λ (l : List ℕ). state_after l d'') (sym same) ∙ later.again d'' ∙ now.again d'';
         }

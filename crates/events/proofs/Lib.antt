@@ -1,5 +1,7 @@
 pub mod Changes
 pub mod Done
+pub mod Selecting
+pub mod Switched
 pub mod Promises
 pub mod PowerUp
 pub mod Goes

@@ -94,7 +94,7 @@ gapping_ended {records} {gaps₀} {gaps} {from} {count} {earlier} {i} h g =
 
 -- the tests for 10 as the code makes them
 abbrev pub is_short : List ℕ → List ℕ → List ℕ → ℕ → Bool
-is_short state answers gaps count = (ltb (length state) 21 || ltb (length answers / 13) count) || ltb (length gaps) count
+is_short state answers gaps count = (ltb (length state) 23 || ltb (length answers / 13) count) || ltb (length gaps) count
 
 rows_joined : (a b c : Bool) (rest : ℕ) → pick a 10 (pick b 10 (pick c 10 rest)) ≡ pick ((a || b) || c) 10 rest
 unfolding pick
@@ -109,7 +109,7 @@ part_refusal_lem state records from limit answers gaps {count} e =
     let same : n ≡ count = part_count records from limit ∙ sym e in
     let room : ltb (length answers) (13 * count) ≡ ltb (length answers / 13) count =
     same_test_lem (length answers) (13 * count) (length answers / 13) count (λ h. omega arith) (λ h. omega arith) in
-    rw (same, room) (rows_joined (ltb (length state) 21) (ltb (length answers / 13) count) (ltb (length gaps) count) _)
+    rw (same, room) (rows_joined (ltb (length state) 23) (ltb (length answers / 13) count) (ltb (length gaps) count) _)
 
 -- refused, and nothing changed
 part_refused : (state records : List ℕ) (from limit : ℕ) (sectors staging answers gaps : List ℕ) (n : ℕ) → part_refusal state records from limit answers gaps ≡ suc n
@@ -132,7 +132,7 @@ part_not_whole state records from limit sectors staging answers gaps e h n =
 
 -- room for what will be run
 pub record Roomy (state records : List ℕ) (from : ℕ) (answers gaps : List ℕ) (count : ℕ) : Type 0 where
-  pub long : 21 ≤ length state
+  pub long : 23 ≤ length state
   pub told : 13 * count ≤ length answers
   pub gapped : count ≤ length gaps
   pub whole : (count ≡ 0 → ⊥) → 8 * (from + count) ≤ length records
@@ -140,10 +140,10 @@ pub record Roomy (state records : List ℕ) (from : ℕ) (answers gaps : List �
 pub part_room : (state records : List ℕ) (from limit : ℕ) (answers gaps : List ℕ) {count : ℕ} → count ≡ min limit (record_count records - from)
     → is_short state answers gaps count ≡ false → Roomy state records from answers gaps count
 part_room state records from limit answers gaps {count} e h =
-    let a = ltb (length state) 21 in
+    let a = ltb (length state) 23 in
     let b = ltb (length answers / 13) count in
     let c = ltb (length gaps) count in
-    let long = ltb-false (length state) 21 (or_l a b (or_l (a || b) c h)) in
+    let long = ltb-false (length state) 23 (or_l a b (or_l (a || b) c h)) in
     let told = ltb-false (length answers / 13) count (or_r a b (or_l (a || b) c h)) in
     let few : count ≤ record_count records - from = rw e (min-le_right limit (record_count records - from)) in
     record { long = long; told = omega (arith, told); gapped = ltb-false (length gaps) count (or_r (a || b) c h); whole = λ some. omega (arith, few, some) }

@@ -47,18 +47,18 @@ risen_by s sectors staging d true false e f h = record { limits = e; room = f; d
 risen : (s : Setup) (sectors staging : List ℕ) (d : Drive) → Up d ≡ powered_up s sectors staging → Risen s sectors staging d
 risen s sectors staging d = risen_by s sectors staging d (within_limits s) (row10 s sectors staging) refl refl
 
-pub no_room_for_state : (s : Setup) (sectors staging state : List ℕ) (d : Drive) → Up d ≡ powered_up s sectors staging → length state < 21
+pub no_room_for_state : (s : Setup) (sectors staging state : List ℕ) (d : Drive) → Up d ≡ powered_up s sectors staging → length state < 23
     → PoweredUpOnWords s sectors staging state 10 state
 unfolding pick
 no_room_for_state s sectors staging state d h short =
     let u = risen s sectors staging d h in
-    let e = lt-ltb (length state) 21 short in
+    let e = lt-ltb (length state) 23 short in
     record { answer = rw (u.limits, u.room, e); state = rw (u.limits, u.room, e) }
 
-pub powered : (s : Setup) (sectors staging state state' : List ℕ) (d : Drive) → Up d ≡ powered_up s sectors staging → 21 ≤ length state
+pub powered : (s : Setup) (sectors staging state state' : List ℕ) (d : Drive) → Up d ≡ powered_up s sectors staging → 23 ≤ length state
     → state' ≡ written_over state (state_words d) → PoweredUpOnWords s sectors staging state 0 state'
 unfolding pick
 powered s sectors staging state state' d h long w =
     let u = risen s sectors staging d h in
-    let e = le-ltb (length state) 21 long in
+    let e = le-ltb (length state) 23 long in
     record { answer = rw (u.limits, u.room, e); state = rw (u.limits, u.room, e, ← u.drive) w }

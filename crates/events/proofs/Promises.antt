@@ -35,20 +35,20 @@ event_refused : (state : List ℕ) (e : Event) (sectors staging answer : List �
 event_refused state e sectors staging answer n h = record { refusal = sym h; state = refl; sectors = refl; staging = refl; answer = refl }
 
 -- there is no state to judge
-pub no_state : (state : List ℕ) (e : Event) (sectors staging answer : List ℕ) → length state < 21 → EventOnWords state e sectors staging answer 10 state sectors staging answer
+pub no_state : (state : List ℕ) (e : Event) (sectors staging answer : List ℕ) → length state < 23 → EventOnWords state e sectors staging answer 10 state sectors staging answer
 unfolding pick
-no_state state e sectors staging answer h = event_refused state e sectors staging answer 9 (rw (lt-ltb (length state) 21 h))
+no_state state e sectors staging answer h = event_refused state e sectors staging answer 9 (rw (lt-ltb (length state) 23 h))
 
 -- there is, and no room for the answer
-pub no_room_for_answer : {state : List ℕ} {e : Event} {sectors staging answer : List ℕ} {r : ℕ} {state' sectors' : List ℕ} → 21 ≤ length state → length answer < 13
+pub no_room_for_answer : {state : List ℕ} {e : Event} {sectors staging answer : List ℕ} {r : ℕ} {state' sectors' : List ℕ} → 23 ≤ length state → length answer < 13
     → RefusedShort state sectors r state' sectors' → EventOnWords state e sectors staging answer r state' sectors' staging answer
 unfolding pick
 no_room_for_answer {state} {e} {sectors} {staging} {answer} {r} h k n = rw (n.state, n.sectors) (by_row11 (row11 (drive_in state)) refl n.number)
   where
     by_row11 : (unsound : Bool) → row11 (drive_in state) ≡ unsound → r ≡ pick unsound 11 10 → EventOnWords state e sectors staging answer r state sectors staging answer
-    by_row11 true u z = rw z (event_refused state e sectors staging answer 10 (rw (le-ltb (length state) 21 h, u)))
+    by_row11 true u z = rw z (event_refused state e sectors staging answer 10 (rw (le-ltb (length state) 23 h, u)))
     by_row11 false u z =
-        rw z (event_refused state e sectors staging answer 9 (rw (le-ltb (length state) 21 h, u, lt-ltb (length answer) 13 k, or-true (row10 (drive_in state).setup sectors staging))))
+        rw z (event_refused state e sectors staging answer 9 (rw (le-ltb (length state) 23 h, u, lt-ltb (length answer) 13 k, or-true (row10 (drive_in state).setup sectors staging))))
 
 pub numbered_refused : (answer : Answer) → (refusal_in answer ≡ 0 → ⊥) → is_refused answer ≡ true
 numbered_refused (Refused n) h = refl
@@ -82,11 +82,11 @@ row_told m e =
     (first (rows k m.drive e m.sectors m.staging)) (done_by k m e) (unnumbered (done_by k m e).outcome.answer _ refl (accepts k m e))
 
 -- with a state to judge and room for the answer, the call refuses as the drive does
-pub as_the_drive : (state : List ℕ) (e : Event) (sectors staging answer : List ℕ) → 21 ≤ length state → 13 ≤ length answer
+pub as_the_drive : (state : List ℕ) (e : Event) (sectors staging answer : List ℕ) → 23 ≤ length state → 13 ≤ length answer
     → event_refusal state e sectors staging answer ≡ refusal_in (answer_to (machine_in state sectors staging) e)
 unfolding pick
 as_the_drive state e sectors staging answer h k =
-    rw (le-ltb (length state) 21 h, le-ltb (length answer) 13 k, or-false (row10 (drive_in state).setup sectors staging)) (sym (row_told (machine_in state sectors staging) e))
+    rw (le-ltb (length state) 23 h, le-ltb (length answer) 13 k, or-false (row10 (drive_in state).setup sectors staging)) (sym (row_told (machine_in state sectors staging) e))
 
 -- what an event with this refusal leaves of a part of the machine: a refused one leaves it
 left_by : {A : Type 0} (part : Machine → A) (m : Machine) (e : Event) (r : ℕ) → r ≡ refusal_in (answer_to m e) → part (after m e) ≡ unless_refused r (part m) (part (after m e))
@@ -94,7 +94,7 @@ left_by part m e zero h = refl
 left_by part m e (suc n) h = ap part (refused_changes_nothing m e (numbered_refused (answer_to m e) (λ z. omega arith)))
 
 pub event_worked : (state : List ℕ) (e : Event) (sectors staging answer records : List ℕ) (r : ℕ) (state' sectors' staging' answer' : List ℕ)
-    → 21 ≤ length state → 13 ≤ length answer → event_of records ≡ e
+    → 23 ≤ length state → 13 ≤ length answer → event_of records ≡ e
     → Worked false 1 records state sectors staging answer r state' sectors' staging' answer' → EventOnWords state e sectors staging answer r state' sectors' staging' answer'
 unfolding pick final answers words_of_answers events_in
 event_worked state e sectors staging answer records r state' sectors' staging' answer' long room z w =
@@ -111,7 +111,7 @@ event_worked state e sectors staging answer records r state' sectors' staging' a
     }
 
 -- what a call leaves, refused or not, is what the event does
-pub as_after : {state : List ℕ} {e : Event} {sectors staging answer : List ℕ} {r : ℕ} {state' sectors' staging' answer' : List ℕ} → 21 ≤ length state → 13 ≤ length answer
+pub as_after : {state : List ℕ} {e : Event} {sectors staging answer : List ℕ} {r : ℕ} {state' sectors' staging' answer' : List ℕ} → 23 ≤ length state → 13 ≤ length answer
     → EventOnWords state e sectors staging answer r state' sectors' staging' answer'
     → (state' ≡ state_after state (after (machine_in state sectors staging) e).drive) × (sectors' ≡ (after (machine_in state sectors staging) e).sectors)
     × (staging' ≡ (after (machine_in state sectors staging) e).staging)
@@ -130,40 +130,40 @@ run_refused : (state records sectors staging out : List ℕ) (n : ℕ) → run_r
     → RunOnWords state records sectors staging out (suc n) state sectors staging out
 run_refused state records sectors staging out n h = record { refusal = sym h; state = refl; sectors = refl; staging = refl; out = refl }
 
-with_state : (state records out : List ℕ) → ltb (length state) 21 ≡ false → run_refusal state records out ≡ batch_refusal records out
+with_state : (state records out : List ℕ) → ltb (length state) 23 ≡ false → run_refusal state records out ≡ batch_refusal records out
 unfolding pick
 with_state state records out h = rw h
 
-pub run_short : (state records sectors staging out : List ℕ) → (ltb (length state) 21 || ltb (length out / 13) (record_count records)) ≡ true
+pub run_short : (state records sectors staging out : List ℕ) → (ltb (length state) 23 || ltb (length out / 13) (record_count records)) ≡ true
     → RunOnWords state records sectors staging out 10 state sectors staging out
 unfolding pick
-run_short state records sectors staging out h = run_refused state records sectors staging out 9 (by_state (ltb (length state) 21) refl h)
+run_short state records sectors staging out h = run_refused state records sectors staging out 9 (by_state (ltb (length state) 23) refl h)
   where
-    by_state : (short : Bool) → ltb (length state) 21 ≡ short → (short || ltb (length out / 13) (record_count records)) ≡ true → run_refusal state records out ≡ 10
+    by_state : (short : Bool) → ltb (length state) 23 ≡ short → (short || ltb (length out / 13) (record_count records)) ≡ true → run_refusal state records out ≡ 10
     by_state true e k = rw e
     by_state false e k = with_state state records out e ∙ out_too_short records out (ltb-true (length out / 13) (record_count records) k)
 
-room : (state records out : List ℕ) → (ltb (length state) 21 || ltb (length out / 13) (record_count records)) ≡ false
-    → (ltb (length state) 21 ≡ false) × (record_count records ≤ length out / 13)
+room : (state records out : List ℕ) → (ltb (length state) 23 || ltb (length out / 13) (record_count records)) ≡ false
+    → (ltb (length state) 23 ≡ false) × (record_count records ≤ length out / 13)
 room state records out h =
-    let a = ltb (length state) 21 in
+    let a = ltb (length state) 23 in
     let b = ltb (length out / 13) (record_count records) in
     (or_l a b h, ltb-false (length out / 13) (record_count records) (or_r a b h))
 
-pub run_room : (state records out : List ℕ) → (ltb (length state) 21 || ltb (length out / 13) (record_count records)) ≡ false
-    → (21 ≤ length state) × (8 * record_count records ≤ length records) × (13 * record_count records ≤ length out)
+pub run_room : (state records out : List ℕ) → (ltb (length state) 23 || ltb (length out / 13) (record_count records)) ≡ false
+    → (23 ≤ length state) × (8 * record_count records ≤ length records) × (13 * record_count records ≤ length out)
 run_room state records out h =
     let r = room state records out h in
-    (ltb-false (length state) 21 r.0, omega arith, omega (arith, r.1))
+    (ltb-false (length state) 23 r.0, omega arith, omega (arith, r.1))
 
-pub run_not_whole : (state records sectors staging out : List ℕ) → (ltb (length state) 21 || ltb (length out / 13) (record_count records)) ≡ false
+pub run_not_whole : (state records sectors staging out : List ℕ) → (ltb (length state) 23 || ltb (length out / 13) (record_count records)) ≡ false
     → (length records % 8 ≡ 0 → ⊥) → RunOnWords state records sectors staging out 8 state sectors staging out
 run_not_whole state records sectors staging out h n =
     let r = room state records out h in
     run_refused state records sectors staging out 7 (with_state state records out r.0 ∙ not_whole records out r.1 n)
 
 pub run_worked : (state records sectors staging out : List ℕ) (r : ℕ) (state' sectors' staging' out' : List ℕ)
-    → (ltb (length state) 21 || ltb (length out / 13) (record_count records)) ≡ false → length records % 8 ≡ 0
+    → (ltb (length state) 23 || ltb (length out / 13) (record_count records)) ≡ false → length records % 8 ≡ 0
     → Worked true (record_count records) records state sectors staging out r state' sectors' staging' out' → RunOnWords state records sectors staging out r state' sectors' staging' out'
 unfolding pick
 run_worked state records sectors staging out r state' sectors' staging' out' h n w =

@@ -62,7 +62,7 @@ machine_of w = machine_in w.state w.sectors w.staging
 
 -- what it ran, and what it left
 record Went (w : Lending) (records : List ℕ) (from limit n : ℕ) (w' : Lending) : Type 0 where
-  long : 21 ≤ length w.state
+  long : 23 ≤ length w.state
   whole : length records % 8 ≡ 0
   room : 13 * n ≤ length w.answers
   count : n ≡ length (part_of records from limit)
@@ -81,7 +81,7 @@ went {w} {records = records} {from} {limit} {n} call =
     let count : n ≡ length events = cc in
     let passed = a.1 in
     record {
-      long = ltb-false (length w.state) 21 passed.0;
+      long = ltb-false (length w.state) 23 passed.0;
       whole = eqb-true (length records % 8) 0 (not-false _ passed.1.1.1.0);
       room = rw count (ltb-false (length w.answers) (13 * length events) passed.1.0);
       count = count;
@@ -91,14 +91,14 @@ went {w} {records = records} {from} {limit} {n} call =
     }
 
 -- with room for all of the records it is not refused
-pub not_refused : {w w' : Lending} {records : List ℕ} {from limit : ℕ} {r : Part} → 21 ≤ length w.state → 13 * record_count records ≤ length w.answers
+pub not_refused : {w w' : Lending} {records : List ℕ} {from limit : ℕ} {r : Part} → 23 ≤ length w.state → 13 * record_count records ≤ length w.answers
     → record_count records ≤ length w.gaps → length records % 8 ≡ 0 → PartCall w records from limit r w' → r ≡ Ran (length (part_of records from limit))
 not_refused {w} {records = records} {from} {limit} long told gapped whole call =
     let count = length (part_of records from limit) in
     let few : count ≤ record_count records = rw (part_count records from limit) (omega (arith, min-le_right limit (record_count records - from))) in
     let free : part_refusal w.state records from limit w.answers w.gaps ≡ 0 =
     none_given (part_rows w.state records from limit w.answers w.gaps)
-    (le-ltb (length w.state) 21 long, (le-ltb (length w.answers) (13 * count) (omega (arith, few)), (le-ltb (length w.gaps) count (omega (arith, few)), (not_f _ (eq-eqb (length records % 8) 0 whole), tt)))) in
+    (le-ltb (length w.state) 23 long, (le-ltb (length w.answers) (13 * count) (omega (arith, few)), (le-ltb (length w.gaps) count (omega (arith, few)), (not_f _ (eq-eqb (length records % 8) 0 whole), tt)))) in
     call.answer ∙ rw free
 
 -- ---- what it counts
@@ -121,7 +121,7 @@ counts {w} {records = records} {from} {limit} {n} call =
 
 -- the drive after a part stands in the words that it left
 pub record Stands (w : Lending) (events : List Event) (v : Lending) : Type 0 where
-  pub long : 21 ≤ length v.state
+  pub long : 23 ≤ length v.state
   pub machine : machine_of v ≡ final (machine_of w) events
   pub again : (d : Drive) → state_after v.state d ≡ state_after w.state d
 
@@ -180,7 +180,7 @@ whole {w} {w'} {records} {limit} {n} call h =
     let told : w'.answers ≡ written_over w.answers (words_of_answers (answers m (events_of records))) =
     call.answers ∙ ap (λ es. written_over w.answers (words_of_answers (answers m es))) events in (
       record {
-        refusal = sym (none_given (run_rows w.state records w.answers) (le-ltb (length w.state) 21 g.long, (le-ltb (length w.answers) (13 * record_count records) (rw count at g.room), (not_f _ (eq-eqb (length records % 8) 0 g.whole), tt))));
+        refusal = sym (none_given (run_rows w.state records w.answers) (le-ltb (length w.state) 23 g.long, (le-ltb (length w.answers) (13 * record_count records) (rw count at g.room), (not_f _ (eq-eqb (length records % 8) 0 g.whole), tt))));
         state = call.state ∙ ap (λ es. state_after w.state (final m es).drive) events;
         sectors = call.sectors ∙ ap (λ es. (final m es).sectors) events;
         staging = call.staging ∙ ap (λ es. (final m es).staging) events;

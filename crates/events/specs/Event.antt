@@ -21,7 +21,7 @@ machine_in state sectors staging = machine (drive_in state) sectors staging
 abbrev pub event_rows : List ℕ → Event → List ℕ → List ℕ → List ℕ → List Row
 event_rows state e sectors staging answer =
     let d = drive_in state in
-    10 when ltb (length state) 21
+    10 when ltb (length state) 23
     ∷ 11 when row11 d
     ∷ 10 when (row10 d.setup sectors staging || nat_lt (length answer) 13)
     ∷ 1 when row1 e

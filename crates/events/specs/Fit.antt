@@ -11,12 +11,12 @@ use Rattle.events.specs.State.{drive_in, moved_to}
 
 -- The words of a state that row 11 lets pass.
 pub record Fit (state : List ℕ) : Type 0 where
-  pub long : 21 ≤ length state
+  pub long : 23 ≤ length state
   pub sound : row11 (drive_in state) ≡ false
 
 -- And row 10 does.
 pub record Fits (state sectors staging : List ℕ) : Type 0 where
-  pub long : 21 ≤ length state
+  pub long : 23 ≤ length state
   pub passable : Passable (drive_in state) sectors staging
 
 -- A function on the words answers so, and they are those of the drive after.

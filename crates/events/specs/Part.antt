@@ -41,7 +41,7 @@ gaps_of records = table_from (gap_at records) 0 (record_count records)
 abbrev pub part_rows : List ℕ → List ℕ → ℕ → ℕ → List ℕ → List ℕ → List Row
 part_rows state records from limit answers gaps =
     let count = length (part_of records from limit) in
-    10 when nat_lt (length state) 21
+    10 when nat_lt (length state) 23
     ∷ 10 when nat_lt (length answers) (13 * count)
     ∷ 10 when nat_lt (length gaps) count
     ∷ 8 when not (length records % 8 == 0)

@@ -11,7 +11,7 @@ use Rattle.events.specs.State.{state_words}
 -- "Power-up tests 9, then 10": a slice too short is the sectors', the staging's or the state's.
 abbrev pub power_up_rows : Setup → List ℕ → List ℕ → List ℕ → List Row
 power_up_rows s sectors staging state =
-    9 when not (within_limits s) ∷ 10 when row10 s sectors staging ∷ 10 when nat_lt (length state) 21 ∷ []
+    9 when not (within_limits s) ∷ 10 when row10 s sectors staging ∷ 10 when nat_lt (length state) 23 ∷ []
 
 abbrev pub power_up_refusal : Setup → List ℕ → List ℕ → List ℕ → ℕ
 power_up_refusal s sectors staging state = first (power_up_rows s sectors staging state)

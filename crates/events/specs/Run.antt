@@ -10,7 +10,7 @@ use Rattle.events.specs.Event.{machine_in}
 
 -- The call's own rows: 10 where the state or the answers are too short, then 8 where the records are not whole.
 abbrev pub run_rows : List ℕ → List ℕ → List ℕ → List Row
-run_rows state records out = 10 when nat_lt (length state) 21 ∷ batch_rows records out
+run_rows state records out = 10 when nat_lt (length state) 23 ∷ batch_rows records out
 
 abbrev pub run_refusal : List ℕ → List ℕ → List ℕ → ℕ
 run_refusal state records out = first (run_rows state records out)

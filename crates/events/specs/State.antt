@@ -1,7 +1,8 @@
--- The drive's state as 21 words of 16 bits, in the order of `include/pantoglide.h`.
+-- The drive's state as 23 words of 16 bits, in the order of `include/pantoglide.h`.
 use Rattle.std.specs.Prelude.{ℕ, ◌+◌, ◌*◌, ◌/◌, ◌%◌, Bool, List, [], ◌∷◌, ◌++◌, take, drop, ◌==◌, nat_lt, slice_index}
 use Rattle.laws.specs.Pick.{pick}
 use Rattle.parts.specs.Holding.{held}
+use Rattle.parts.specs.Switches.{switches}
 use Rattle.parts.specs.Pending.{pending_of}
 use Rattle.parts.specs.Tests.{transferring_with, parameters}
 use Rattle.parts.specs.declared.holding.Hold.{Hold}
@@ -32,7 +33,7 @@ pending_in word = pending_of (word / 256) (word % 256)
 abbrev pub setup_words : Setup → List ℕ
 setup_words s = s.cylinders ∷ s.heads ∷ s.sectors ∷ s.header ∷ s.field1 ∷ s.field2 ∷ s.address ∷ []
 
--- Words 7 to 20, those that events change. Ports are 0, 1 and 2 for nobody; the control of no open transfer is 0.
+-- Words 7 to 22, those that events change. Ports are 0, 1 and 2 for nobody; the control of no open transfer is 0.
 unfoldable pub moving_words : Drive → List ℕ
 moving_words d =
     d.holding.selected
@@ -49,6 +50,8 @@ moving_words d =
     ∷ d.transfer.parameters.word0
     ∷ d.transfer.parameters.word1
     ∷ d.transfer.parameters.word2
+    ∷ d.switches.port0
+    ∷ d.switches.port1
     ∷ []
 
 unfoldable pub state_words : Drive → List ℕ
@@ -73,11 +76,12 @@ drive_in state =
       transfer = transferring_with (slice_index state 14) (slice_index state 15) (parameters (slice_index state 18) (slice_index state 19) (slice_index state 20));
       pending0 = pending_in (slice_index state 16);
       pending1 = pending_in (slice_index state 17);
+      switches = switches (slice_index state 21) (slice_index state 22);
     }
 
--- The state words with those that events change replaced; those beyond 21 stay.
+-- The state words with those that events change replaced; those beyond 23 stay.
 unfoldable pub moved_to : List ℕ → Drive → List ℕ
-moved_to state d = take 7 state ++ moving_words d ++ drop 21 state
+moved_to state d = take 7 state ++ moving_words d ++ drop 23 state
 
 -- The words after events that lead to a drive. Where the hold is none of the three, every event is refused and the words stay.
 unfoldable pub state_after : List ℕ → Drive → List ℕ

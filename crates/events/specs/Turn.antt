@@ -52,7 +52,7 @@ pub record Turn (telling : Bool) (e : Event) (state₀ sectors₀ staging₀ out
 
 -- What a batch is lent: a state, so many records, and 13 words for each answer. A quiet one has one event.
 pub record Lent (telling : Bool) (count : ℕ) (state records out : List ℕ) : Type 0 where
-  pub long : 21 ≤ length state
+  pub long : 23 ≤ length state
   pub some : 0 < count
   pub whole : 8 * count ≤ length records
   pub room : 13 * count ≤ length out

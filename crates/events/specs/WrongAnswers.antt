@@ -66,6 +66,11 @@ headless = setup_of 2 0 3 1 2 1 3
 abbrev PowersUp : Setup → List ℕ → ℕ → List ℕ → Type 0
 PowersUp s state r state' = PoweredUpOnWords s (disk zeros) zeros state r state'
 
+-- The words of the bench drive at rest, one by one, with these two switches.
+abbrev at_rest_with : ℕ → ℕ → List ℕ
+at_rest_with switch0 switch1 =
+    2 ∷ 2 ∷ 3 ∷ 1 ∷ 2 ∷ 1 ∷ 3 ∷ 2 ∷ 2 ∷ 0 ∷ 0 ∷ 0 ∷ 0 ∷ 0xFFFF ∷ 0 ∷ 0 ∷ 0 ∷ 0 ∷ 0 ∷ 0 ∷ 0 ∷ switch0 ∷ switch1 ∷ []
+
 -- The state's words and the event; the number, and the state's and the answer's words after it.
 abbrev Answers : List ℕ → Event → ℕ → List ℕ → List ℕ → Type 0
 Answers state e r state' answer = EventOnWords state e (disk zeros) zeros (replicate 13 0) r state' (disk zeros) zeros answer
@@ -133,15 +138,17 @@ pub record WrongAnswers : Type 0 where
   pub last_word_clears : Handles (with_transfer (faulty 0x80 0) (transferring 0x05 0)) (word_sent 0 2) zeros zeros (Status 8) (faulty 0x40 0) zeros zeros → ⊥
   -- ---- `power_up_words`
   -- Address and field 2 changed over.
-  pub address_for_field_two : PowersUp bench (replicate 21 0) 0 (state_words (at_rest (setup_of 2 2 3 1 2 3 1))) → ⊥
-  -- A state of 20 words is taken.
-  pub state_of20_taken : PowersUp bench (replicate 20 0) 0 (take 20 (state_words (at_rest bench))) → ⊥
+  pub address_for_field_two : PowersUp bench (replicate 23 0) 0 (state_words (at_rest (setup_of 2 2 3 1 2 3 1))) → ⊥
+  -- A state of 22 words is taken.
+  pub state_of22_taken : PowersUp bench (replicate 22 0) 0 (take 22 (state_words (at_rest bench))) → ⊥
   -- 9, and the state is written all the same.
-  pub refused_yet_written : PowersUp headless (replicate 21 0) 9 (state_words (at_rest headless)) → ⊥
+  pub refused_yet_written : PowersUp headless (replicate 23 0) 9 (state_words (at_rest headless)) → ⊥
   -- ---- `answer_event`
   -- A takeover's notice is written as that of the port that took over.
   pub notice_to_the_winner : Answers (state_words (selected_by 0 None)) (sent 1 1 0x31 0)
       0 (state_words (with_pending (selected_by 1 None) nothing_pending (pending_of alternate_port_priority_select 0))) (answer_words Done) → ⊥
+  -- A port's switch event sets the switch of the other.
+  pub switch_of_the_other : Answers (at_rest_with 1 1) (sent 0 11 0 0) 0 (at_rest_with 1 0) (answer_words Done) → ⊥
   -- A state of 13 words is taken.
   pub state_of13_taken : Answers (take 13 (state_words (at_rest bench))) (sent 0 1 0x30 0) 0 (take 13 (state_words (selected_by 0 None))) (answer_words Done) → ⊥
   -- Answer words are written for a refused event.

@@ -9,7 +9,7 @@ use parts::Event;
 pub fn handle(drive: Drive, event: Event, sectors: &mut [u16], staging: &mut [u16]) -> Outcome
     ensures { Handled drive event sectors.old staging.old result sectors.new staging.new }
 {
-    let mut words: [u16; 21] = [0; 21];
+    let mut words: [u16; 23] = [0; 23];
     let mut told: [u16; 13] = [0; 13];
     state::put_state(drive, &mut words);
     let n = event::answer_event(&mut words, event, sectors, staging, &mut told);

@@ -8,7 +8,7 @@ use crate::layout;
 // Are so many words all of a write? It passes its header, verified or moved. Field 1 comes first: most words of a long sector are its, and end the
 // question.
 pub(crate) fn is_last(state: &[u16], control: u16, count: usize) -> bool
-    requires { (21 ≤ length state.now) × (is_write (control_of control) ≡ true) }
+    requires { (23 ≤ length state.now) × (is_write (control_of control) ≡ true) }
     ensures { result ≡ (count == words_to_come (drive_in state.now).setup control) }
 {
     let header = state[layout::HEADER] as usize;
@@ -23,7 +23,7 @@ pub(crate) fn is_last(state: &[u16], control: u16, count: usize) -> bool
 }
 
 pub(crate) fn data_words(state: &[u16], control: u16) -> usize
-    requires { 21 ≤ length state.now }
+    requires { 23 ≤ length state.now }
     ensures { result ≡ data_words (drive_in state.now).setup control }
 {
     words_at(state, parts::header_passes(control), layout::HEADER) + field_words(state, control)
@@ -31,7 +31,7 @@ pub(crate) fn data_words(state: &[u16], control: u16) -> usize
 
 // Of a read, which takes the header's words where it moves them.
 pub(crate) fn read_words(state: &[u16], control: u16) -> usize
-    requires { (21 ≤ length state.now) × (is_read (control_of control) ≡ true) }
+    requires { (23 ≤ length state.now) × (is_read (control_of control) ≡ true) }
     ensures { result ≡ data_words (drive_in state.now).setup control }
 {
     words_at(state, parts::moves_header(control), layout::HEADER) + field_words(state, control)
@@ -39,7 +39,7 @@ pub(crate) fn read_words(state: &[u16], control: u16) -> usize
 
 // The words of the named fields.
 fn field_words(state: &[u16], control: u16) -> usize
-    requires { 21 ≤ length state.now }
+    requires { 23 ≤ length state.now }
     ensures { (result ≡ part (names_field1 control) (slice_index state.now 4) + part (names_field2 control) (slice_index state.now 5)) × (result < 131072) }
 {
     words_at(state, parts::names_field1(control), layout::FIELD_1)
@@ -59,7 +59,7 @@ fn words_at(state: &[u16], passes: bool, at: usize) -> usize
 
 // All the words of a transfer moved, or more? Field 1 is asked for first: most words of a long transfer are its.
 pub(crate) fn is_through(state: &[u16], control: u16, moved: u16) -> bool
-    requires { 21 ≤ length state.now }
+    requires { 23 ≤ length state.now }
     ensures { result ≡ nat_le (data_words (drive_in state.now).setup control) moved }
 {
     if parts::names_field1(control) & (moved < state[layout::FIELD_1]) {

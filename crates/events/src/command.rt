@@ -117,17 +117,17 @@ fn perform(state: &mut [u16], port: u8, word: u16) -> u8
     let function = parts::function_of(word);
     match function {
         Function::PriorityReserve => {
-            let d = state::drive_in(&state[..]);
+            let d = state::fit_drive_in(&state[..]);
             state::put_moved(d.priority_reserve(), state);
             answer::NORMAL
         }
         Function::Reserve => {
-            let d = state::drive_in(&state[..]);
+            let d = state::fit_drive_in(&state[..]);
             state::put_moved(d.reserve(), state);
             answer::NORMAL
         }
         Function::Release => {
-            let d = state::drive_in(&state[..]);
+            let d = state::fit_drive_in(&state[..]);
             state::put_moved(d.release(), state);
             answer::NORMAL
         }

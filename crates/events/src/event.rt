@@ -34,7 +34,7 @@ pub fn answer_event(
 // Where there is no room for the answer: 11, else 10. That is what an event with no staging words is refused with, so it is tried with none. The judge
 // is not asked here, since the compiler puts its tests into `work` only while they are called from there alone.
 fn refuse_short(state: &mut [u16], sectors: &mut [u16]) -> u8
-    requires { 21 ≤ length state.old }
+    requires { 23 ≤ length state.old }
     ensures { RefusedShort state.old sectors.old result state.new sectors.new }
 {
     let record: [u8; 8] = [0; 8];

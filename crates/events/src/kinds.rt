@@ -1,9 +1,12 @@
 // What each kind does that leaves the lent words: its own tests, then its work.
-ghost use Rattle.std.specs.Prelude.{◌≤◌};
+ghost use Rattle.std.specs.Prelude.{◌≡◌, ◌≤◌};
+ghost use Rattle.laws.specs.Rows.{first};
+ghost use Rattle.parts.specs.Holding.{is_busy};
 ghost use Rattle.parts.specs.Kind.{Kind, Work, word_of, place_of};
 ghost use Rattle.drive.specs.Answer.{normal};
 ghost use Rattle.drive.specs.State.{told};
-ghost use Rattle.drive.specs.Drive.{selected, deselected, after_reset};
+ghost use Rattle.drive.specs.Drive.{selected, deselected, after_reset, switched};
+ghost use Rattle.drive.specs.Refusal.{own_rows};
 ghost use Rattle.drive.specs.Command.{ended_early};
 ghost use Rattle.drive.specs.Request.{data_control, positioned, targeted, status_read};
 ghost use Rattle.drive.specs.Able.{unless_own_row};
@@ -14,30 +17,56 @@ use crate::{answer, layout, pending, place, request, state, timing};
 use drive::Answer;
 use parts::{Event, Place};
 
+// The octet of a switch event is 0 or this.
+const ENABLE: u8 = 1;
+
 pub(crate) fn on_select(state: &mut [u16], event: Event) -> Answer
-    requires { Fit state.old }
+    requires { Fit state.old × (event.port ≤ 1) }
     ensures { Did state.old (unless_own_row Kind.Select (drive_in state.old) event (told Answer.Done (selected (drive_in state.old) event.port event.a0))) result state.new }
 {
-    let d = state::drive_in(&state[..]);
-    let s = d.setup;
-    let h = d.holding;
-    let port = event.port as u16;
-    let octet = event.a0;
-    let misaddressed = parts::is_misaddressed(octet, s.address);
-    let changes_mode = parts::changes_mode(octet);
-    let busy = h.is_busy(port, octet);
-    let n = parts::select_refusal(
-        parts::none_after_1(event),
-        h.selected == port,
-        misaddressed,
-        changes_mode,
-        busy,
-    );
+    let n = select_refusal(&state[..], event);
     if n != 0 {
         return Answer::Refused(n);
     }
-    state::put_moved(d.select(port, octet), state);
+    let d = state::fit_drive_in(&state[..]);
+    state::put_moved(d.select(event.port as u16, event.a0), state);
     Answer::Done
+}
+
+// 8, 15, 3, 4, 5 or 6, or 0 where the selection is granted.
+fn select_refusal(state: &[u16], event: Event) -> u8
+    requires { Fit state.now × (event.port ≤ 1) }
+    ensures { result ≡ first (own_rows Kind.Select (drive_in state.now) event) }
+{
+    let octet = event.a0;
+    if !parts::none_after_1(event) {
+        return parts::MALFORMED;
+    }
+    if !parts::is_enabled(state[layout::SWITCH_0 + event.port as usize]) {
+        return parts::PORT_DISABLED;
+    }
+    if state[layout::SELECTED] == event.port as u16 {
+        return parts::ALREADY_SELECTED;
+    }
+    if parts::is_misaddressed(octet, state[layout::ADDRESS]) {
+        return parts::NOT_OUR_ADDRESS;
+    }
+    if parts::changes_mode(octet) {
+        return parts::MODE_CANNOT_CHANGE;
+    }
+    if is_busy(state, event.port, octet) {
+        return parts::BUSY;
+    }
+    0
+}
+
+fn is_busy(state: &[u16], port: u8, octet: u8) -> bool
+    requires { Fit state.now }
+    ensures { result ≡ is_busy (drive_in state.now).holding port octet }
+{
+    let d = state::fit_drive_in(state);
+    let h = d.holding;
+    h.is_busy(port as u16, octet)
 }
 
 pub(crate) fn on_deselect(state: &mut [u16], event: Event) -> Answer
@@ -49,8 +78,8 @@ pub(crate) fn on_deselect(state: &mut [u16], event: Event) -> Answer
     if n != 0 {
         return Answer::Refused(n);
     }
-    let d = state::drive_in(&state[..]);
-    state::put_moved(d.deselect(), state);
+    let d = state::fit_drive_in(&state[..]);
+    state::put_held(d.deselect(), state);
     Answer::Done
 }
 
@@ -61,8 +90,46 @@ pub(crate) fn on_reset(state: &mut [u16], event: Event) -> Answer
     if !parts::none_at_all(event) {
         return Answer::Refused(parts::MALFORMED);
     }
-    let d = state::drive_in(&state[..]);
+    let d = state::fit_drive_in(&state[..]);
     state::put_moved(d.reset(), state);
+    Answer::Done
+}
+
+pub(crate) fn on_switch(state: &mut [u16], event: Event) -> Answer
+    requires { Fit state.old × (event.port ≤ 1) }
+    ensures { Did state.old (unless_own_row Kind.Switch (drive_in state.old) event (told Answer.Done (switched (drive_in state.old) event.port event.a0))) result state.new }
+{
+    if !parts::none_after_1(event) {
+        return Answer::Refused(parts::MALFORMED);
+    }
+    if ENABLE < event.a0 {
+        return Answer::Refused(parts::MALFORMED);
+    }
+    if event.a0 == ENABLE {
+        state[layout::SWITCH_0 + event.port as usize] = parts::ENABLED;
+        return Answer::Done;
+    }
+    disable(state, event.port)
+}
+
+// A selected port goes on, and wishes; any other is disabled at once, and what it owns is free.
+fn disable(state: &mut [u16], port: u8) -> Answer
+    requires { Fit state.old × (port ≤ 1) }
+    ensures { Did state.old (told Answer.Done (switched (drive_in state.old) port 0)) result state.new }
+{
+    let at = layout::SWITCH_0 + port as usize;
+    if state[layout::SELECTED] == port as u16 {
+        state[at] = parts::WISHING;
+        return Answer::Done;
+    }
+    if state[layout::OWNER] != port as u16 {
+        state[at] = parts::DISABLED;
+        return Answer::Done;
+    }
+    state[at] = parts::DISABLED;
+    state[layout::SELECTED] = parts::NOBODY;
+    state[layout::OWNER] = parts::NOBODY;
+    state[layout::HOLD] = 0;
     Answer::Done
 }
 

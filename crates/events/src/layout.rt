@@ -42,3 +42,8 @@ pub(crate) const PARAMETER_0: usize = 18;
 pub(crate) const PARAMETER_1: usize = 19;
 
 pub(crate) const PARAMETER_2: usize = 20;
+
+// Each port's switch.
+pub(crate) const SWITCH_0: usize = 21;
+
+pub(crate) const SWITCH_1: usize = 22;

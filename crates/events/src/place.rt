@@ -29,7 +29,7 @@ pub(crate) fn close(state: &mut [u16])
 
 // No word of it has moved, and none of a command is kept. Control 0 is no transfer.
 pub(crate) fn put_transfer(state: &mut [u16], control: u16)
-    requires { 21 ≤ length state.old }
+    requires { 23 ≤ length state.old }
     ensures { state.new ≡ transfer_on state.old control }
 {
     state[layout::CONTROL] = control;

@@ -1,13 +1,15 @@
-// The 21 words of the state: read into a drive, and written from one.
+// The 23 words of the state: read into a drive, and written from one.
 ghost use Rattle.std.specs.Prelude.{◌≡◌, ◌≤◌, length};
 ghost use Rattle.laws.specs.Lists.{written_over};
+ghost use Rattle.events.specs.Fit.{Fit};
+ghost use Rattle.events.specs.Open.{held_on, selecting};
 ghost use Rattle.events.specs.State.{hold_word, hold_of, pending_word, pending_in, selected_in, drive_in, state_words, moved_to};
 
 use crate::layout;
 use drive::Drive;
-use parts::{Hold, Holding, Parameters, Pending, Place, Setup, Transfer};
+use parts::{Hold, Holding, Parameters, Pending, Place, Setup, Switches, Transfer};
 
-pub(crate) const STATE_WORDS: usize = 21;
+pub(crate) const STATE_WORDS: usize = 23;
 
 const LAST_HOLD: u16 = 2;
 
@@ -15,16 +17,31 @@ const LAST_HOLD: u16 = 2;
 const NO_PORT: u16 = 3;
 
 pub(crate) fn drive_in(state: &[u16]) -> Drive
-    requires { 21 ≤ length state.now }
+    requires { 23 ≤ length state.now }
     ensures { result ≡ drive_in state.now }
 {
-    let selected = selected_in(state);
+    drive_with(state, selected_in(state))
+}
+
+// The same of a state that row 11 lets pass, whose hold is known.
+pub(crate) fn fit_drive_in(state: &[u16]) -> Drive
+    requires { Fit state.now }
+    ensures { result ≡ drive_in state.now }
+{
+    drive_with(state, state[layout::SELECTED])
+}
+
+fn drive_with(state: &[u16], selected: u16) -> Drive
+    requires { 23 ≤ length state.now }
+    ensures { result ≡ selecting (drive_in state.now) selected }
+{
     let hold = hold_of(state[layout::HOLD]);
     let pending0 = pending_in(state[layout::PENDING_0]);
     let pending1 = pending_in(state[layout::PENDING_1]);
     let setup = setup_in(state);
     let place = place_in(state);
     let transfer = transfer_in(state);
+    let switches = switches_in(state);
     Drive {
         setup,
         holding: Holding {
@@ -37,11 +54,12 @@ pub(crate) fn drive_in(state: &[u16]) -> Drive
         transfer,
         pending0,
         pending1,
+        switches,
     }
 }
 
 pub(crate) fn setup_in(state: &[u16]) -> Setup
-    requires { 21 ≤ length state.now }
+    requires { 23 ≤ length state.now }
     ensures { result ≡ (drive_in state.now).setup }
 {
     Setup {
@@ -56,7 +74,7 @@ pub(crate) fn setup_in(state: &[u16]) -> Setup
 }
 
 pub(crate) fn place_in(state: &[u16]) -> Place
-    requires { 21 ≤ length state.now }
+    requires { 23 ≤ length state.now }
     ensures { result ≡ (drive_in state.now).place }
 {
     Place {
@@ -67,7 +85,7 @@ pub(crate) fn place_in(state: &[u16]) -> Place
 }
 
 pub(crate) fn transfer_in(state: &[u16]) -> Transfer
-    requires { 21 ≤ length state.now }
+    requires { 23 ≤ length state.now }
     ensures { result ≡ (drive_in state.now).transfer }
 {
     let parameters = Parameters {
@@ -82,9 +100,19 @@ pub(crate) fn transfer_in(state: &[u16]) -> Transfer
     }
 }
 
+fn switches_in(state: &[u16]) -> Switches
+    requires { 23 ≤ length state.now }
+    ensures { result ≡ (drive_in state.now).switches }
+{
+    Switches {
+        port0: state[layout::SWITCH_0],
+        port1: state[layout::SWITCH_1],
+    }
+}
+
 // The words that events change; the set-up's stay.
 pub(crate) fn put_moved(drive: Drive, state: &mut [u16])
-    requires { 21 ≤ length state.old }
+    requires { 23 ≤ length state.old }
     ensures { state.new ≡ moved_to state.old drive }
 {
     let h = drive.holding;
@@ -94,6 +122,7 @@ pub(crate) fn put_moved(drive: Drive, state: &mut [u16])
     let hold = h.hold;
     let pending0 = drive.pending0;
     let pending1 = drive.pending1;
+    let switches = drive.switches;
     let held = hold_word(hold);
     let octets0 = pending_word(pending0);
     let octets1 = pending_word(pending1);
@@ -111,11 +140,29 @@ pub(crate) fn put_moved(drive: Drive, state: &mut [u16])
     state[layout::PARAMETER_0] = kept.word0;
     state[layout::PARAMETER_1] = kept.word1;
     state[layout::PARAMETER_2] = kept.word2;
+    state[layout::SWITCH_0] = switches.port0;
+    state[layout::SWITCH_1] = switches.port1;
 }
 
-// All 21 words.
+// Who holds the drive, and the switches; the other words stay.
+pub(crate) fn put_held(drive: Drive, state: &mut [u16])
+    requires { 23 ≤ length state.old }
+    ensures { state.new ≡ held_on state.old drive }
+{
+    let h = drive.holding;
+    let hold = h.hold;
+    let switches = drive.switches;
+    let held = hold_word(hold);
+    state[layout::SELECTED] = h.selected;
+    state[layout::OWNER] = h.owner;
+    state[layout::HOLD] = held;
+    state[layout::SWITCH_0] = switches.port0;
+    state[layout::SWITCH_1] = switches.port1;
+}
+
+// All 23 words.
 pub(crate) fn put_state(drive: Drive, state: &mut [u16])
-    requires { 21 ≤ length state.old }
+    requires { 23 ≤ length state.old }
     ensures { state.new ≡ written_over state.old (state_words drive) }
 {
     let s = drive.setup;
@@ -130,7 +177,7 @@ pub(crate) fn put_state(drive: Drive, state: &mut [u16])
 }
 
 fn selected_in(state: &[u16]) -> u16
-    requires { 21 ≤ length state.now }
+    requires { 23 ≤ length state.now }
     ensures { result ≡ selected_in state.now }
 {
     if state[layout::HOLD] <= LAST_HOLD {

@@ -44,6 +44,7 @@ pub(crate) fn step(
         8 => answer_words::tell(kinds::on_target(state, event), telling, out),
         9 => answer_words::tell(kinds::on_read_status(state, event), telling, out),
         10 => answer_words::tell(kinds::on_reset(state, event), telling, out),
+        11 => answer_words::tell(kinds::on_switch(state, event), telling, out),
         _ => answer_words::tell(Answer::Refused(parts::MALFORMED), telling, out),
     }
 }

@@ -47,13 +47,13 @@ use Rattle.pantoglide.proofs.Singles.{going}
 
 -- the words of a drive that is up: rows 11 and 10 let it pass, and what is pending is octets
 record Up (w : Words) : Type 0 where
-  long : 21 ≤ length w.state
+  long : 23 ≤ length w.state
   passable : IsSound (machine_of w)
   octets : PendingOctets (machine_of w)
 
 -- what a call does: its events, one after another
 record Did (w : Words) (events : List Event) (told : List Answer) (w' : Words) : Type 0 where
-  long : 21 ≤ length w'.state
+  long : 23 ≤ length w'.state
   machine : machine_of w' ≡ final (machine_of w) events
   state : (d : Drive) → state_after w'.state d ≡ state_after w.state d
   answered : told ≡ answers (machine_of w) events
@@ -90,7 +90,7 @@ room_for {w} {answer = answer} u call taken = by_length (ltb (length answer) 13)
     by_length : (short : Bool) → ltb (length answer) 13 ≡ short → 13 ≤ length answer
     by_length false e = ltb-false (length answer) 13 e
     by_length true e =
-        absurd (taken (call.refusal ∙ rw (le-ltb (length w.state) 21 u.long, u.passable.sound, e, or-true (row10 (machine_of w).drive.setup w.sectors w.staging))))
+        absurd (taken (call.refusal ∙ rw (le-ltb (length w.state) 23 u.long, u.passable.sound, e, or-true (row10 (machine_of w).drive.setup w.sectors w.staging))))
 
 -- the answer is the one that the return value and the words tell
 told_as : (s : Setup) (a : Answer) (r : ℕ) (answer' : List ℕ) → answer_in (refusal_in a) (answer_words a) ≡ a → r ≡ refusal_in a → told_by r answer' ≡ answer_words a
@@ -128,7 +128,7 @@ batch_did {w} {w'} events n out u size state sectors staging told =
     let g = goes_along w.state w.sectors w.staging events u.long in
     let back = answers_bounded.all_told_back m.drive.setup (answers m events) (drop (length words) out) (limits_of w u) (answers_bounded.run m events u.octets) in
     record {
-      long = subst (λ (l : List ℕ). 21 ≤ length l) (sym state) g.long;
+      long = subst (λ (l : List ℕ). 23 ≤ length l) (sym state) g.long;
       machine = λ i. machine ((ap drive_in state ∙ g.drive) i) (sectors i) (staging i);
       state = λ d. ap (λ (l : List ℕ). state_after l d) state ∙ g.again d;
       answered = ap (answers_in n) told ∙ subst (λ (k : ℕ). answers_in k (written_over out words) ≡ answers m events) (answer_count m events ∙ sym size) back;
@@ -193,8 +193,8 @@ sent {w} (e ∷ events) u =
     let call : EventCall w e blank r w' (unless_refused r blank (written_over blank (answer_words (answer_to m e)))) =
     record { refusal = refl; state = refl; sectors = refl; staging = refl; answer = refl } in
     let number = as_the_drive w.state e w.sectors w.staging blank u.long (omega arith) in
-    let small = (stays_sound.never_11_or_10 m (e ∷ []) u.passable).0 in
-    let taken : r ≡ 10 → ⊥ = λ z. omega (arith, number, small, z) in
+    let not-10 = (stays_sound.never_11_or_10 m (e ∷ []) u.passable).1 in
+    let taken : r ≡ 10 → ⊥ = λ z. not-10 (sym number ∙ z) in
     let later = sent {w = w'} events (still_up u (event_did u call taken)) in
     record { told = answer_in r (take 13 (unless_refused r blank (written_over blank (answer_words (answer_to m e))))) ∷ later.told; end = later.end; calls = event call taken later.calls }
 
@@ -212,7 +212,7 @@ at_rest_lem {s} {w} {before} p =
     let passed = all_passed (power_up_rows s w.sectors w.staging before) refl (sym p.answer) in
     let limits = not-false (within_limits s) passed.0 in
     let room = passed.1.0 in
-    let rest = drop 21 before in
+    let rest = drop 23 before in
     let written : w.state ≡ state_words (at_rest s) ++ rest = rw (← p.answer) at p.state in
     let drive : machine_of w ≡ machine (at_rest s) w.sectors w.staging =
     ap (λ (d : Drive). machine d w.sectors w.staging) (ap drive_in written ∙ read_again (at_rest s) rest (omega arith, omega arith)) in
@@ -221,7 +221,7 @@ at_rest_lem {s} {w} {before} p =
       room = room;
       drive = drive;
       up = record {
-        long = subst (λ (l : List ℕ). 21 ≤ length l) (sym written) (rw (length-append (state_words (at_rest s)) rest) (omega arith));
+        long = subst (λ (l : List ℕ). 23 ≤ length l) (sym written) (rw (length-append (state_words (at_rest s)) rest) (omega arith));
         passable = subst IsSound (sym drive) (stays_sound.at_rest s w.sectors w.staging limits room);
         octets = subst PendingOctets (sym drive) ((omega arith, omega arith), (omega arith, omega arith));
       };

@@ -26,25 +26,25 @@ use Rattle.events.proofs.Goes.{goes, unmoved}
 use Rattle.events.proofs.Promises.{numbered_refused, refused_answer, as_the_drive}
 
 -- a run that is not refused has a state
-state_by : (state records out : List ℕ) (short : Bool) → ltb (length state) 21 ≡ short → 0 ≡ run_refusal state records out → 21 ≤ length state
+state_by : (state records out : List ℕ) (short : Bool) → ltb (length state) 23 ≡ short → 0 ≡ run_refusal state records out → 23 ≤ length state
 unfolding pick
-state_by state records out false e z = ltb-false (length state) 21 e
+state_by state records out false e z = ltb-false (length state) 23 e
 state_by state records out true e z = absurd (let n : 0 ≡ 10 = rw e at z in omega arith)
 
-state_there : {state records sectors staging out state' sectors' staging' out' : List ℕ} → RunOnWords state records sectors staging out 0 state' sectors' staging' out' → 21 ≤ length state
-state_there {state} {records} {out = out} run = state_by state records out (ltb (length state) 21) refl run.refusal
+state_there : {state records sectors staging out state' sectors' staging' out' : List ℕ} → RunOnWords state records sectors staging out 0 state' sectors' staging' out' → 23 ≤ length state
+state_there {state} {records} {out = out} run = state_by state records out (ltb (length state) 23) refl run.refusal
 
 -- ---- one call
 
 pub record Going (w : Words) (e : Event) (words' : List ℕ) (w' : Words) : Type 0 where
-  pub long : 21 ≤ length w'.state
+  pub long : 23 ≤ length w'.state
   pub machine : machine_in w'.state w'.sectors w'.staging ≡ after (machine_in w.state w.sectors w.staging) e
   pub state : (d : Drive) → state_after w'.state d ≡ state_after w.state d
   pub told : words' ≡ answer_words (answer_to (machine_in w.state w.sectors w.staging) e)
 
 -- a refused one
 going_refused : {state : List ℕ} {e : Event} {sectors staging answer : List ℕ} {r : ℕ} {state' sectors' staging' answer' : List ℕ} (n : ℕ) → r ≡ suc n
-    → 21 ≤ length state → 13 ≤ length answer → EventOnWords state e sectors staging answer r state' sectors' staging' answer'
+    → 23 ≤ length state → 13 ≤ length answer → EventOnWords state e sectors staging answer r state' sectors' staging' answer'
     → Going (words state sectors staging) e (told_by r answer') (words state' sectors' staging')
 going_refused {state} {e} {sectors} {staging} {answer} {r} n z h k call =
     let m = machine_in state sectors staging in
@@ -60,7 +60,7 @@ going_refused {state} {e} {sectors} {staging} {answer} {r} n z h k call =
 
 -- an accepted one
 going_accepted : {state : List ℕ} {e : Event} {sectors staging answer : List ℕ} {r : ℕ} {state' sectors' staging' answer' : List ℕ} → r ≡ 0
-    → 21 ≤ length state → 13 ≤ length answer → EventOnWords state e sectors staging answer r state' sectors' staging' answer'
+    → 23 ≤ length state → 13 ≤ length answer → EventOnWords state e sectors staging answer r state' sectors' staging' answer'
     → Going (words state sectors staging) e (told_by r answer') (words state' sectors' staging')
 going_accepted {state} {e} {sectors} {staging} {answer} z h k call =
     let m = machine_in state sectors staging in
@@ -73,7 +73,7 @@ going_accepted {state} {e} {sectors} {staging} {answer} z h k call =
       told = rw (z, rw z at call.answer) (take_at (answer_words (answer_to m e)) _ 13 (thirteen (answer_to m e)));
     }
 
-pub going : {state : List ℕ} {e : Event} {sectors staging answer : List ℕ} {state' sectors' staging' answer' : List ℕ} (r : ℕ) → 21 ≤ length state → 13 ≤ length answer
+pub going : {state : List ℕ} {e : Event} {sectors staging answer : List ℕ} {state' sectors' staging' answer' : List ℕ} (r : ℕ) → 23 ≤ length state → 13 ≤ length answer
     → EventOnWords state e sectors staging answer r state' sectors' staging' answer'
     → Going (words state sectors staging) e (told_by r answer') (words state' sectors' staging')
 going zero = going_accepted refl
@@ -87,7 +87,7 @@ record Gone (w : Words) (events : List Event) (told₁ : List ℕ) (w' : Words) 
   staging : w'.staging ≡ (final (machine_in w.state w.sectors w.staging) events).staging
   told : told₁ ≡ words_of_answers (answers (machine_in w.state w.sectors w.staging) events)
 
-gone : {w : Words} {events : List Event} {told : List ℕ} {w' : Words} → 21 ≤ length w.state → Singles w events told w' → Gone w events told w'
+gone : {w : Words} {events : List Event} {told : List ℕ} {w' : Words} → 23 ≤ length w.state → Singles w events told w' → Gone w events told w'
 unfolding final answers words_of_answers
 gone {w} h none = record { state = sym (unmoved w.state h); sectors = refl; staging = refl; told = refl }
 gone h (one {r = r} {events = events} room call more) =
@@ -100,7 +100,7 @@ gone h (one {r = r} {events = events} room call more) =
       told = rw (g.told, rest.told, g.machine);
     }
 
-as_run : {state records sectors staging out state' sectors' staging' out' told : List ℕ} {w : Words} → 21 ≤ length state
+as_run : {state records sectors staging out state' sectors' staging' out' told : List ℕ} {w : Words} → 23 ≤ length state
     → RunOnWords state records sectors staging out 0 state' sectors' staging' out' → Singles (words state sectors staging) (events_of records) told w
     → (words state' sectors' staging' ≡ w) × (take (length told) out' ≡ told)
 as_run h run singles =

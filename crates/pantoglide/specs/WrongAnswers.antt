@@ -58,7 +58,7 @@ pub record WrongLines (read : Follower → List ℕ → Read) : Type 0 where
 pub record WrongAnswers : Type 0 where
   -- ---- `pg_power_up`
   -- Cylinders and heads changed over.
-  pub cylinders_for_heads : PoweredUpOnWords (setup_of 1 2 3 1 2 1 3) (disk zeros) zeros (replicate 21 0) 0 (state_words (at_rest (setup_of 2 1 3 1 2 1 3))) → ⊥
+  pub cylinders_for_heads : PoweredUpOnWords (setup_of 1 2 3 1 2 1 3) (disk zeros) zeros (replicate 23 0) 0 (state_words (at_rest (setup_of 2 1 3 1 2 1 3))) → ⊥
   -- ---- `pg_event`
   -- Port and kind changed over: the selection is an event of no kind.
   pub port_for_kind : EventOnWords rest (event_of_octets 0 1 0x30 0 0 0) (disk zeros) zeros (replicate 13 0) 8 rest (disk zeros) zeros (replicate 13 0) → ⊥

@@ -10,16 +10,18 @@ use Rattle.parts.specs.Command.{code_of, parameter_words}
 use Rattle.parts.specs.Control.{control_of, header_passes, data_words, words_to_come}
 use Rattle.parts.specs.Holding.{is_busy, released}
 use Rattle.parts.specs.Pending.{octet0, with_bit, noticed, faulted}
+use Rattle.parts.specs.Switches.{switch_of, with_switch}
 use Rattle.parts.specs.WrongAnswers.{WrongAnswers}
 use Rattle.parts.specs.declared.holding.Holding.{Holding}
 use Rattle.parts.specs.declared.pending.Pending.{Pending}
+use Rattle.parts.specs.declared.switches.Switches.{Switches}
 use Rattle.parts.specs.declared.transfer.Transfer.{Transfer}
 
 abbrev owner_in : Holding → ℕ
 owner_in h = h.owner
 
 pub wrong_answers : WrongAnswers
-unfolding pick within_limits all_words lacks_room is_place is_target following control_of code_of header_passes data_words parameter_words words_to_come is_busy released with_bit noticed faulted octet0
+unfolding pick switch_of with_switch within_limits all_words lacks_room is_place is_target following control_of code_of header_passes data_words parameter_words words_to_come is_busy released with_bit noticed faulted octet0
 wrong_answers =
     record {
       read_for_d0 = λ h. false≢true h.on_paper;
@@ -81,8 +83,14 @@ wrong_answers =
       octet_2_overlooked = differ refl;
       selection_before_form = differ refl;
       transfer_before_selection = differ refl;
-      address_before_selected = differ refl;
-      busy_before_mode = differ refl;
+      wish_enables = true≢false;
+      wish_disables = false≢true;
+      enabled_wishes = true≢false;
+      wish_overlooked = false≢true;
+      switch_of_the_other_lem = differ refl;
+      nobody_disabled = differ refl;
+      both_replaced = λ h. differ refl (ap (λ (w : Switches). w.port1) h);
+      nobody_replaced = λ h. differ refl (ap (λ (w : Switches). w.port1) h);
       cylinder_too_many = true≢false;
       no_header_refused = false≢true;
       last_word_overlooked = false≢true;

@@ -9,11 +9,11 @@ pub data Work : Type 0 where
   DataControl WordFromHost TakeWord End Position Target ReadStatus : Work
 
 pub data Kind : Type 0 where
-  Select Deselect Reset Unknown : Kind
+  Select Deselect Reset Switch Unknown : Kind
   Use : Work → Kind
 
 -- "1 Select(octet), 2 Deselect, 3 Data control(octet), 4 Word from host, 5 Take a word, 6 End, 7 Position(cylinder, head, sector),
--- 8 Target(sector or FFFF), 9 Read status, 10 Reset."
+-- 8 Target(sector or FFFF), 9 Read status, 10 Reset." M-105: "a kind 11", Switch.
 unfoldable pub kind_of : ℕ → Kind
 kind_of n =
     pick (eqb n 1) Select
@@ -25,9 +25,10 @@ kind_of n =
     (pick (eqb n 7) (Use Position)
     (pick (eqb n 8) (Use Target)
     (pick (eqb n 9) (Use ReadStatus)
-    (pick (eqb n 10) Reset Unknown)))))))))
+    (pick (eqb n 10) Reset
+    (pick (eqb n 11) Switch Unknown))))))))))
 
--- "Each event has four argument octets: kinds 1 and 3 use one, 4 and 8 two, 7 all four .., the others none."
+-- "Each event has four argument octets: kinds 1 and 3 use one, 4 and 8 two, 7 all four .., the others none." Kind 11: "with one argument octet".
 abbrev pub none_after1 : Event → Bool
 none_after1 e = eqb e.a1 0 && eqb e.a2 0 && eqb e.a3 0
 
@@ -41,6 +42,7 @@ abbrev pub uses_only_its_own : Kind → Event → Bool
 uses_only_its_own Select e = none_after1 e
 uses_only_its_own Deselect e = none_at_all e
 uses_only_its_own Reset e = none_at_all e
+uses_only_its_own Switch e = none_after1 e
 uses_only_its_own (Use DataControl) e = none_after1 e
 uses_only_its_own (Use WordFromHost) e = none_after2 e
 uses_only_its_own (Use TakeWord) e = none_at_all e
@@ -50,7 +52,7 @@ uses_only_its_own (Use Target) e = none_after2 e
 uses_only_its_own (Use ReadStatus) e = none_at_all e
 uses_only_its_own Unknown e = false
 
--- The octet of kinds 1 and 3, the word of 4, the target of 8, "(cylinder 2, head 1, sector 1)" of 7, high first.
+-- The octet of kinds 1, 3 and 11, the word of 4, the target of 8, "(cylinder 2, head 1, sector 1)" of 7, high first.
 abbrev pub word_of : Event → ℕ
 word_of e = e.a0 * 256 + e.a1
 

@@ -3,6 +3,7 @@ pub mod Command
 pub mod Control
 pub mod Bit4
 pub mod Holding
+pub mod Switches
 pub mod Pending
 pub mod Kind
 pub mod Tests

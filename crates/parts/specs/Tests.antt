@@ -5,9 +5,11 @@ use Rattle.laws.specs.Octets.{bit}
 use Rattle.parts.specs.Setup.{within_limits}
 use Rattle.parts.specs.Control.{control_of, takes_words, gives_words, words_to_come}
 use Rattle.parts.specs.Holding.{nobody, holds}
+use Rattle.parts.specs.Switches.{is_enabled, switch_of}
 use Rattle.parts.specs.declared.setup.Setup.{Setup}
 use Rattle.parts.specs.declared.holding.Holding.{Holding}
 use Rattle.parts.specs.declared.pending.Pending.{Pending}
+use Rattle.parts.specs.declared.switches.Switches.{Switches}
 use Rattle.parts.specs.declared.transfer.Parameters.{Parameters}
 use Rattle.parts.specs.declared.transfer.Transfer.{Transfer}
 
@@ -67,6 +69,14 @@ is_broken_transfer s h t =
 unfoldable pub has_stray_bit : Pending → Bool
 has_stray_bit p = not (eqb (p.octet1 % 64) 0) || not (eqb (p.octet2 % 16) 0)
 
+-- M-105: a switch over 3, and "a disabled port that is selected or holds".
+unfoldable pub is_misswitched : Switches → Holding → Bool
+is_misswitched w h =
+    ltb 3 w.port0
+    || ltb 3 w.port1
+    || not (is_enabled (switch_of w h.selected))
+    || holds h.hold && not (is_enabled (switch_of w h.owner))
+
 -- ---- rows 4 and 5
 
 -- "Select, octet bit 7 set or address (bits 6 to 4) not ours"
@@ -77,11 +87,7 @@ is_misaddressed octet address = bit 7 octet || not (eqb (octet / 16 % 8) address
 abbrev pub changes_mode : ℕ → Bool
 changes_mode octet = bit 3 octet || bit 2 octet
 
--- ---- "Events test 11, 10, 1, 8; then Select 3, 4, 5, 6; others 2, then 7": from 8 on
+-- ---- "Events test 11, 10, 1, 8; then Select 3, 4, 5, 6; others 2, then 7": the others from 8 on
 
 abbrev pub inside_rows : Bool → Bool → Bool → List Row
 inside_rows formed selected untimely = 8 when not formed ∷ 2 when not selected ∷ 7 when untimely ∷ []
-
-abbrev pub select_rows : Bool → Bool → Bool → Bool → Bool → List Row
-select_rows formed selected misaddressed changes busy =
-    8 when not formed ∷ 3 when selected ∷ 4 when misaddressed ∷ 5 when changes ∷ 6 when busy ∷ []

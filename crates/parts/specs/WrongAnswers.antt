@@ -6,8 +6,9 @@ use Rattle.parts.specs.Control.{ControlSaid, control_of, is_data, is_write, is_r
 use Rattle.parts.specs.Command.{parameter_words, FunctionSaid}
 use Rattle.parts.specs.Holding.{nobody, held, free, is_owned_by_other, is_busy, Granted, NotHeld, Released}
 use Rattle.parts.specs.Pending.{pending_of, noticed, bit_of, faulted, octet0}
+use Rattle.parts.specs.Switches.{is_enabled, wishes, switches, switch_of, with_switch}
 use Rattle.parts.specs.Kind.{none_after1, none_after2, none_at_all, word_of}
-use Rattle.parts.specs.Tests.{transferring, no_transfer, is_misaddressed, changes_mode, inside_rows, select_rows}
+use Rattle.parts.specs.Tests.{transferring, no_transfer, is_misaddressed, changes_mode, inside_rows}
 use Rattle.parts.specs.declared.setup.Setup.{Setup}
 use Rattle.parts.specs.declared.setup.Place.{Place}
 use Rattle.parts.specs.declared.command.Function.{Function}
@@ -178,11 +179,26 @@ pub record WrongAnswers : Type 0 where
   pub selection_before_form : 2 ≡ first (inside_rows false false true) → ⊥
   -- 2 goes before 7.
   pub transfer_before_selection : 7 ≡ first (inside_rows true false true) → ⊥
-  -- ---- select_refusal
-  -- 3 goes before 4.
-  pub address_before_selected : 4 ≡ first (select_rows true true true false false) → ⊥
-  -- 5 goes before 6.
-  pub busy_before_mode : 6 ≡ first (select_rows true false false true true) → ⊥
+  -- ---- is_enabled
+  -- A wish alone enables nothing.
+  pub wish_enables : true ≡ is_enabled 2 → ⊥
+  -- A port that wishes is enabled still.
+  pub wish_disables : false ≡ is_enabled 3 → ⊥
+  -- ---- wishes
+  -- Enabled is no wish.
+  pub enabled_wishes : true ≡ wishes 1 → ⊥
+  -- 2 is the wish.
+  pub wish_overlooked : false ≡ wishes 2 → ⊥
+  -- ---- Switches::switch_of
+  -- Each port has its own.
+  pub switch_of_the_other_lem : 1 ≡ switch_of (switches 1 0) 1 → ⊥
+  -- Nobody is not disabled.
+  pub nobody_disabled : 0 ≡ switch_of (switches 0 0) nobody → ⊥
+  -- ---- Switches::with_switch
+  -- The other port's stays.
+  pub both_replaced : switches 0 0 ≡ with_switch (switches 1 1) 0 0 → ⊥
+  -- Nobody has none to replace.
+  pub nobody_replaced : switches 1 0 ≡ with_switch (switches 1 1) nobody 0 → ⊥
   -- ---- Setup::within_limits
   -- 4,096 cylinders are the most.
   pub cylinder_too_many : true ≡ within_limits (bench_with 4097 1) → ⊥

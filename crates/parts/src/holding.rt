@@ -86,8 +86,11 @@ impl Holding {
     pub fn is_busy(self, port: u16, octet: u8) -> bool
         ensures { result ≡ is_busy self port octet }
     {
+        if !self.is_owned_by_other(port) {
+            return false;
+        }
         let hold = self.hold;
-        self.is_owned_by_other(port) & holds_against(hold, octet)
+        holds_against(hold, octet)
     }
 
     pub fn released(self) -> Holding

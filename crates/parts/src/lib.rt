@@ -6,6 +6,7 @@ mod holding;
 mod pending;
 mod refusal;
 mod setup;
+mod switches;
 mod transfer;
 
 pub use command::{Function, function_of, parameter_words};
@@ -20,8 +21,9 @@ pub use holding::{Hold, Holding, NOBODY, granted_to, no_holding};
 pub use pending::{Fault, Pending, RESET_COMPLETE};
 pub use refusal::{
     ALREADY_SELECTED, BUSY, MALFORMED, MODE_CANNOT_CHANGE, NO_SUCH_PORT, NOT_OUR_ADDRESS,
-    NOT_SELECTED, OUTSIDE_ITS_LIMITS, SLICE_TOO_SHORT, TRANSFER_OPEN_OR_NOT, UNSOUND_STATE,
-    inside_refusal, select_refusal,
+    NOT_SELECTED, OUTSIDE_ITS_LIMITS, PORT_DISABLED, SLICE_TOO_SHORT, TRANSFER_OPEN_OR_NOT,
+    UNSOUND_STATE, inside_refusal,
 };
 pub use setup::{NO_TARGET, Place, Setup, next_of};
+pub use switches::{DISABLED, ENABLED, Switches, WISHING, is_enabled, wishes};
 pub use transfer::{Parameters, Transfer, no_transfer};

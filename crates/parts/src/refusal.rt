@@ -1,7 +1,7 @@
 // The refusals: their numbers, and the rows of a kind in the order of their tests.
 ghost use Rattle.std.specs.Prelude.{◌≡◌};
 ghost use Rattle.laws.specs.Rows.{first};
-ghost use Rattle.parts.specs.Tests.{inside_rows, select_rows};
+ghost use Rattle.parts.specs.Tests.{inside_rows};
 
 pub const NO_SUCH_PORT: u8 = 1;
 
@@ -25,6 +25,8 @@ pub const SLICE_TOO_SHORT: u8 = 10;
 
 pub const UNSOUND_STATE: u8 = 11;
 
+pub const PORT_DISABLED: u8 = 15;
+
 // Kinds 2 to 9: 8, then 2, then 7.
 pub fn inside_refusal(formed: bool, selected: bool, untimely: bool) -> u8
     ensures { result ≡ first (inside_rows formed selected untimely) }
@@ -37,34 +39,6 @@ pub fn inside_refusal(formed: bool, selected: bool, untimely: bool) -> u8
     }
     if untimely {
         return TRANSFER_OPEN_OR_NOT;
-    }
-    0
-}
-
-// Select: 8, then 3, 4, 5, 6.
-pub fn select_refusal(
-    formed: bool,
-    selected: bool,
-    misaddressed: bool,
-    changes_mode: bool,
-    busy: bool,
-) -> u8
-    ensures { result ≡ first (select_rows formed selected misaddressed changes_mode busy) }
-{
-    if !formed {
-        return MALFORMED;
-    }
-    if selected {
-        return ALREADY_SELECTED;
-    }
-    if misaddressed {
-        return NOT_OUR_ADDRESS;
-    }
-    if changes_mode {
-        return MODE_CANNOT_CHANGE;
-    }
-    if busy {
-        return BUSY;
     }
     0
 }

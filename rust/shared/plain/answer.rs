@@ -19,6 +19,7 @@ pub enum Refusal {
     CaptureTooShort = 12,
     TrailerMark = 13,
     TrailerDistance = 14,
+    PortDisabled = 15,
 }
 
 #[derive(Clone, Copy)]

@@ -58,6 +58,8 @@ pub struct Drive<'a> {
     pub moved: &'a mut u16,
     pub pending: &'a mut [u16; 2],
     pub parameters: Parameters<'a>,
+    /// Of each port: `ENABLED` or not, and with it `WISH` or not.
+    pub switches: [&'a mut u16; 2],
 }
 
 /// The lent words.
@@ -154,12 +156,17 @@ impl Drive<'_> {
             (8, [high, low, 0, 0]) => self.target(port, u16::from_be_bytes([high, low])),
             (9, [0, 0, 0, 0]) => self.read_status(port),
             (10, [0, 0, 0, 0]) => Ok(self.reset()),
+            (11, [0, 0, 0, 0]) => Ok(self.disable(port)),
+            (11, [1, 0, 0, 0]) => Ok(self.enable(port)),
             _ => Err(Refusal::Malformed),
         }
     }
 
     #[inline(always)]
     fn select(&mut self, port: Port, octet: u8) -> Outcome {
+        if !self.is_enabled(port) {
+            return Err(Refusal::PortDisabled);
+        }
         if *self.selected == port as u16 {
             return Err(Refusal::AlreadySelected);
         }
@@ -177,6 +184,7 @@ impl Drive<'_> {
             }
             self.pending[other as usize] |= ALTERNATE_PORT_PRIORITY_SELECT;
         }
+        self.grant_wish();
         self.close();
         *self.selected = port as u16;
         *self.owner = port as u16;
@@ -187,10 +195,10 @@ impl Drive<'_> {
     #[inline(always)]
     fn deselect(&mut self, port: Port) -> Outcome {
         self.require_rest(port)?;
-        *self.selected = NOBODY;
-        if *self.hold == Hold::None as u16 {
-            *self.owner = NOBODY;
+        if self.grant_wish() || *self.hold == Hold::None as u16 {
+            self.free();
         }
+        *self.selected = NOBODY;
         Ok(Answer::Accepted)
     }
 
@@ -229,6 +237,7 @@ impl Drive<'_> {
 
     #[inline(always)]
     fn reset(&mut self) -> Answer {
+        self.grant_wish();
         self.come_to_rest(RESET_COMPLETE);
         Answer::Accepted
     }

@@ -1,6 +1,6 @@
-//! Document 01 with requests M-100, M-102, M-103, M-104 and M-108 once more, in plain safe Rust and
-//! independent of the proved code: what the tests compare the archive with, and what the speed
-//! program measures it against.
+//! Document 01 with requests M-100, M-102, M-103, M-104, M-105 and M-108 once more, in plain safe
+//! Rust and independent of the proved code: what the tests compare the archive with, and what the
+//! speed program measures it against.
 //!
 //! The helpers are inlined because a drive that is handed to a function left out of line must be
 //! built in memory, which costs half as many instructions again.
@@ -14,6 +14,7 @@ mod drive;
 mod follower;
 mod replay;
 mod setup;
+mod switch;
 mod transfer;
 mod words;
 

@@ -6,7 +6,7 @@ use super::control::{Control, Meaning};
 use super::drive::{Drive, Hold, Medium, Outcome, NOBODY, NO_TARGET, PENDING_BITS};
 use super::setup::{Place, Setup};
 
-pub const STATE_WORDS: usize = 21;
+pub const STATE_WORDS: usize = 23;
 pub const ANSWER_WORDS: usize = 13;
 pub const RECORD_OCTETS: usize = 8;
 
@@ -47,6 +47,7 @@ pub fn power_up(
         return Refusal::TooShort as u8;
     }
     drive.come_to_rest(0);
+    drive.switch_on();
     *state = words;
     ACCEPTED
 }
@@ -129,7 +130,7 @@ pub fn run(
 /// The drive whose parts are these words.
 #[inline(always)]
 fn drive_in(state: &mut State) -> Drive<'_> {
-    let [cylinders, heads, sectors, header, field1, field2, address, selected, owner, hold, cylinder, head, sector, target, control, moved, pending @ .., cylinder_high, cylinder_low, parameter_head] =
+    let [cylinders, heads, sectors, header, field1, field2, address, selected, owner, hold, cylinder, head, sector, target, control, moved, pending @ .., cylinder_high, cylinder_low, parameter_head, switch0, switch1] =
         state;
     let setup = Setup {
         cylinders,
@@ -158,6 +159,7 @@ fn drive_in(state: &mut State) -> Drive<'_> {
         moved,
         pending,
         parameters,
+        switches: [switch0, switch1],
     }
 }
 
@@ -169,6 +171,7 @@ fn is_sound(state: &mut State) -> bool {
         && drive.setup.contains(drive.place())
         && (*drive.target == NO_TARGET || *drive.target < *drive.setup.sectors)
         && is_owned_soundly(&drive)
+        && drive.has_sound_switches()
         && is_transfer_sound(&drive)
         && (drive.pending[0] | drive.pending[1]) & !PENDING_BITS == 0
 }

@@ -7,31 +7,22 @@ mod script;
 mod sides;
 mod states;
 mod tables;
+mod worked;
 
 use numbers::every_number_loaded;
-use script::{answer, assert_state, cases, event, Case};
-use sides::{opened, status, with, Bench, Side, State, ARCHIVE, PLAIN, QUIET, SELECTED_BY_0};
+use script::cases;
+use sides::at_both_sides;
+use sides::{opened, status, with, Bench, Side, State, ARCHIVE, PLAIN, SELECTED_BY_0};
 use sides::{CONTROL, CYLINDER, HEAD, HOLD, PARAMETERS, PENDING, SECTOR, TARGET};
 use states::{parameter_words, states_handed_in};
 use tables::{entry, CODES, FUNCTIONS};
+use worked::{follow, follow_as_runs};
 
 #[allow(dead_code, unused_imports)] // the speed program uses the rest
 #[path = "../../shared/mod.rs"]
 mod shared;
 
 const CASES: &str = concat!(include_str!("cases.md"), include_str!("ignored.md"));
-
-/// A test for each side: what the function asserts of a side holds at both.
-macro_rules! at_both_sides {
-    ($($test:ident),*) => {
-        mod plain_drive {
-            $(#[test] fn $test() { super::$test(super::PLAIN); })*
-        }
-        mod archive {
-            $(#[test] fn $test() { super::$test(super::ARCHIVE); })*
-        }
-    };
-}
 
 at_both_sides!(
     worked_cases,
@@ -45,42 +36,13 @@ at_both_sides!(
 );
 
 fn worked_cases(side: Side) {
-    let cases = cases(CASES);
-    assert_eq!(cases.len(), 24, "all cases of the pages are read");
-    for case in cases {
-        worked_case(side, &case);
-    }
+    let count = cases(CASES).len();
+    assert_eq!(count, 24, "all cases of the pages are read");
+    follow(side, CASES);
 }
 
-/// Every case in one run, which answers and leaves what single events do.
 fn worked_cases_as_runs(side: Side) {
-    for case in cases(CASES) {
-        let (mut bench, mut alone) = (Bench::in_state(QUIET), Bench::in_state(QUIET));
-        let events = case.steps.iter().map(|step| event(step.event));
-        let events = events.collect::<Vec<_>>();
-        let answers = case.steps.iter().map(|step| answer(step.answer));
-        let answers = answers.collect::<Vec<_>>();
-        assert_eq!(bench.run(side, &events), answers, "{}", case.title);
-        for event in events {
-            let _ = alone.event(side, event);
-        }
-        assert_eq!(bench, alone, "{}", case.title);
-    }
-}
-
-fn worked_case(side: Side, case: &Case) {
-    let mut bench = Bench::in_state(QUIET);
-    for (number, step) in case.steps.iter().enumerate() {
-        let at = format!("{}, {}, row {}", side.name, case.title, number + 1);
-        let before = bench.clone();
-        let answered = bench.event(side, event(step.event));
-        assert_eq!(answered, answer(step.answer), "{at}: {}", step.event);
-        assert_state(&bench, step.state, &at);
-        if before.state[CONTROL] < 0x80 {
-            assert_eq!(bench.sectors, before.sectors, "{at}: no data is open");
-            assert_eq!(bench.staging, before.staging, "{at}: never staged");
-        }
-    }
+    follow_as_runs(side, CASES);
 }
 
 /// The bit of response octet 2 that a digit of the tables names.

@@ -2,7 +2,7 @@
 
 use crate::sides::{
     answer_with, AnswerWords, Bench, EventOctets, CONTROL, CYLINDER, HOLD, MOVED, OWNER,
-    PARAMETERS, PENDING, SELECTED, TARGET,
+    PARAMETERS, PENDING, SELECTED, SWITCHES, TARGET,
 };
 
 /// A case by its title, and its rows.
@@ -74,6 +74,7 @@ pub fn event(text: &str) -> EventOctets {
         "target" => (8, word()),
         "status" => (9, [0; 4]),
         "reset" => (10, [0; 4]),
+        "switch" => (11, octet()),
         _ => panic!("no kind: {kind}"),
     };
     [port.expect("a port") as u8, kind, a0, a1, a2, a3]
@@ -136,10 +137,21 @@ fn state_part<'a>(bench: &'a Bench, part: &str) -> (&'a [u16], Vec<u16>) {
         }
         "octets0" => (&state[PENDING..][..1], octets(value)),
         "octets1" => (&state[PENDING + 1..][..1], octets(value)),
-        "parameters" => (&state[PARAMETERS..], words()),
+        "parameters" => (&state[PARAMETERS..SWITCHES], words()),
+        "port0" => (&state[SWITCHES..][..1], switch(value)),
+        "port1" => (&state[SWITCHES + 1..][..1], switch(value)),
         "words0-3" => (&bench.sectors[0..=3], words()),
         "words24-27" => (&bench.sectors[24..=27], words()),
         _ => panic!("no part of the state: {part}"),
+    }
+}
+
+fn switch(text: &str) -> Vec<u16> {
+    match text {
+        "disabled" => vec![0],
+        "enabled" => vec![1],
+        "enabled, wishes" => vec![3],
+        _ => panic!("no switch: {text}"),
     }
 }
 

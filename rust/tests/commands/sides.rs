@@ -16,10 +16,11 @@ pub const CONTROL: usize = 14;
 pub const MOVED: usize = 15;
 pub const PENDING: usize = 16;
 pub const PARAMETERS: usize = 18;
+pub const SWITCHES: usize = 21;
 
 /// The bench drive just powered up.
 pub const QUIET: State = [
-    2, 2, 3, 1, 2, 1, 3, 2, 2, 0, 0, 0, 0, 0xFFFF, 0, 0, 0, 0, 0, 0, 0,
+    2, 2, 3, 1, 2, 1, 3, 2, 2, 0, 0, 0, 0, 0xFFFF, 0, 0, 0, 0, 0, 0, 0, 1, 1,
 ];
 /// The same, selected by port 0 without a hold.
 pub const SELECTED_BY_0: State = with(QUIET, &[(SELECTED, 0), (OWNER, 0)]);
@@ -145,3 +146,16 @@ pub fn status(status: u16) -> Result<AnswerWords, u8> {
 pub fn opened(words: u16) -> Result<AnswerWords, u8> {
     Ok(answer_with(&[(2, words), (3, 0), (4, 0), (5, 0)]))
 }
+
+/// A test for each side: what the function asserts of a side holds at both.
+macro_rules! at_both_sides {
+    ($($test:ident),*) => {
+        mod plain_drive {
+            $(#[test] fn $test() { super::$test(super::PLAIN); })*
+        }
+        mod archive {
+            $(#[test] fn $test() { super::$test(super::ARCHIVE); })*
+        }
+    };
+}
+pub(crate) use at_both_sides;

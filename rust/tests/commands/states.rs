@@ -2,7 +2,7 @@
 
 use crate::script::{answer, event};
 use crate::sides::{with, Bench, Side, SELECTED_BY_0};
-use crate::sides::{CONTROL, HOLD, MOVED, OWNER, PARAMETERS, PENDING, SELECTED};
+use crate::sides::{CONTROL, HOLD, MOVED, OWNER, PARAMETERS, PENDING, SELECTED, SWITCHES};
 
 const NOBODY: u16 = 2;
 const PLAIN_HOLD: u16 = 1;
@@ -120,7 +120,7 @@ const CLEARED: [(Changes, &str); 17] = [
     (&[(CONTROL, 0x46)], "0 take"),
 ];
 /// What leaves them: words before the last, what opens nothing, and other kinds.
-const LEFT: [(Changes, &str); 12] = [
+const LEFT: [(Changes, &str); 15] = [
     (&[(CONTROL, 0x85)], "0 word 0000"),
     (&[(CONTROL, 0xC1)], "0 take"),
     (&[(CONTROL, 0x44)], "0 take"),
@@ -133,19 +133,22 @@ const LEFT: [(Changes, &str); 12] = [
     (&[], "0 target FFFF"),
     (&[], "0 status"),
     (&[], "0 deselect"),
+    (&[(CONTROL, 0x07), (MOVED, 3)], "0 switch 0"),
+    (&[(CONTROL, 0x07), (MOVED, 3)], "1 switch 0"),
+    (&[], "0 switch 1"),
 ];
 
 pub fn parameter_words(side: Side) {
     const HANDED_IN: [u16; 3] = [0x1234, 0x5678, 0x9ABC];
     let mut full = SELECTED_BY_0;
-    full[PARAMETERS..].copy_from_slice(&HANDED_IN);
+    full[PARAMETERS..SWITCHES].copy_from_slice(&HANDED_IN);
     let cleared = CLEARED.map(|row| (row, [0; 3]));
     let left = LEFT.map(|row| (row, HANDED_IN));
     for ((changes, asked), words) in cleared.into_iter().chain(left) {
         let mut bench = Bench::in_state(with(full, changes));
         let answered = bench.event(side, event(asked));
         assert!(answered.is_ok(), "{}: {changes:?}, {asked}", side.name);
-        let found = &bench.state[PARAMETERS..];
+        let found = &bench.state[PARAMETERS..SWITCHES];
         assert_eq!(found, words, "{}: {changes:?}, {asked}", side.name);
     }
 }

@@ -72,7 +72,7 @@ fn state(selected: u16, [control, moved]: [u16; 2], target: u16) -> State {
     let [cylinders, heads, sectors, header, field1, field2, address] = BENCH;
     [
         cylinders, heads, sectors, header, field1, field2, address, selected, selected, 0, 1, 1, 2,
-        target, control, moved, 0, 0, 0, 0, 0,
+        target, control, moved, 0, 0, 0, 0, 0, 1, 1,
     ]
 }
 

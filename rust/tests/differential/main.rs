@@ -11,6 +11,7 @@ mod parts_tally;
 mod replays;
 mod setups;
 mod stream;
+mod switches;
 mod tally;
 mod words;
 

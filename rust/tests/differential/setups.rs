@@ -6,6 +6,7 @@ use crate::words::{random_words, Pair};
 use pantoglide::raw::STATE_WORDS;
 
 const SETUP_LIMITS: [u16; 7] = [4096, 32, 256, 8, 1024, 1024, 7];
+const NOBODY: u16 = 2;
 const NO_TARGET: u16 = 0xFFFF;
 const PENDING_BITS: u16 = 0xC0F0;
 const LOAD_DRIVE_FUNCTION: u16 = 0x01;
@@ -120,10 +121,10 @@ fn edge(random: &mut Random, state: &[u16; STATE_WORDS], old: u16) -> u16 {
 
 /// A state that no drive came to by itself.
 pub fn odd_state(random: &mut Random, state: &[u16; STATE_WORDS]) -> [u16; STATE_WORDS] {
-    if random.one_in(3) {
-        assembled_state(random, state)
-    } else {
-        disturbed_state(random, state)
+    match random.below(6) {
+        0 => held_state(random, state),
+        1 | 2 => assembled_state(random, state),
+        _ => disturbed_state(random, state),
     }
 }
 
@@ -136,6 +137,7 @@ fn disturbed_state(random: &mut Random, state: &[u16; STATE_WORDS]) -> [u16; STA
             7..=9 => random.below(4) as u16,
             14 if !random.one_in(3) => likely_control(random),
             15 if !random.one_in(3) => transfer_size(random, state),
+            21.. if !random.one_in(3) => likely_switch(random),
             _ => edge(random, state, state[at]),
         };
     }
@@ -150,6 +152,11 @@ fn likely_control(random: &mut Random) -> u16 {
         1 | 2 => random.pick(&CODES),
         _ => 0x80 + random.below(0x60) as u16,
     }
+}
+
+/// Enabled more often than not, with a wish or without; now and then over the limit.
+fn likely_switch(random: &mut Random) -> u16 {
+    random.pick(&[1, 1, 1, 1, 1, 3, 3, 3, 0, 0, 2, 4])
 }
 
 /// About as many words as some control moves in this set-up.
@@ -187,10 +194,26 @@ fn assembled_state(random: &mut Random, state: &[u16; STATE_WORDS]) -> [u16; STA
     for pending in &mut assembled[16..18] {
         *pending = random.word() & random.word() & PENDING_BITS;
     }
-    for parameter in &mut assembled[18..] {
+    for parameter in &mut assembled[18..21] {
         *parameter = random.word() >> random.pick(&[0, 12, 15]);
     }
+    for switch in &mut assembled[21..] {
+        *switch = likely_switch(random);
+    }
     assembled
+}
+
+/// The state with nobody selected, a hold of either port, and switches chosen afresh.
+fn held_state(random: &mut Random, state: &[u16; STATE_WORDS]) -> [u16; STATE_WORDS] {
+    let mut held = *state;
+    held[7] = NOBODY;
+    held[8] = random.below(2) as u16;
+    held[9] = random.pick(&[1, 1, 2]);
+    (held[14], held[15]) = (0, 0);
+    for switch in &mut held[21..] {
+        *switch = likely_switch(random);
+    }
+    held
 }
 
 /// Seven numbers for a power-up, most of them allowed, some just not.

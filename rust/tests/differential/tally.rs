@@ -2,11 +2,12 @@
 
 use crate::codes::Codes;
 use crate::shared::streams::EventOctets;
+use crate::switches::Switches;
 use pantoglide::raw::{ABSENT, ANSWER_WORDS, STATE_WORDS};
 use std::collections::BTreeMap;
 use std::fmt;
 
-const REFUSALS: [u16; 11] = [0, 1, 2, 3, 4, 5, 6, 7, 8, 10, 11];
+const REFUSALS: [u16; 12] = [0, 1, 2, 3, 4, 5, 6, 7, 8, 10, 11, 15];
 const STATUSES: [u16; 4] = [0x0, 0x7, 0x8, 0xC];
 const BEHAVIOURS: [&str; 20] = [
     "a write finished",
@@ -49,6 +50,7 @@ pub struct Tally {
     short_answers: BTreeMap<u8, usize>,
     runs: BTreeMap<u8, usize>,
     codes: Codes,
+    switches: Switches,
 }
 
 impl Tally {
@@ -66,6 +68,7 @@ impl Tally {
     ) {
         self.events += 1;
         *self.refusals.entry(returned.into()).or_default() += 1;
+        self.switches.note(before, event, returned);
         if returned == 0 {
             self.status(answer[1]);
             self.codes.note(before, event, answer[1]);
@@ -99,6 +102,7 @@ impl Tally {
         status: u16,
     ) {
         self.codes.note(before, event, status);
+        self.switches.note(before, event, 0);
     }
 
     fn status(&mut self, status: u16) {
@@ -125,6 +129,7 @@ impl Tally {
             assert!(self.runs.contains_key(&returned), "no run gave {returned}");
         }
         self.codes.assert_all_occurred(self.events);
+        self.switches.assert_all_occurred(self.events);
     }
 }
 
@@ -152,7 +157,7 @@ fn behaviours(
     let (is_data, is_code) = (control >= 0x80, (1..0x80).contains(&control));
     let taken_over = kind == 1 && owner == 1 - u16::from(port);
     let has_unsolicited = before[16 + usize::from(port)] > 0xFF;
-    let has_parameters = before[18..] != [0; 3];
+    let has_parameters = before[18..21] != [0; 3];
     [
         kind == 4 && is_data && finished,
         kind == 4 && control & 0x8C == 0x84 && moved + 1 == header && answer[1] != 7,
@@ -216,6 +221,6 @@ impl fmt::Display for Tally {
         for (behaviour, count) in &self.behaviours {
             writeln!(out, "{behaviour}: {count}")?;
         }
-        write!(out, "{}", self.codes)
+        write!(out, "{}{}", self.codes, self.switches)
     }
 }

@@ -44,7 +44,7 @@ fn assert_uncut(start: &Drive, records: &[u8], parts: &[usize]) {
 fn the_sample_cut_anywhere_is_the_sample_uncut() {
     let start = Drive::bench();
     let events = sample().len() / RECORD_OCTETS;
-    assert_eq!(events, 22);
+    assert_eq!(events, 25);
     assert_uncut(&start, sample(), &[]);
     for first in 0..=events + 1 {
         assert_uncut(&start, sample(), &[first]);
@@ -56,8 +56,8 @@ fn the_sample_cut_anywhere_is_the_sample_uncut() {
 
 #[test]
 fn the_sample_in_equal_stretches_is_the_sample_uncut() {
-    for stretch in 1..=23 {
-        assert_uncut(&Drive::bench(), sample(), &[stretch; 23]);
+    for stretch in 1..=26 {
+        assert_uncut(&Drive::bench(), sample(), &[stretch; 26]);
     }
 }
 

@@ -11,6 +11,7 @@ use pantoglide::command::{
     Function, LOAD_DRIVE_FUNCTION, LOAD_POSITION, READ_CURRENT_POSITION, READ_STATUS,
 };
 use pantoglide::control::STEP_HEAD;
+use pantoglide::selection::PRIORITY_HOLD;
 
 /// The number of cylinders of the big drives.
 const MANY_CYLINDERS: u16 = 4096;
@@ -18,6 +19,9 @@ pub const ADDRESS: u16 = 3;
 const RESERVED_CONTROL: u8 = 0xD0;
 const UNSUPPORTED_CONTROL: u8 = 0x83;
 const READ_NO_WORDS: u8 = 0xC4;
+/// The argument octets of a switch.
+const DISABLE: [u8; 4] = [0; 4];
+const ENABLE: [u8; 4] = [1, 0, 0, 0];
 
 pub struct Workload {
     pub name: &'static str,
@@ -72,6 +76,8 @@ fn events() -> Vec<Workload> {
         ),
         requests("n  requests", 2),
         requests("en requests, 4,096 cylinders", MANY_CYLINDERS),
+        switches("o  switches", 2),
+        switches("eo switches, 4,096 cylinders", MANY_CYLINDERS),
     ]
 }
 
@@ -170,6 +176,31 @@ fn requests(name: &'static str, cylinders: u16) -> Workload {
         stream.push(3, [STEP_HEAD, 0, 0, 0]);
     }
     stream.deselected(name)
+}
+
+/// A port switched off and on again: in its session, at the end of it, and while it holds the
+/// drive. In between its selection is refused, and the other port has the drive.
+fn switches(name: &'static str, cylinders: u16) -> Workload {
+    let select = (ADDRESS << 4) as u8;
+    let hold = select | PRIORITY_HOLD;
+    let mut stream = Stream::new(bench_drive(cylinders));
+    for _ in 0..400 {
+        stream.push(1, [hold, 0, 0, 0]);
+        stream.push(11, DISABLE);
+        stream.push(11, ENABLE);
+        stream.push(11, DISABLE);
+        stream.position();
+        stream.push(2, [0; 4]);
+        stream.push(1, [select, 0, 0, 0]);
+        stream.push_event([1, 1, select, 0, 0, 0]);
+        stream.push_event([1, 2, 0, 0, 0, 0]);
+        stream.push(11, ENABLE);
+        stream.push(1, [hold, 0, 0, 0]);
+        stream.push(2, [0; 4]);
+        stream.push(11, DISABLE);
+        stream.push(11, ENABLE);
+    }
+    stream.named(name)
 }
 
 /// A trace of settings, with a drive that it leaves alone.

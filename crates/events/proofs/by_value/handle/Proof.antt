@@ -16,7 +16,7 @@ start c = c.before.before.before.before
 abbrev words : tie.After-put-state → List ℕ
 words c = c.put-state.new.1.0
 
-long : (c : tie.After-put-state) → 21 ≤ length (words c)
+long : (c : tie.After-put-state) → 23 ≤ length (words c)
 unfolding state_words moving_words
 long c = rw c.put-state.ensures (omega arith)
 

@@ -14,8 +14,8 @@ function-of-requires c κs = search rules
 enum_told : tie.Need-enum-told
 enum_told c = search rules
 
-drive-in-requires : tie.Need-drive-in-requires
-drive-in-requires c κs = search rules
+fit-drive-in-requires : tie.Need-fit-drive-in-requires
+fit-drive-in-requires c κs = search rules
 
 priority-reserve-requires : tie.Need-priority-reserve-requires
 priority-reserve-requires c κs = search rules
@@ -28,8 +28,8 @@ put-moved-requires c κs =
 enum-told-2 : tie.Need-enum-told-2
 enum-told-2 c = search rules
 
-drive-in-requires-2 : tie.Need-drive-in-requires-2
-drive-in-requires-2 c κs = search rules
+fit-drive-in-requires-2 : tie.Need-fit-drive-in-requires-2
+fit-drive-in-requires-2 c κs = search rules
 
 reserve-requires : tie.Need-reserve-requires
 reserve-requires c κs = search rules
@@ -42,8 +42,8 @@ put-moved-requires-2 c κs =
 enum-told-3 : tie.Need-enum-told-3
 enum-told-3 c = search rules
 
-drive-in-requires-3 : tie.Need-drive-in-requires-3
-drive-in-requires-3 c κs = search rules
+fit-drive-in-requires-3 : tie.Need-fit-drive-in-requires-3
+fit-drive-in-requires-3 c κs = search rules
 
 release-requires : tie.Need-release-requires
 release-requires c κs = search rules
@@ -85,12 +85,12 @@ returns : tie.Need-returns
 returns c =
     let put : tie.After-put-moved = search in
     let changed : tie.After-priority-reserve = search in
-    let read : tie.After-drive-in = search in
+    let read : tie.After-fit-drive-in = search in
     let told : tie.After-enum-told = search in
     let asked : tie.After-function-of = search in
     let start : tie.Start = search in
     did_functioned _ _ _ PriorityReserve (sym told.enum_told.given.1 ∙ asked.Function-of.ensures.answer)
-    (record { answer = refl; state = put.put-moved.ensures ∙ rw (changed.priority-reserve.ensures, read.drive-in.ensures) })
+    (record { answer = refl; state = put.put-moved.ensures ∙ rw (changed.priority-reserve.ensures, read.fit-drive-in.ensures) })
 
 same-length-2 : tie.Need-same-length-2
 same-length-2 c = search rules
@@ -99,12 +99,12 @@ returns-2 : tie.Need-returns-2
 returns-2 c =
     let put : tie.After-put-moved2 = search in
     let changed : tie.After-reserve = search in
-    let read : tie.After-drive-in2 = search in
+    let read : tie.After-fit-drive-in2 = search in
     let told : tie.After-enum-told2 = search in
     let asked : tie.After-function-of = search in
     let start : tie.Start = search in
     did_functioned _ _ _ Reserve (sym told.enum-told2.given.1 ∙ asked.Function-of.ensures.answer)
-    (record { answer = refl; state = put.put-moved2.ensures ∙ rw (changed.reserve.ensures, read.drive-in2.ensures) })
+    (record { answer = refl; state = put.put-moved2.ensures ∙ rw (changed.reserve.ensures, read.fit-drive-in2.ensures) })
 
 same-length-3 : tie.Need-same-length-3
 same-length-3 c = search rules
@@ -113,12 +113,12 @@ returns-3 : tie.Need-returns-3
 returns-3 c =
     let put : tie.After-put-moved3 = search in
     let changed : tie.After-release = search in
-    let read : tie.After-drive-in3 = search in
+    let read : tie.After-fit-drive-in3 = search in
     let told : tie.After-enum-told3 = search in
     let asked : tie.After-function-of = search in
     let start : tie.Start = search in
     did_functioned _ _ _ Release (sym told.enum-told3.given.1 ∙ asked.Function-of.ensures.answer)
-    (record { answer = refl; state = put.put-moved3.ensures ∙ rw (changed.release.ensures, read.drive-in3.ensures) })
+    (record { answer = refl; state = put.put-moved3.ensures ∙ rw (changed.release.ensures, read.fit-drive-in3.ensures) })
 
 returns-4 : tie.Need-returns-4
 returns-4 c =
@@ -169,15 +169,15 @@ perform-spec =
     (tie.spec
     function-of-requires
     enum_told
-    drive-in-requires
+    fit-drive-in-requires
     priority-reserve-requires
     put-moved-requires
     enum-told-2
-    drive-in-requires-2
+    fit-drive-in-requires-2
     reserve-requires
     put-moved-requires-2
     enum-told-3
-    drive-in-requires-3
+    fit-drive-in-requires-3
     release-requires
     put-moved-requires-3
     enum-told-4

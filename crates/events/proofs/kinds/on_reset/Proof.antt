@@ -17,8 +17,8 @@ returns c =
     let start : tie.Start = search in
     did_refused Reset _ _ _ 8 start.pre (rw (← after-none-at-all.none_at_all.ensures, c.if1.true)) (λ z. omega arith)
 
-drive-in-requires : tie.Need-drive-in-requires
-drive-in-requires c κs = search rules
+fit-drive-in-requires : tie.Need-fit-drive-in-requires
+fit-drive-in-requires c κs = search rules
 
 reset-requires : tie.Need-reset-requires
 reset-requires c κs = search rules
@@ -34,10 +34,10 @@ unfolding pick
 returns-2 c =
     let after-put-moved : tie.After-put-moved = search in
     let after-reset : tie.After-reset = search in
-    let after-drive-in : tie.After-drive-in = search in
+    let after-fit-drive-in : tie.After-fit-drive-in = search in
     let else1 : tie.Else1 = search in
     let after-none-at-all : tie.After-none-at-all = search in
-    did_accepted Reset _ _ _ 0 (rw (← after-none-at-all.none_at_all.ensures, else1.if1.left)) refl (record { answer = refl; state = after-put-moved.put-moved.ensures ∙ rw (after-reset.reset.ensures, after-drive-in.drive-in.ensures) })
+    did_accepted Reset _ _ _ 0 (rw (← after-none-at-all.none_at_all.ensures, else1.if1.left)) refl (record { answer = refl; state = after-put-moved.put-moved.ensures ∙ rw (after-reset.reset.ensures, after-fit-drive-in.fit-drive-in.ensures) })
 
 pub on-reset-spec : {M : Type 1} → statement M
 on-reset-spec =
@@ -45,7 +45,7 @@ on-reset-spec =
     (tie.spec
     none-at-all-requires
     returns
-    drive-in-requires
+    fit-drive-in-requires
     reset-requires
     put-moved-requires
     same_length

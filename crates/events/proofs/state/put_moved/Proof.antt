@@ -1,4 +1,4 @@
--- `put_moved` meets its contract: fourteen stores behind the set-up.
+-- `put_moved` meets its contract: sixteen stores behind the set-up.
 -- Assumes nothing.
 use Rattle.std.proofs.Common.{refl, arith, length-set, rules}
 use lib.Seq.{sets-eq}
@@ -57,6 +57,12 @@ slice-write-state-13 c = simp length-set (omega arith)
 slice-write-state-14 : tie.Need-slice-write-state-14
 slice-write-state-14 c = simp length-set (omega arith)
 
+slice-write-state-15 : tie.Need-slice-write-state-15
+slice-write-state-15 c = simp length-set (omega arith)
+
+slice-write-state-16 : tie.Need-slice-write-state-16
+slice-write-state-16 c = simp length-set (omega arith)
+
 same_length : tie.Need-same-length
 same_length c = simp length-set refl
 
@@ -90,5 +96,7 @@ put-moved-spec =
     slice-write-state-12
     slice-write-state-13
     slice-write-state-14
+    slice-write-state-15
+    slice-write-state-16
     same_length
     returns)

@@ -2,7 +2,7 @@
 -- Assumes nothing.
 use Rattle.events.proofs.Answering.{step_told}
 use Rattle.events.proofs.Steps.{refused_1, refused_8, stepped, stepped_in}
-use Rattle.parts.specs.Kind.{DataControl, Deselect, End, Position, ReadStatus, Reset, Select, TakeWord, Target, Use, WordFromHost, kind_of}
+use Rattle.parts.specs.Kind.{DataControl, Deselect, End, Position, ReadStatus, Reset, Select, Switch, TakeWord, Target, Use, WordFromHost, kind_of}
 use Rattle.laws.specs.Pick.{pick}
 use Rattle.std.proofs.Common.{refl, rules, le-ltb, lt-ltb, ne_eqb}
 use Rattle.events.proofs.step.step.Statement.{statement}
@@ -82,8 +82,14 @@ on-reset-requires c κs = search rules
 tell-requires-11 : tie.Need-tell-requires-11
 tell-requires-11 c κs = search rules
 
+on-switch-requires : tie.Need-on-switch-requires
+on-switch-requires c κs = search rules
+
 tell-requires-12 : tie.Need-tell-requires-12
 tell-requires-12 c κs = search rules
+
+tell-requires-13 : tie.Need-tell-requires-13
+tell-requires-13 c κs = search rules
 
 same-length-2 : tie.Need-same-length-2
 same-length-2 c = search rules
@@ -260,15 +266,31 @@ returns-11 c =
 same-length-26 : tie.Need-same-length-26
 same-length-26 c = search rules
 
+same-length-27 : tie.Need-same-length-27
+same-length-27 c = search rules
+
 returns-12 : tie.Need-returns-12
 unfolding kind_of pick
 returns-12 c =
     let after-tell12 : tie.After-tell12 = search in
+    let after-on-switch : tie.After-on-switch = search in
+    let at-match-keys11 : tie.At-match-keys11 = search in
+    let else1 : tie.Else1 = search in
+    let start : tie.Start = search in
+    step_told start.pre.0 (stepped _ _ _ _ Switch _ start.pre.0 (le-ltb _ _ else1.if1.left) (rw at-match-keys11.match.keys11) after-on-switch.on_switch.ensures refl) after-tell12.tell12.ensures
+
+same-length-28 : tie.Need-same-length-28
+same-length-28 c = search rules
+
+returns-13 : tie.Need-returns-13
+unfolding kind_of pick
+returns-13 c =
+    let after-tell13 : tie.After-tell13 = search in
     let at-match-rest : tie.At-match-rest = search in
     let else1 : tie.Else1 = search in
     let start : tie.Start = search in
     let none = at-match-rest.match.rest in
-    step_told start.pre.0 (refused_8 _ _ _ _ start.pre.0 (le-ltb _ _ else1.if1.left) (rw (ne_eqb _ 1 none.0.0.0.0.0.0.0.0.0.1, ne_eqb _ 2 none.0.0.0.0.0.0.0.0.1, ne_eqb _ 3 none.0.0.0.0.0.0.0.1, ne_eqb _ 4 none.0.0.0.0.0.0.1, ne_eqb _ 5 none.0.0.0.0.0.1, ne_eqb _ 6 none.0.0.0.0.1, ne_eqb _ 7 none.0.0.0.1, ne_eqb _ 8 none.0.0.1, ne_eqb _ 9 none.0.1, ne_eqb _ 10 none.1))) after-tell12.tell12.ensures
+    step_told start.pre.0 (refused_8 _ _ _ _ start.pre.0 (le-ltb _ _ else1.if1.left) (rw (ne_eqb _ 1 none.0.0.0.0.0.0.0.0.0.0.1, ne_eqb _ 2 none.0.0.0.0.0.0.0.0.0.1, ne_eqb _ 3 none.0.0.0.0.0.0.0.0.1, ne_eqb _ 4 none.0.0.0.0.0.0.0.1, ne_eqb _ 5 none.0.0.0.0.0.0.1, ne_eqb _ 6 none.0.0.0.0.0.1, ne_eqb _ 7 none.0.0.0.0.1, ne_eqb _ 8 none.0.0.0.1, ne_eqb _ 9 none.0.0.1, ne_eqb _ 10 none.0.1, ne_eqb _ 11 none.1))) after-tell13.tell13.ensures
 
 pub step_spec : {M : Type 1} → statement M
 step_spec =
@@ -297,7 +319,9 @@ step_spec =
     tell-requires-10
     on-reset-requires
     tell-requires-11
+    on-switch-requires
     tell-requires-12
+    tell-requires-13
     same-length-2
     same-length-3
     returns-2
@@ -333,4 +357,7 @@ step_spec =
     same-length-25
     returns-11
     same-length-26
-    returns-12)
+    same-length-27
+    returns-12
+    same-length-28
+    returns-13)

@@ -5,6 +5,9 @@ use borrow.Author.Rules.{rules}
 use Rattle.drive.proofs.drive.Drive.reset.Statement.{statement}
 use Rattle.drive.proofs.drive.Drive.reset.Tie as tie
 
+wish-granted-requires : tie.Need-wish-granted-requires
+wish-granted-requires c κs = search rules
+
 no-holding-requires : tie.Need-no-holding-requires
 no-holding-requires c κs = search rules
 
@@ -16,4 +19,4 @@ unfolding after_reset
 returns c = cc
 
 pub reset-spec : {M : Type 1} → statement M
-reset-spec = tie.close (tie.spec no-holding-requires no-transfer-requires returns)
+reset-spec = tie.close (tie.spec wish-granted-requires no-holding-requires no-transfer-requires returns)

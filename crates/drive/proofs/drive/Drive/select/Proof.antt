@@ -14,10 +14,12 @@ no-transfer-requires c κs = search rules
 owner-noticed-requires : tie.Need-owner-noticed-requires
 owner-noticed-requires c κs = search rules
 
+wish-granted-requires : tie.Need-wish-granted-requires
+wish-granted-requires c κs = search rules
+
 returns : tie.Need-returns
 unfolding selected
 returns c = cc
 
 pub select-spec : {M : Type 1} → statement M
-select-spec =
-    tie.close (tie.spec granted-to-requires no-transfer-requires owner-noticed-requires returns)
+select-spec = tie.close (tie.spec granted-to-requires no-transfer-requires owner-noticed-requires wish-granted-requires returns)
