@@ -5,7 +5,7 @@
  *     port 0: 0, port 1: 6, port 0: 0
  *     without its last octet: refused with 13
  *
- * Build it at the project's root, after `rt staticlib pantoglide`, with
+ * Build it at the project's root, after `tools/archive`, with
  *
  *     gcc -std=c99 -Wall -Wextra -pedantic -Werror -I include c/capture.c target/staticlib/libpantoglide.a -o target/capture
  */

@@ -7,7 +7,7 @@
  *     cylinder 0, head 0, offset 9000, length 12
  *     refused 27 at 58
  *
- * Build it at the project's root, after `rt staticlib pantoglide`, with
+ * Build it at the project's root, after `tools/archive`, with
  *
  *     gcc -std=c99 -Wall -Wextra -pedantic -Werror -I include c/defects.c target/staticlib/libpantoglide.a -o target/defects
  */

@@ -3,7 +3,7 @@
  *
  *     0007 00AA 00BB 00CC
  *
- * Build it at the project's root, after `rt staticlib pantoglide`, with
+ * Build it at the project's root, after `tools/archive`, with
  *
  *     gcc -std=c99 -Wall -Wextra -pedantic -Werror -I include c/example.c target/staticlib/libpantoglide.a -o target/example
  */

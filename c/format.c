@@ -9,7 +9,7 @@
  *     taken over: status 0C, response 40 40 00
  *     99/3/16 read back: equal
  *
- * Build it at the project's root, after `rt staticlib pantoglide`, with
+ * Build it at the project's root, after `tools/archive`, with
  *
  *     gcc -std=c99 -Wall -Wextra -pedantic -Werror -I include c/format.c target/staticlib/libpantoglide.a -o target/format
  */

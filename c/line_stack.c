@@ -6,7 +6,7 @@
  * octets at random among them, so that the follower is lost, comes back and is refused; and slices
  * that are too short. It prints a line for each call.
  *
- * It is for Linux on x86-64. Build it at the project's root, after `rt staticlib pantoglide`, with
+ * It is for Linux on x86-64. Build it at the project's root, after `tools/archive`, with
  *
  *     gcc -std=c99 -Wall -Wextra -pedantic -Werror -I include c/line_stack.c target/staticlib/libpantoglide.a -o target/line_stack
  */

@@ -21,7 +21,7 @@
  *     the plain reader: the same answers and the same follower
  *     room for one answer less: refused with 10
  *
- * Build it at the project's root, after `rt staticlib pantoglide`, with
+ * Build it at the project's root, after `tools/archive`, with
  *
  *     gcc -std=c99 -Wall -Wextra -pedantic -Werror -I include c/lines.c target/staticlib/libpantoglide.a -o target/lines
  */

@@ -5,7 +5,7 @@
  * set-up outside its limits; maps with each octet and each word of theirs wrong, and of each length;
  * and defects with each octet of theirs wrong. It prints a line for each call.
  *
- * It is for Linux on x86-64. Build it at the project's root, after `rt staticlib pantoglide`, with
+ * It is for Linux on x86-64. Build it at the project's root, after `tools/archive`, with
  *
  *     gcc -std=c99 -Wall -Wextra -pedantic -Werror -I include c/map_stack.c target/staticlib/libpantoglide.a -o target/map_stack
  */

@@ -5,7 +5,7 @@
  *
  *     5 writes mirrored, stores equal
  *
- * Build it at the project's root, after `rt staticlib pantoglide`, with
+ * Build it at the project's root, after `tools/archive`, with
  *
  *     gcc -std=c99 -Wall -Wextra -pedantic -Werror -I include c/mirror.c target/staticlib/libpantoglide.a -o target/mirror
  */

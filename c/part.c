@@ -10,7 +10,7 @@
  *     no room for the count: refused with 10
  *     without its last octet: refused with 8
  *
- * Build it at the project's root, after `rt staticlib pantoglide`, with
+ * Build it at the project's root, after `tools/archive`, with
  *
  *     gcc -std=c99 -Wall -Wextra -pedantic -Werror -I include c/part.c target/staticlib/libpantoglide.a -o target/part
  */

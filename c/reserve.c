@@ -17,7 +17,7 @@
  *     port 1 selects: granted
  *     port 1 reads 0007 00AA 00BB 00CC
  *
- * Build it at the project's root, after `rt staticlib pantoglide`, with
+ * Build it at the project's root, after `tools/archive`, with
  *
  *     gcc -std=c99 -Wall -Wextra -pedantic -Werror -I include c/reserve.c target/staticlib/libpantoglide.a -o target/reserve
  */

@@ -8,7 +8,7 @@
  * another, then every code of a command or a response and every function, and then octets at
  * random, on a state that is now and then disturbed. It prints a line for each call.
  *
- * It is for Linux on x86-64. Build it at the project's root, after `rt staticlib pantoglide`, with
+ * It is for Linux on x86-64. Build it at the project's root, after `tools/archive`, with
  *
  *     gcc -std=c99 -Wall -Wextra -pedantic -Werror -I include c/stack.c target/staticlib/libpantoglide.a -o target/stack
  */

@@ -12,17 +12,17 @@
  *
  * WHAT IT NEEDS
  *
- * The archive libpantoglide.a, made by `rt staticlib pantoglide` at the project's root. It is for
- * x86-64 only, since the toolchain compiles archives for x86-64 Linux and nothing else today. It
- * calls nothing, so it needs no C library and no operating system beside it. It allocates nothing
- * and has no variables of its own: all it knows is in the slices that a call is lent.
+ * The archive libpantoglide.a, made by `tools/archive` at the project's root. It is for x86-64
+ * only, as the project builds it. It calls nothing outside itself, so it needs no C library and no
+ * operating system beside it. It allocates nothing and has no variables of its own: all it knows is
+ * in the slices that a call is lent.
  *
  * The most stack that a call takes, in octets, its return address included and its arguments not:
  *
- *     pg_power_up 24          pg_event 296          pg_run 232        pg_replay 280
- *     pg_capture 8            pg_make_capture 8
- *     pg_line 8               pg_lines 1080         pg_lines_plain 1646
- *     pg_decode_map 5392      pg_encode_map 3008    pg_read_map 5392  pg_write_map 3008
+ *     pg_power_up 48          pg_event 296          pg_run 248        pg_replay 312
+ *     pg_capture 8            pg_make_capture 56
+ *     pg_line 8               pg_lines 72           pg_lines_plain 848
+ *     pg_decode_map 5400      pg_encode_map 3000    pg_read_map 5400  pg_write_map 3016
  *     pg_decode_defect 8      pg_encode_defect 16   pg_map_place 8
  *
  * c/stack.c, c/line_stack.c and c/map_stack.c measured it: on a stack filled with a pattern, how

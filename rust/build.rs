@@ -1,4 +1,4 @@
-//! Links the archive of the proved drive, made by `rt staticlib pantoglide` at the project's root.
+//! Links the archive of the proved drive, made by `tools/archive` at the project's root.
 
 use std::env;
 use std::path::{Path, PathBuf};
@@ -19,7 +19,7 @@ fn main() {
     println!("cargo:rerun-if-changed={}", archive.display());
     if !archive.is_file() {
         stop(&format!(
-            "There is no archive {}.\nRun `rt staticlib pantoglide` at the project's root first, \
+            "There is no archive {}.\nRun `tools/archive` at the project's root first, \
              or name the folder that holds it in {FOLDER_VARIABLE}.",
             archive.display()
         ));

@@ -5,9 +5,9 @@
 //! traces. [`Board::event`] takes what hosts do one by one; calls such as [`Board::reserve`] stand
 //! for a whole command. [`Board::run_into`] runs the records of a capture, [`Board::replay_into`] a
 //! part of them. [`Setup::decode_map`] and the calls beside it read and make the maker's defect
-//! map. All hand every request to the archive of proved code that the project's `rt staticlib
-//! pantoglide` makes; [`raw`] has its calls as they are, on slices. Nothing in this interface is
-//! unsafe, and no input makes a call panic.
+//! map. All hand every request to the archive of proved code that the project's `tools/archive` makes;
+//! [`raw`] has its calls as they are, on slices. Nothing in this interface is unsafe, and no input
+//! makes a call panic.
 //!
 //! ```
 //! use pantoglide::{control, selection, Answer, Board, Event, Setup};

@@ -10,7 +10,7 @@ use crate::follower::{Answer, Followed, Follower, undefined_at, while_lost};
 use crate::line;
 use crate::reading::Traced;
 
-// A turn calls the next one before it is done, and each takes 96 octets of stack: a trace is cut into stretches of so many settings.
+// A turn calls the next one before it is done, and each takes stack of its own: a trace is cut into stretches of so many settings.
 const STRETCH: usize = 16;
 
 // What `follow` does: 10 where the slice for the answers is shorter than the trace, and then nothing changes.
