@@ -13,29 +13,27 @@ use Rattle.bench.proofs.Pieces.{Going, going_from, going_on_lem}
 use Rattle.bench.proofs.Lines.{run_report_lem}
 use Rattle.bench.proofs.Bench.{bench_is_up}
 use Rattle.bench.proofs.run.put_run.Goals as goal
+use Rattle.bench.proofs.run.put_run.Goals.{After-put_numbered-at, In-Up}
 
 pub put_numbered-at-requires : goal.put_numbered-at-requires
 put_numbered-at-requires c = omega (arith, simp length-append at (rw (run_report_lem c.args.records.now) at c.requires))
 
+going : (c : After-put_numbered-at) → let a = c.args in
+    Going a.text.now 0 (run_report a.records.now) c.put_numbered-at.new.text c.put_numbered-at.result (lines_of_run 1 bench_at_rest (events_of a.records.now))
+going c = let room : 0 + length (run_report c.args.records.now) ≤ length c.args.text.now = omega (arith, c.requires) in
+    going_on_lem (going_from (run_report_lem c.args.records.now) room) c.put_numbered-at.ensures
+
+rests : (c : In-Up) → c.in-Up.bench ≡ at_rest bench
+rests c = cc (bench_is_up c.power_up-powered.ensures, c.in-Up.is)
+
 pub put_lines-requires : goal.put_lines-requires
 put_lines-requires c =
-    let going : let a = c.args in
-    Going a.text.now 0 (run_report a.records.now) c.put_numbered-at.new.text c.put_numbered-at.result (lines_of_run 1 bench_at_rest (events_of a.records.now)) = let room : 0 + length (run_report c.args.records.now) ≤ length c.args.text.now = omega (arith, c.requires) in
-    going_on_lem (going_from (run_report_lem c.args.records.now) room) c.put_numbered-at.ensures in
-    let up : c.power_up-powered.result ≡ Up (at_rest bench) = bench_is_up c.power_up-powered.ensures in
-    let rests : c.in-Up.bench ≡ at_rest bench = cc (up, c.in-Up.is) in
-    rw (rests) (going).room
+    rw (rests (goal.at.put_lines-requires c).In-Up) (going (goal.at.put_lines-requires c).After-put_numbered-at).room
 
 pub returns-in-Up : goal.returns-in-Up
 returns-in-Up c =
-    let going : let a = c.args in
-    Going a.text.now 0 (run_report a.records.now) c.put_numbered-at.new.text c.put_numbered-at.result (lines_of_run 1 bench_at_rest (events_of a.records.now)) = let room : 0 + length (run_report c.args.records.now) ≤ length c.args.text.now = omega (arith, c.requires) in
-    going_on_lem (going_from (run_report_lem c.args.records.now) room) c.put_numbered-at.ensures in
-    let up : c.power_up-powered.result ≡ Up (at_rest bench) = bench_is_up c.power_up-powered.ensures in
-    let rests : c.in-Up.bench ≡ at_rest bench = cc (up, c.in-Up.is) in
-    (going).finishes _ _ (rw (rests) at c.put_lines.ensures)
+    (going (goal.at.returns-in-Up c).After-put_numbered-at).finishes _ _ (rw (rests (goal.at.returns-in-Up c).In-Up) at c.put_lines.ensures)
 
 pub returns-in-Refused : goal.returns-in-Refused
 returns-in-Refused c =
-    let up : c.power_up-powered.result ≡ Up (at_rest bench) = bench_is_up c.power_up-powered.ensures in
-    absurd (let z : ◌≡◌ {A = ℕ} 0 1 = cc (up) in omega arith)
+    absurd (let z : ◌≡◌ {A = ℕ} 0 1 = cc (bench_is_up c.power_up-powered.ensures) in omega arith)

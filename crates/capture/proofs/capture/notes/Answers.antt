@@ -15,7 +15,7 @@ slice_bounds-result-end c =
 pub returns-in-Capture : goal.returns-in-Capture
 returns-in-Capture c =
     let found : Whole c.args.octets.now c.in-Capture.first c.in-Capture.count = whole (rw c.in-Capture.is at c.decode_capture.ensures) in
-    record { notes = sym (whole_parts (found)).0 }
+    record { notes = sym (whole_parts found).0 }
 
 pub returns-in-Refused : goal.returns-in-Refused
 returns-in-Refused c = record { notes = sym (no_parts (rw c.in-Refused.is at c.decode_capture.ensures)).0 }

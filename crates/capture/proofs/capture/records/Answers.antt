@@ -6,28 +6,25 @@ use native.Mathlib.Omega.{arith}
 use lib.ListN.{length}
 use Rattle.capture.proofs.Decoding.{Whole, whole, whole_parts, no_parts}
 use Rattle.capture.proofs.capture.records.Goals as goal
+use Rattle.capture.proofs.capture.records.Goals.{In-Capture}
+
+found : (c : In-Capture) → Whole c.args.octets.now c.in-Capture.first c.in-Capture.count
+found c = whole (rw c.in-Capture.is at c.decode_capture.ensures)
+
+ends_later : (c : In-Capture) → c.in-Capture.first ≤ length c.args.octets.now - 8
+ends_later c = omega (arith, (found c).starts)
 
 pub overflow_sub-result : goal.overflow_sub-result
-overflow_sub-result c =
-    let found : Whole c.args.octets.now c.in-Capture.first c.in-Capture.count = whole (rw c.in-Capture.is at c.decode_capture.ensures) in
-    (found).long
+overflow_sub-result c = (found (goal.at.overflow_sub-result c).In-Capture).long
 
 pub slice_bounds-result-count : goal.slice_bounds-result-count
-slice_bounds-result-count c =
-    let found : Whole c.args.octets.now c.in-Capture.first c.in-Capture.count = whole (rw c.in-Capture.is at c.decode_capture.ensures) in
-    let ends-later : c.in-Capture.first ≤ length c.args.octets.now - 8 = omega (arith, (found).starts) in
-    ends-later
+slice_bounds-result-count c = ends_later (goal.at.slice_bounds-result-count c).In-Capture
 
 pub slice_bounds-result-start : goal.slice_bounds-result-start
-slice_bounds-result-start c =
-    let found : Whole c.args.octets.now c.in-Capture.first c.in-Capture.count = whole (rw c.in-Capture.is at c.decode_capture.ensures) in
-    let ends-later : c.in-Capture.first ≤ length c.args.octets.now - 8 = omega (arith, (found).starts) in
-    ends-later
+slice_bounds-result-start c = ends_later (goal.at.slice_bounds-result-start c).In-Capture
 
 pub returns-in-Capture : goal.returns-in-Capture
-returns-in-Capture c =
-    let found : Whole c.args.octets.now c.in-Capture.first c.in-Capture.count = whole (rw c.in-Capture.is at c.decode_capture.ensures) in
-    record { records = sym (whole_parts (found)).1 }
+returns-in-Capture c = record { records = sym (whole_parts (found (goal.at.returns-in-Capture c).In-Capture)).1 }
 
 pub returns-in-Refused : goal.returns-in-Refused
 returns-in-Refused c = record { records = sym (no_parts (rw c.in-Refused.is at c.decode_capture.ensures)).1 }

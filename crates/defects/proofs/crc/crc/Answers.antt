@@ -13,18 +13,18 @@ use Rattle.defects.proofs.crc.crc.Goals as goal
 
 pub loop-i-init : goal.loop-i-init
 unfolding crc_of remainder_after pick
-loop-i-init c = record { within = search rules; is-crc = refl }
+loop-i-init c = record { within = search rules; is_crc = refl }
 
 pub loop-i-preserved : goal.loop-i-preserved
 loop-i-preserved c =
     let octets = c.args.octets.now in
     let i = c.loop-i.i in
     let h : i < length octets = omega arith in
-    record { within = search rules; is-crc = rw (add-one, take-suc octets i 0) (c.one_more-register.ensures (take i octets) c.loop-i.invariant.is-crc) }
+    record { within = search rules; is_crc = rw (add-one, take-suc octets i 0) (c.one_more-register.ensures (take i octets) c.loop-i.invariant.is_crc) }
 
 pub returns : goal.returns
 returns c =
     let octets = c.args.octets.now in
     let i = c.loop-i.i in
     let h : length octets ≤ i = omega arith in
-    rw (take_all i octets) at c.loop-i.invariant.is-crc
+    rw (take_all i octets) at c.loop-i.invariant.is_crc

@@ -9,7 +9,7 @@ use Rattle.defects.proofs.crc.crc.Given as goal
 
 pub record ReadSoFar (octets : List ℕ) (register i : ℕ) : Type 0 where
   pub within : i ≤ length octets
-  pub is-crc : register ≡ crc_of (take i octets)
+  pub is_crc : register ≡ crc_of (take i octets)
 
 abbrev pub invariant-loop-i : goal.invariant-loop-i
 invariant-loop-i l = ReadSoFar l.octets l.register l.i

@@ -24,12 +24,12 @@ gather-count-requires c =
 
 pub overflow_cast-result : goal.overflow_cast-result
 overflow_cast-result c =
-    let small-cylinder : c.judge-judged.result.walk.cylinder < 2 ^ 16 = let a = c.args in
+    let small_cylinder : c.judge-judged.result.walk.cylinder < 2 ^ 16 = let a = c.args in
     let none = ap (λ (o : Offence). o.found) (sym c.judge-judged.ensures.offence) ∙ c.if-offence.false in
     let inside = storage_inside (not a.in_sectors) a.setup (string_in a.setup a.in_sectors a.octets.now a.sectors.now) none in
     let few = limits a.setup c.requires.0.limits in
     rw (c.judge-judged.ensures.ends c.if-offence.false).walk (omega (arith, inside.0)) in
-    record { fits = small-cylinder }
+    record { fits = small_cylinder }
 
 pub returns : goal.returns
 returns c =

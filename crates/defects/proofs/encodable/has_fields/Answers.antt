@@ -9,8 +9,8 @@ use lib.Dec.{leb}
 use Rattle.defects.specs.Encoding.{fits}
 use Rattle.defects.proofs.encodable.has_fields.Goals as goal
 
-by-thirds : (a b : ℕ) → leb a (b / 3) ≡ leb (3 * a) b
-by-thirds a b = by_test (leb a (b / 3)) refl
+by_thirds : (a b : ℕ) → leb a (b / 3) ≡ leb (3 * a) b
+by_thirds a b = by_test (leb a (b / 3)) refl
   where
     by_test : (test : Bool) → leb a (b / 3) ≡ test → test ≡ leb (3 * a) b
     by_test true e = let h = leb-true a (b / 3) e in sym (le-leb (3 * a) b (omega arith))
@@ -18,4 +18,4 @@ by-thirds a b = by_test (leb a (b / 3)) refl
 
 pub returns : goal.returns
 unfolding fits
-returns c = rw (by-thirds c.args.sets c.data_fields.result, c.data_fields.ensures, c.slots_each.ensures.0, c.requires)
+returns c = rw (by_thirds c.args.sets c.data_fields.result, c.data_fields.ensures, c.slots_each.ensures.0, c.requires)

@@ -16,25 +16,28 @@ use Rattle.defects.proofs.Plans.{plan}
 use Rattle.defects.proofs.Promised.{map_encoded}
 use Rattle.defects.proofs.EncodeRows.{Told, some_octets, length_told, lacks_octets, has_octets, planned, room_in_octets, whole_map}
 use Rattle.defects.proofs.encoding.encode_map.Goals as goal
+use Rattle.defects.proofs.encoding.encode_map.Goals.{After-field_octets-size, Else-defects-is_encodable}
 
 pub returns-then-not-within_limits : goal.returns-then-not-within_limits
 unfolding pick
 returns-then-not-within_limits c = let outside = sym c.within_limits.ensures ∙ c.if-not-within_limits.true in map_encoded (rw outside) (rw outside)
 
+told : (c : After-field_octets-size) → let a = c.args in
+    Told a.setup (length a.defects.now / 12) c.field_octets-size.result c.sets_for-sets.result
+told c = record { limits = sym c.within_limits.ensures ∙ c.if-not-within_limits.false; sized = c.field_octets-size.ensures; counted = c.sets_for-sets.ensures }
+
+ready : (c : Else-defects-is_encodable) → let a = c.args in
+    Planned a.setup (record { sets = c.sets_for-sets.result; cylinder = a.storage_cylinder; head = a.storage_head; stored = false }) a.defects.now
+ready c = planned (sym c.within_limits.ensures ∙ c.if-not-within_limits.false) c.sets_for-sets.ensures (rw c.is_encodable.ensures at c.if-defects-is_encodable.false)
+
 pub nonzero_div-out : goal.nonzero_div-out
 nonzero_div-out c =
-    let within : within_limits c.args.setup ≡ true = sym c.within_limits.ensures ∙ c.if-not-within_limits.false in
-    let told : let a = c.args in
-    Told a.setup (length a.defects.now / 12) c.field_octets-size.result c.sets_for-sets.result = record { limits = within; sized = c.field_octets-size.ensures; counted = c.sets_for-sets.ensures } in
-    some_octets (told)
+    some_octets (told (goal.at.nonzero_div-out c).After-field_octets-size)
 
 pub returns-then-out-size : goal.returns-then-out-size
 unfolding pick
 returns-then-out-size c =
-    let within : within_limits c.args.setup ≡ true = sym c.within_limits.ensures ∙ c.if-not-within_limits.false in
-    let told : let a = c.args in
-    Told a.setup (length a.defects.now / 12) c.field_octets-size.result c.sets_for-sets.result = record { limits = within; sized = c.field_octets-size.ensures; counted = c.sets_for-sets.ensures } in
-    let t = told in
+    let t = told (goal.at.returns-then-out-size c).After-field_octets-size in
     let small = t.limits in
     let short = lacks_octets t _ c.if-out-size.true in
     map_encoded (rw (small, short)) (rw (small, short))
@@ -42,56 +45,34 @@ returns-then-out-size c =
 pub returns-then-defects-is_encodable : goal.returns-then-defects-is_encodable
 unfolding pick
 returns-then-defects-is_encodable c =
-    let within : within_limits c.args.setup ≡ true = sym c.within_limits.ensures ∙ c.if-not-within_limits.false in
-    let told : let a = c.args in
-    Told a.setup (length a.defects.now / 12) c.field_octets-size.result c.sets_for-sets.result = record { limits = within; sized = c.field_octets-size.ensures; counted = c.sets_for-sets.ensures } in
-    let has_room : let a = c.args in
-    ltb (length a.out.now) (map_length a.setup (length a.defects.now / 12)) ≡ false = has_octets (told) _ c.if-out-size.false in
-    let small = (told).limits in
+    let t = told (goal.at.returns-then-defects-is_encodable c).After-field_octets-size in
+    let room = has_octets t _ c.if-out-size.false in
+    let small = t.limits in
     let wrong = rw c.is_encodable.ensures at c.if-defects-is_encodable.true in
-    map_encoded (rw (small, has_room, wrong)) (rw (small, has_room, wrong))
+    map_encoded (rw (small, room, wrong)) (rw (small, room, wrong))
 
 pub overflow_cast-job : goal.overflow_cast-job
 overflow_cast-job c =
-    let within : within_limits c.args.setup ≡ true = sym c.within_limits.ensures ∙ c.if-not-within_limits.false in
-    let told : let a = c.args in
-    Told a.setup (length a.defects.now / 12) c.field_octets-size.result c.sets_for-sets.result = record { limits = within; sized = c.field_octets-size.ensures; counted = c.sets_for-sets.ensures } in
-    let ready : let a = c.args in
-    Planned a.setup (record { sets = c.sets_for-sets.result; cylinder = a.storage_cylinder; head = a.storage_head; stored = false }) a.defects.now = let t = told in
-    planned t.limits t.counted (rw c.is_encodable.ensures at c.if-defects-is_encodable.false) in
-    let p = plan (ready) in
+    let p = plan (ready (goal.at.overflow_cast-job c).Else-defects-is_encodable) in
     omega (arith, p.fields, p.few)
 
 pub put_sets-requires : goal.put_sets-requires
 put_sets-requires c =
-    let within : within_limits c.args.setup ≡ true = sym c.within_limits.ensures ∙ c.if-not-within_limits.false in
-    let told : let a = c.args in
-    Told a.setup (length a.defects.now / 12) c.field_octets-size.result c.sets_for-sets.result = record { limits = within; sized = c.field_octets-size.ensures; counted = c.sets_for-sets.ensures } in
-    let has_room : let a = c.args in
-    ltb (length a.out.now) (map_length a.setup (length a.defects.now / 12)) ≡ false = has_octets (told) _ c.if-out-size.false in
-    let ready : let a = c.args in
-    Planned a.setup (record { sets = c.sets_for-sets.result; cylinder = a.storage_cylinder; head = a.storage_head; stored = false }) a.defects.now = let t = told in
-    planned t.limits t.counted (rw c.is_encodable.ensures at c.if-defects-is_encodable.false) in
-    (ready, room_in_octets (ready) refl (has_room))
+    let here = goal.at.put_sets-requires c in
+    let t = told here.After-field_octets-size in
+    let room = has_octets t _ c.if-out-size.false in
+    ((ready here.Else-defects-is_encodable), room_in_octets (ready here.Else-defects-is_encodable) refl room)
 
 pub overflow_mul-result : goal.overflow_mul-result
 overflow_mul-result c =
-    let within : within_limits c.args.setup ≡ true = sym c.within_limits.ensures ∙ c.if-not-within_limits.false in
-    let told : let a = c.args in
-    Told a.setup (length a.defects.now / 12) c.field_octets-size.result c.sets_for-sets.result = record { limits = within; sized = c.field_octets-size.ensures; counted = c.sets_for-sets.ensures } in
-    omega (arith, (le-div_iff_mul-le (some_octets (told))).0 c.if-out-size.false)
+    omega (arith, (le-div_iff_mul-le (some_octets (told (goal.at.overflow_mul-result c).After-field_octets-size))).0 c.if-out-size.false)
 
 pub returns : goal.returns
 unfolding pick
 returns c =
-    let within : within_limits c.args.setup ≡ true = sym c.within_limits.ensures ∙ c.if-not-within_limits.false in
-    let told : let a = c.args in
-    Told a.setup (length a.defects.now / 12) c.field_octets-size.result c.sets_for-sets.result = record { limits = within; sized = c.field_octets-size.ensures; counted = c.sets_for-sets.ensures } in
-    let has_room : let a = c.args in
-    ltb (length a.out.now) (map_length a.setup (length a.defects.now / 12)) ≡ false = has_octets (told) _ c.if-out-size.false in
-    let ready : let a = c.args in
-    Planned a.setup (record { sets = c.sets_for-sets.result; cylinder = a.storage_cylinder; head = a.storage_head; stored = false }) a.defects.now = let t = told in
-    planned t.limits t.counted (rw c.is_encodable.ensures at c.if-defects-is_encodable.false) in
-    let small = told.limits in
+    let here = goal.at.returns c in
+    let t = told here.After-field_octets-size in
+    let room = has_octets t _ c.if-out-size.false in
+    let small = t.limits in
     let right = rw c.is_encodable.ensures at c.if-defects-is_encodable.false in
-    map_encoded (rw (small, has_room, right) (ap Written (length_told told))) (rw (small, has_room, right) (whole_map ready c.put_sets.ensures))
+    map_encoded (rw (small, room, right) (ap Written (length_told t))) (rw (small, room, right) (whole_map (ready here.Else-defects-is_encodable) c.put_sets.ensures))

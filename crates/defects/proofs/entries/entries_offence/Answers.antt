@@ -10,28 +10,29 @@ use borrow.Author.Rules.{rules}
 use mathlib.Core.Path.{refl, sym, ◌∙◌}
 use Rattle.defects.proofs.EntriesLeft.{left_start, left_none, left_stop, left_next, blank_left, none_left}
 use Rattle.defects.proofs.entries.entries_offence.Goals as goal
+use Rattle.defects.proofs.entries.entries_offence.Goals.{After-is_blank, In-loop-i}
 
 pub loop-i-init : goal.loop-i-init
 loop-i-init c = left_start _ _ _ _ _
 
+in_slot : (c : In-loop-i) → c.loop-i.i < slots (length c.args.field.now)
+in_slot c = omega (arith, c.slots_of-slots.ensures)
+
+blank_told : (c : After-is_blank) → is_blank (defect_at c.loop-i.at c.args.field.now) ≡ c.is_blank.result
+blank_told c = sym (c.is_blank.ensures ∙ ap is_blank c.defect_at-d.ensures)
+
 pub returns-then-is_blank : goal.returns-then-is_blank
 returns-then-is_blank c =
-    let in-slot : c.loop-i.i < slots (length c.args.field.now) = omega (arith, c.slots_of-slots.ensures) in
-    let blank-told : is_blank (defect_at c.loop-i.at c.args.field.now) ≡ c.is_blank.result = sym (c.is_blank.ensures ∙ ap is_blank c.defect_at-d.ensures) in
-    left_none _ _ _ _ _ _ _ _ _ c.loop-i.invariant (blank_left _ _ _ (in-slot) (blank-told ∙ c.if-is_blank.true)) c.none_after.ensures
+    left_none _ _ _ _ _ _ _ _ _ c.loop-i.invariant (blank_left _ _ _ (in_slot (goal.at.returns-then-is_blank c).In-loop-i) ((blank_told (goal.at.returns-then-is_blank c).After-is_blank) ∙ c.if-is_blank.true)) c.none_after.ensures
 
 pub returns-then-offence : goal.returns-then-offence
 returns-then-offence c =
-    let in-slot : c.loop-i.i < slots (length c.args.field.now) = omega (arith, c.slots_of-slots.ensures) in
-    let blank-told : is_blank (defect_at c.loop-i.at c.args.field.now) ≡ c.is_blank.result = sym (c.is_blank.ensures ∙ ap is_blank c.defect_at-d.ensures) in
-    left_stop _ _ _ _ _ _ _ _ _ _ c.loop-i.invariant (in-slot) (blank-told ∙ c.if-is_blank.false)
+    left_stop _ _ _ _ _ _ _ _ _ _ c.loop-i.invariant (in_slot (goal.at.returns-then-offence c).In-loop-i) ((blank_told (goal.at.returns-then-offence c).After-is_blank) ∙ c.if-is_blank.false)
     (c.judge_entry-entry.ensures.offence ∙ rw c.defect_at-d.ensures) c.if-offence.true refl
 
 pub loop-i-preserved : goal.loop-i-preserved
 loop-i-preserved c =
-    let in-slot : c.loop-i.i < slots (length c.args.field.now) = omega (arith, c.slots_of-slots.ensures) in
-    let blank-told : is_blank (defect_at c.loop-i.at c.args.field.now) ≡ c.is_blank.result = sym (c.is_blank.ensures ∙ ap is_blank c.defect_at-d.ensures) in
-    left_next _ _ _ _ _ _ _ _ _ _ c.loop-i.invariant (in-slot) (blank-told ∙ c.if-is_blank.false)
+    left_next _ _ _ _ _ _ _ _ _ _ c.loop-i.invariant (in_slot (goal.at.loop-i-preserved c).In-loop-i) ((blank_told (goal.at.loop-i-preserved c).After-is_blank) ∙ c.if-is_blank.false)
     (c.judge_entry-entry.ensures.offence ∙ rw c.defect_at-d.ensures) c.if-offence.false (c.judge_entry-entry.ensures.next c.if-offence.false ∙ rw c.defect_at-d.ensures)
 
 pub returns : goal.returns

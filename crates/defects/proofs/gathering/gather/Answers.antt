@@ -23,9 +23,9 @@ list_at-listed-requires c =
     let each = field_octets c.args.setup in
     let more : (k + 1) * each ≤ c.args.fields * each = mul-le-mul_right each (omega arith) in
     record { limits = pre.limits; room = pre.room; inside = omega (arith, pre.within); whole = omega (arith, more, pre.whole, add-mul k 1 each, one-mul each) } in
-    let next-room : let a = c.args in
+    let next_room : let a = c.args in
     12 * (c.loop-k.count + length (own_defects c.loop-k.copy (field_at a.setup (string_in a.setup a.in_sectors a.octets.now a.sectors.now) c.loop-k.k))) ≤ length c.loop-k.defects = own_room _ _ _ _ _ _ _ _ c.loop-k.invariant.gathered (c.requires.0.going c.loop-k.k c.loop-k-test.true) c.loop-k-test.true c.requires.0.held in
-    (loadable, next-room, omega (arith, c.requires.1, c.loop-k.invariant.fields'))
+    (loadable, next_room, omega (arith, c.requires.1, c.loop-k.invariant.fields'))
 
 pub loop-k-preserved : goal.loop-k-preserved
 loop-k-preserved c =

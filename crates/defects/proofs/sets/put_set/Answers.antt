@@ -16,6 +16,7 @@ use Rattle.defects.proofs.Bodies.{body_of, finished_as, field_of}
 use Rattle.defects.proofs.Stored.{one_more_put}
 use borrow.Author.Rules.{rules}
 use Rattle.defects.proofs.sets.put_set.Goals as goal
+use Rattle.defects.proofs.sets.put_set.Goals.{After-room-field}
 
 -- the size of a data field
 record Size (size : ℕ) (s : Setup) : Type 0 where
@@ -39,11 +40,13 @@ same_array size field made array kept = length_front field made size kept ∙ ar
 part_back : (size : ℕ) (field made : List ℕ) → size ≤ 2048 → length field ≡ 2048 → length made ≡ length (take size field) → take size (made ++ drop size field) ≡ made
 part_back size field made most array kept = take_at made (drop size field) size (kept ∙ part_size size field most array)
 
+room_octets : (c : After-room-field) → length c.room-field.result ≡ 2048
+room_octets c = search rules
+
 pub slice_bounds-field-end : goal.slice_bounds-field-end
 slice_bounds-field-end c =
     let size = sized c.field_octets-size.result c.field_octets-size.ensures c.requires.0.planned in
-    let room_octets : length c.room-field.result ≡ 2048 = search rules in
-    rw room_octets size.most
+    rw (room_octets (goal.at.slice_bounds-field-end c).After-room-field) size.most
 
 pub slice_bounds-fill-end : goal.slice_bounds-fill-end
 slice_bounds-fill-end c =
@@ -59,13 +62,12 @@ pub loop-copy-init : goal.loop-copy-init
 loop-copy-init c =
     let size = c.field_octets-size.result in
     let known = sized size c.field_octets-size.ensures c.requires.0.planned in
-    let room_octets : length c.room-field.result ≡ 2048 = search rules in
     let kept = c.fill-next.auto.field in
-    let part = part_back size c.room-field.result c.fill-next.new.field known.most room_octets kept in
+    let part = part_back size c.room-field.result c.fill-next.new.field known.most (room_octets (goal.at.loop-copy-init c).After-room-field) kept in
     record {
       copies = search rules;
       here = omega arith;
-      array = same_array size c.room-field.result c.fill-next.new.field room_octets kept;
+      array = same_array size c.room-field.result c.fill-next.new.field (room_octets (goal.at.loop-copy-init c).After-room-field) kept;
       body = rw part (body_of _ _ _ 0 (0 ∷ 0 ∷ []) _ refl c.fill-next.ensures.body);
       same_out = refl;
       same_sectors = refl;

@@ -10,9 +10,9 @@ use borrow.Author.Rules.{rules}
 use Rattle.defects.proofs.storing.put.Goals as goal
 
 -- a turn: two octets more
-two-more : (out : List ℕ) (at : ℕ) (octets : List ℕ) (i : ℕ) → at + 2 * i + 1 < length out → 2 * i + 1 < length octets
+two_more : (out : List ℕ) (at : ℕ) (octets : List ℕ) (i : ℕ) → at + 2 * i + 1 < length out → 2 * i + 1 < length octets
     → set (set (paste out at octets (2 * i)) (at + 2 * i) (get_or octets (2 * i) 0)) (at + 2 * i + 1) (get_or octets (2 * i + 1) 0) ≡ paste out at octets (2 * (i + 1))
-two-more out at octets i h l =
+two_more out at octets i h l =
     let here : at + 2 * i + 1 ≡ at + suc (2 * i) = omega arith in
     let there : 2 * i + 1 ≡ suc (2 * i) = omega arith in
     let more : 2 * (i + 1) ≡ suc (suc (2 * i)) = omega arith in
@@ -32,7 +32,7 @@ loop-i-preserved c =
     let a = c.args in (
       search rules,
       simp length-set l.invariant.1,
-      rw l.invariant.2 (two-more a.out.now a.at a.octets.now l.i (omega arith) (omega arith)),
+      rw l.invariant.2 (two_more a.out.now a.at a.octets.now l.i (omega arith) (omega arith)),
     )
 
 pub returns : goal.returns

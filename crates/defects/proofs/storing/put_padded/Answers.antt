@@ -11,21 +11,21 @@ use borrow.Author.Rules.{rules}
 use Rattle.defects.proofs.storing.put_padded.Invariants.{padded}
 use Rattle.defects.proofs.storing.put_padded.Goals as goal
 
-length-padded : (octets : List ℕ) (room : ℕ) → length octets ≤ room → length (padded octets room) ≡ room
-length-padded octets room h =
+length_padded : (octets : List ℕ) (room : ℕ) → length octets ≤ room → length (padded octets room) ≡ room
+length_padded octets room h =
     let zeros = room - length octets in
     omega (arith, length-append octets (replicate zeros 0), length-replicate {A = ℕ} zeros 0)
 
 -- zeros at the end are what is read behind the end
-zeros-read : (n i : ℕ) → get_or {A = ℕ} (replicate n 0) i 0 ≡ 0
-zeros-read zero i = refl
-zeros-read (suc n) zero = refl
-zeros-read (suc n) (suc i) = zeros-read n i
+zeros_read : (n i : ℕ) → get_or {A = ℕ} (replicate n 0) i 0 ≡ 0
+zeros_read zero i = refl
+zeros_read (suc n) zero = refl
+zeros_read (suc n) (suc i) = zeros_read n i
 
-read-padded : (octets : List ℕ) (n i : ℕ) → get_or (octets ++ replicate n 0) i 0 ≡ get_or octets i 0
-read-padded [] n i = zeros-read n i
-read-padded (octet ∷ octets) n zero = refl
-read-padded (octet ∷ octets) n (suc i) = read-padded octets n i
+read_padded : (octets : List ℕ) (n i : ℕ) → get_or (octets ++ replicate n 0) i 0 ≡ get_or octets i 0
+read_padded [] n i = zeros_read n i
+read_padded (octet ∷ octets) n zero = refl
+read_padded (octet ∷ octets) n (suc i) = read_padded octets n i
 
 pub loop-i-init : goal.loop-i-init
 loop-i-init c =
@@ -39,16 +39,16 @@ loop-i-preserved c =
     let room = length a.out.now - a.at in
     let octets = a.octets.now in
     let inside : a.at + l.i < length a.out.now = omega arith in
-    let octet = c.octet_or_zero.ensures ∙ sym (read-padded octets (room - length octets) l.i) in (
+    let octet = c.octet_or_zero.ensures ∙ sym (read_padded octets (room - length octets) l.i) in (
       search rules,
       refl,
       simp length-set l.invariant.2,
-      rw (l.invariant.3, octet, add-one, paste-suc a.out.now a.at (padded octets room) l.i 0 inside (omega (arith, length-padded octets room (omega arith)))),
+      rw (l.invariant.3, octet, add-one, paste-suc a.out.now a.at (padded octets room) l.i 0 inside (omega (arith, length_padded octets room (omega arith)))),
     )
 
 pub returns : goal.returns
 returns c =
     let a = c.args in
     let all_octets = padded a.octets.now (length a.out.now - a.at) in
-    let all : c.loop-i.i ≡ length all_octets = omega (arith, length-padded a.octets.now (length a.out.now - a.at) (omega arith)) in
+    let all : c.loop-i.i ≡ length all_octets = omega (arith, length_padded a.octets.now (length a.out.now - a.at) (omega arith)) in
     rw (c.loop-i.invariant.3, all, take-length all_octets)

@@ -13,9 +13,9 @@ loop-telling-init c =
       within = search rules;
       read = search rules;
       told = search rules;
-      same-state = refl;
+      same_state = refl;
       same_sectors = refl;
-      same-staging = refl;
+      same_staging = refl;
       same_out = refl;
       going = rw none (going_start _ _ _ _ _ _ _ c.requires.0.long c.requires.1);
     }
@@ -49,9 +49,9 @@ loop-telling-preserved c =
       within = search rules;
       read = search rules;
       told = search rules;
-      same-state = search rules;
+      same_state = search rules;
       same_sectors = search rules;
-      same-staging = search rules;
+      same_staging = search rules;
       same_out = search rules;
       going = rw (more, inv.told) next;
     }

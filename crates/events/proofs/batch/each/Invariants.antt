@@ -10,9 +10,9 @@ pub record Left (telling : Bool) (count : ℕ) (records state₀ sectors₀ stag
   pub within : left ≤ count
   pub read : from ≡ 8 * (count - left)
   pub told : at ≡ 13 * (count - left)
-  pub same-state : length state ≡ length state₀
+  pub same_state : length state ≡ length state₀
   pub same_sectors : length sectors ≡ length sectors₀
-  pub same-staging : length staging ≡ length staging₀
+  pub same_staging : length staging ≡ length staging₀
   pub same_out : length out ≡ length out₀
   pub going : Going telling count records state₀ sectors₀ staging₀ out₀ state sectors staging out (count - left)
 

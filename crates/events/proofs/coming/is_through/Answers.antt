@@ -9,9 +9,9 @@ use Rattle.parts.specs.declared.setup.Setup.{Setup}
 use Rattle.events.specs.State.{drive_in}
 use Rattle.events.proofs.coming.is_through.Goals as goal
 
-in-field1 : (s : Setup) (c moved : ℕ) → (names_field1 c && ltb moved s.field1) ≡ true → false ≡ leb (data_words s c) moved
+in_field1 : (s : Setup) (c moved : ℕ) → (names_field1 c && ltb moved s.field1) ≡ true → false ≡ leb (data_words s c) moved
 unfolding data_words pick
-in-field1 s c moved h =
+in_field1 s c moved h =
     let named = and_l (names_field1 c) (ltb moved s.field1) h in
     let fewer = ltb-true moved s.field1 (and_r (names_field1 c) (ltb moved s.field1) h) in
     sym (lt-leb (data_words s c) moved (rw named (omega (arith, fewer))))
@@ -19,7 +19,7 @@ in-field1 s c moved h =
 pub returns-then-names_field1-moved : goal.returns-then-names_field1-moved
 unfolding drive_in
 returns-then-names_field1-moved c =
-    in-field1 (drive_in c.args.state.now).setup c.args.control c.args.moved (rw (← c.names_field1.ensures) c.if-names_field1-moved.true)
+    in_field1 (drive_in c.args.state.now).setup c.args.control c.args.moved (rw (← c.names_field1.ensures) c.if-names_field1-moved.true)
 
 pub returns : goal.returns
 returns c = rw c.data_words.ensures

@@ -19,8 +19,8 @@ module _ (a : List ℕ) (i : ℕ) (b : List ℕ) (k n j : ℕ) (h : j < n) (ha :
   goes_on : get_or a (i + j) 0 ≡ get_or b (k + j) 0 → left a i b k n j ≡ suc (left a i b k n (j + 1))
   goes_on e = next_word_lem ∙ one_more _ _ _ _ (eq-eqb _ _ e)
 
-  stops-here : (get_or a (i + j) 0 ≡ get_or b (k + j) 0 → ⊥) → left a i b k n j ≡ 0
-  stops-here e = next_word_lem ∙ none_alike _ _ _ _ (ne_eqb _ _ e)
+  stops_here : (get_or a (i + j) 0 ≡ get_or b (k + j) 0 → ⊥) → left a i b k n j ≡ 0
+  stops_here e = next_word_lem ∙ none_alike _ _ _ _ (ne_eqb _ _ e)
 
 pub loop-walked-init : goal.loop-walked-init
 loop-walked-init c =
@@ -42,7 +42,7 @@ pub returns-else-a-i : goal.returns-else-a-i
 returns-else-a-i c =
     let l = c.loop-walked in
     let a = c.args in
-    let stop = stops-here a.a.now a.i a.b.now a.k a.n l.walked (search rules) (search rules) (search rules) (c.if-a-i.false) in
+    let stop = stops_here a.a.now a.i a.b.now a.k a.n l.walked (search rules) (search rules) (search rules) (c.if-a-i.false) in
     let all = l.invariant.1 in
     omega (arith, all, stop)
 

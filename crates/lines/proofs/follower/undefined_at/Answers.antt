@@ -8,11 +8,11 @@ use Rattle.lines.specs.declared.follower.Answer.TheVariants.{Undefined}
 use Rattle.lines.specs.Follower.{idle, lost, told, undefined_at}
 use Rattle.lines.proofs.follower.undefined_at.Goals as goal
 
-lost-unless : (zero : Bool) → ◌≡◌ {A = Follower} (record { setting = 0; history = false; lost = not zero }) (pick zero idle lost)
+lost_unless : (zero : Bool) → ◌≡◌ {A = Follower} (record { setting = 0; history = false; lost = not zero }) (pick zero idle lost)
 unfolding pick
-lost-unless true = refl
-lost-unless false = refl
+lost_unless true = refl
+lost_unless false = refl
 
 pub returns : goal.returns
 unfolding undefined_at
-returns c = ap (told Undefined) (lost-unless _)
+returns c = ap (told Undefined) (lost_unless _)

@@ -9,66 +9,66 @@ use Rattle.lines.specs.Follower.{lacks_history}
 use Rattle.lines.proofs.plain.is_controllers.Goals as goal
 
 -- a move that needs no history
-no-need : (listed history : Bool) → listed ≡ (listed && not (not history && false))
-no-need true true = refl
-no-need true false = refl
-no-need false history = refl
+no_need : (listed history : Bool) → listed ≡ (listed && not (not history && false))
+no_need true true = refl
+no_need true false = refl
+no_need false history = refl
 
 -- 16→0
-at-16 : (zero history : Bool) → (zero && history) ≡ (zero && not (not history && zero))
-at-16 true true = refl
-at-16 true false = refl
-at-16 false history = refl
+at_16 : (zero history : Bool) → (zero && history) ≡ (zero && not (not history && zero))
+at_16 true true = refl
+at_16 true false = refl
+at_16 false history = refl
 
 -- 24→28
-at-28 : (history : Bool) → history ≡ not (not history && true)
-at-28 true = refl
-at-28 false = refl
+at_28 : (history : Bool) → history ≡ not (not history && true)
+at_28 true = refl
+at_28 false = refl
 
-at-24 : (new : ℕ) (history : Bool)
+at_24 : (new : ℕ) (history : Bool)
     → (eqb new 25 || ((eqb new 28 && history) || eqb new 8)) ≡ ((eqb new 25 || (eqb new 28 || eqb new 8)) && not (not history && eqb new 28))
-at-24 new history = by-28 (eqb new 28) refl
+at_24 new history = by-28 (eqb new 28) refl
   where
     by-28 : (transfers : Bool) → eqb new 28 ≡ transfers
         → (eqb new 25 || ((eqb new 28 && history) || eqb new 8)) ≡ ((eqb new 25 || (eqb new 28 || eqb new 8)) && not (not history && eqb new 28))
-    by-28 true p = rw (eqb-true new 28 p) (simp or-false (at-28 history))
-    by-28 false p = rw p (no-need (eqb new 25 || eqb new 8) history)
+    by-28 true p = rw (eqb-true new 28 p) (simp or-false (at_28 history))
+    by-28 false p = rw p (no_need (eqb new 25 || eqb new 8) history)
 
 pub returns-in-0 : goal.returns-in-0
 unfolding lacks_history
-returns-in-0 c = rw c.in-0.is (simp (or-false, or_assoc) (no-need (eqb c.args.new 4 || (eqb c.args.new 1 || eqb c.args.new 16)) c.args.history))
+returns-in-0 c = rw c.in-0.is (simp (or-false, or_assoc) (no_need (eqb c.args.new 4 || (eqb c.args.new 1 || eqb c.args.new 16)) c.args.history))
 
 pub returns-in-4 : goal.returns-in-4
 unfolding lacks_history
-returns-in-4 c = rw c.in-4.is (simp or-false (no-need (eqb c.args.new 0) c.args.history))
+returns-in-4 c = rw c.in-4.is (simp or-false (no_need (eqb c.args.new 0) c.args.history))
 
 pub returns-in-1 : goal.returns-in-1
 unfolding lacks_history
-returns-in-1 c = rw c.in-1.is (simp or-false (no-need (eqb c.args.new 0) c.args.history))
+returns-in-1 c = rw c.in-1.is (simp or-false (no_need (eqb c.args.new 0) c.args.history))
 
 pub returns-in-16 : goal.returns-in-16
 unfolding lacks_history
-returns-in-16 c = rw c.in-16.is (simp or-false (at-16 (eqb c.args.new 0) c.args.history))
+returns-in-16 c = rw c.in-16.is (simp or-false (at_16 (eqb c.args.new 0) c.args.history))
 
 pub returns-in-24 : goal.returns-in-24
 unfolding lacks_history
-returns-in-24 c = rw c.in-24.is (simp (or-false, or_assoc) (at-24 c.args.new c.args.history))
+returns-in-24 c = rw c.in-24.is (simp (or-false, or_assoc) (at_24 c.args.new c.args.history))
 
 pub returns-in-27 : goal.returns-in-27
 unfolding lacks_history
-returns-in-27 c = rw c.in-27.is (simp or-false (no-need (eqb c.args.new 26) c.args.history))
+returns-in-27 c = rw c.in-27.is (simp or-false (no_need (eqb c.args.new 26) c.args.history))
 
 pub returns-in-30 : goal.returns-in-30
 unfolding lacks_history
-returns-in-30 c = rw c.in-30.is (simp or-false (no-need (eqb c.args.new 31 || eqb c.args.new 26) c.args.history))
+returns-in-30 c = rw c.in-30.is (simp or-false (no_need (eqb c.args.new 31 || eqb c.args.new 26) c.args.history))
 
 pub returns-in-29 : goal.returns-in-29
 unfolding lacks_history
-returns-in-29 c = rw c.in-29.is (simp or-false (no-need (eqb c.args.new 28) c.args.history))
+returns-in-29 c = rw c.in-29.is (simp or-false (no_need (eqb c.args.new 28) c.args.history))
 
 pub returns-in-20 : goal.returns-in-20
 unfolding lacks_history
-returns-in-20 c = rw c.in-20.is (simp or-false (no-need (eqb c.args.new 16) c.args.history))
+returns-in-20 c = rw c.in-20.is (simp or-false (no_need (eqb c.args.new 16) c.args.history))
 
 pub returns-in_default : goal.returns-in_default
 returns-in_default c = rw (ne_eqb _ _ c.in_default.in_default-own.rest.0.0.0.0.0.0.0.0.1, ne_eqb _ _ c.in_default.in_default-own.rest.0.0.0.0.0.0.0.1, ne_eqb _ _ c.in_default.in_default-own.rest.0.0.0.0.0.0.1, ne_eqb _ _ c.in_default.in_default-own.rest.0.0.0.0.0.1, ne_eqb _ _ c.in_default.in_default-own.rest.0.0.0.0.1, ne_eqb _ _ c.in_default.in_default-own.rest.0.0.0.1, ne_eqb _ _ c.in_default.in_default-own.rest.0.0.1, ne_eqb _ _ c.in_default.in_default-own.rest.0.1, ne_eqb _ _ c.in_default.in_default-own.rest.1)

@@ -11,10 +11,10 @@ loop-at-init c =
 pub read_stretch-last-requires : goal.read_stretch-last-requires
 read_stretch-last-requires c =
     let inv = c.loop-at.invariant in
-    let stretch-length = c.read_stretch-arg-1.given.1 in
+    let stretch_length = c.read_stretch-arg-1.given.1 in
     let room_length = c.read_stretch-arg-in-loop-at-1.given.1 in
     let end = c.end_of_stretch-end.ensures in
-    (omega (arith, stretch-length, end.0), omega (arith, stretch-length, end.2), omega (arith, stretch-length, room_length, end.0, end.1, inv.enough, inv.kept))
+    (omega (arith, stretch_length, end.0), omega (arith, stretch_length, end.2), omega (arith, stretch_length, room_length, end.0, end.1, inv.enough, inv.kept))
 
 pub loop-at-preserved : goal.loop-at-preserved
 loop-at-preserved c =

@@ -18,8 +18,8 @@ use Rattle.numbers.specs.declared.number.Number.TheVariants.{Is, Not}
 use Rattle.numbers.proofs.number.number_of.Invariants.{Reading}
 use Rattle.numbers.proofs.number.number_of.Goals as goal
 
-digit-bounds : (octet : ℕ) → is_digit octet ≡ true → (48 ≤ octet) × (octet ≤ 57)
-digit-bounds octet d =
+digit_bounds : (octet : ℕ) → is_digit octet ≡ true → (48 ≤ octet) × (octet ≤ 57)
+digit_bounds octet d =
     let low = leb 48 octet in
     let high = leb octet 57 in
     (leb-true 48 octet (and_l low high d), leb-true octet 57 (and_r low high d))
@@ -48,7 +48,7 @@ module _ {digits : List ℕ} {number i : ℕ} (here : Reading digits number i) w
     next : (value : ℕ) → value ≡ get_or digits i 0 - 48 → is_digit (get_or digits i 0) ≡ true → Reading digits (number * 10 + value) (i + 1)
     unfolding pick
     next value e d =
-        let bounds = digit-bounds (get_or digits i 0) d in
+        let bounds = digit_bounds (get_or digits i 0) d in
         record {
           some = here.some;
           few = here.few;
@@ -79,19 +79,19 @@ overflow_mul-number c = omega (arith, fits c.loop-i.invariant (omega arith))
 
 pub value_of-requires : goal.value_of-requires
 value_of-requires c =
-    let digit-told : is_digit (get_or c.args.digits.now c.loop-i.i 0) ≡ true = sym c.is_digit.ensures ∙ c.if-not-is_digit.false in
-    (digit-bounds _ (digit-told)).0
+    let digit_told : is_digit (get_or c.args.digits.now c.loop-i.i 0) ≡ true = sym c.is_digit.ensures ∙ c.if-not-is_digit.false in
+    (digit_bounds _ (digit_told)).0
 
 pub overflow_add-number : goal.overflow_add-number
 overflow_add-number c =
-    let digit-told : is_digit (get_or c.args.digits.now c.loop-i.i 0) ≡ true = sym c.is_digit.ensures ∙ c.if-not-is_digit.false in
+    let digit_told : is_digit (get_or c.args.digits.now c.loop-i.i 0) ≡ true = sym c.is_digit.ensures ∙ c.if-not-is_digit.false in
     let digit = get_or c.args.digits.now c.loop-i.i 0 in
-    omega (arith, fits c.loop-i.invariant (omega arith), digit-bounds digit (digit-told))
+    omega (arith, fits c.loop-i.invariant (omega arith), digit_bounds digit (digit_told))
 
 pub loop-i-preserved : goal.loop-i-preserved
 loop-i-preserved c =
-    let digit-told : is_digit (get_or c.args.digits.now c.loop-i.i 0) ≡ true = sym c.is_digit.ensures ∙ c.if-not-is_digit.false in
-    next c.loop-i.invariant (omega arith) _ c.value_of.ensures (digit-told)
+    let digit_told : is_digit (get_or c.args.digits.now c.loop-i.i 0) ≡ true = sym c.is_digit.ensures ∙ c.if-not-is_digit.false in
+    next c.loop-i.invariant (omega arith) _ c.value_of.ensures (digit_told)
 
 pub returns-then-number : goal.returns-then-number
 unfolding pick
