@@ -45,9 +45,9 @@ demand_3 =
           record {
             struck_out = struck_out start events;
             whole_sessions = whole_sessions start events refl;
-            last_write_lem = last_write_lem s sectors staging events;
+            last_write = last_write_lem s sectors staging events;
             whole_writes = completed_writes_are_whole s sectors staging events;
-            words_read_lem = along (WordFollows start) start (hosts_read_what_was_written s sectors staging) events;
+            words_read = along (WordFollows start) start (hosts_read_what_was_written s sectors staging) events;
             openings = along (OpeningFollows s) start (places_are_not_made_up s sectors staging) events;
             cut_short = cut_short s sectors staging events;
             never_11_or_10 = stays_sound.never_11_or_10 start events (stays_sound.at_rest s sectors staging h r);

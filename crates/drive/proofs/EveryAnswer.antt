@@ -146,6 +146,6 @@ unfolding handled refusal_of power.powered_up
 exactly_when =
     record {
       event = λ d e sectors staging r sectors' staging' h n. rw h.answer (event_exactly (kind_of e.kind) d e sectors staging n);
-      power_up_lem = λ s sectors staging r h n.
+      power_up = λ s sectors staging r h n.
           exactly power.refusal_in powered.Refused (powered.Up (at_rest s)) r (power_up_rows s sectors staging) (λ m. refl) refl h.answer n;
     }

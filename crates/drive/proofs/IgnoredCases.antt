@@ -6,4 +6,4 @@ use Rattle.drive.proofs.Computing.{computing}
 
 pub ignored_cases_hold : IgnoredCasesHold
 unfolding computing
-ignored_cases_hold = record { own_bit_alone_lem = refl; c_clears_nothing_lem = refl; good_ones_clear_lem = refl; status_leaves_it_lem = refl }
+ignored_cases_hold = record { own_bit_alone = refl; c_clears_nothing = refl; good_ones_clear = refl; status_leaves_it = refl }

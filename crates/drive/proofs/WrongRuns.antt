@@ -114,9 +114,9 @@ idle events =
     record {
       struck_out = record { same_answers = rw (none_accepted events events, none_accepted (refused events) events); same_end = rw (none_accepted events events) };
       whole_sessions = rw (none_accepted events events) sessions.nothing;
-      last_write_lem = record { size = refl; word = λ address h. rw none };
+      last_write = record { size = refl; word = λ address h. rw none };
       whole_writes = rw none tt;
-      words_read_lem = behind _ (λ before told e word p. absent refl p) [] [] events;
+      words_read = behind _ (λ before told e word p. absent refl p) [] [] events;
       openings = behind _ (λ before told e place p. absent refl p) [] [] events;
       cut_short = λ stretch same.
           (demand_3.met power_up.drive.setup power_up.sectors power_up.staging refl refl []).cut_short stretch
@@ -153,7 +153,7 @@ unfolding computing whole_sector_written its_answers
 wrong_runs =
     record {
       parts = λ h.
-          (h.struck_out, h.whole_sessions, h.last_write_lem, h.whole_writes, h.words_read_lem, h.openings, h.cut_short, h.never_11_or_10);
+          (h.struck_out, h.whole_sessions, h.last_write, h.whole_writes, h.words_read, h.openings, h.cut_short, h.never_11_or_10);
       idle = idle;
       refuses_all = λ calls. told_apart 6 0 refl (ap (refusal_at 0) ((demand_3_of_calls.ran calls).answered ∙ never_dead.answered power_up 0 _ _ possible));
       always_zero = λ h. told_apart 8 0 refl (ap (status_at 1) h.same_answers);

@@ -33,11 +33,11 @@ pub record MeetsDemand3 (start : Machine) (events : List Event) (told : List Ans
   -- "What is left is whole sessions, one after another, the last perhaps still open."
   pub whole_sessions : Sessions (accepted events told)
   -- "Each sector word is that of the last completed write that covered it .. or else its power-up word."
-  pub last_write_lem : LastWrite start events told end
+  pub last_write : LastWrite start events told end
   -- "the last completed write": every one that the journal notes is whole.
   pub whole_writes : AllWhole start.drive.setup (journal events told)
   -- What a host takes of a read is what was last written, "read off the set-up, the events and the answers alone"; 46 and 47 tell where the drive stands.
-  pub words_read_lem : HoldsAlong (WordFollows start) events told
+  pub words_read : HoldsAlong (WordFollows start) events told
   -- And so are the place and the number of words to come of every opening.
   pub openings : HoldsAlong (OpeningFollows start.drive.setup) events told
   -- "A write cut short at any word writes nothing": while the journal notes no completed write, the sectors stay as they were.

@@ -17,5 +17,5 @@ use Rattle.drive.specs.declared.power.Powered.{Powered}
 pub record Exactly : Type 0 where
   pub event : (d : Drive) (e : Event) (sectors staging : List ℕ) (r : Outcome) (sectors' staging' : List ℕ) → Handled d e sectors staging r sectors' staging'
       → (n : ℕ) → refusal_in r.answer ≡ suc n ↔ Given (suc n) (rows (kind_of e.kind) d e sectors staging)
-  pub power_up_lem : (s : Setup) (sectors staging : List ℕ) (r : Powered) → PoweredUp s sectors staging r
+  pub power_up : (s : Setup) (sectors staging : List ℕ) (r : Powered) → PoweredUp s sectors staging r
       → (n : ℕ) → power.refusal_in r ≡ suc n ↔ Given (suc n) (power_up_rows s sectors staging)

@@ -92,7 +92,7 @@ status_leaves_it =
     ∷ []
 
 pub record IgnoredCasesHold : Type 0 where
-  pub own_bit_alone_lem : AsWritten own_bit_alone
-  pub c_clears_nothing_lem : AsWritten c_clears_nothing
-  pub good_ones_clear_lem : AsWritten good_ones_clear
-  pub status_leaves_it_lem : AsWritten status_leaves_it
+  pub own_bit_alone : AsWritten own_bit_alone
+  pub c_clears_nothing : AsWritten c_clears_nothing
+  pub good_ones_clear : AsWritten good_ones_clear
+  pub status_leaves_it : AsWritten status_leaves_it

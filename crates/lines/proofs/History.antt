@@ -109,4 +109,4 @@ answers_are way (new ∷ trace) e =
 
 pub history_kept : HistoryKept
 unfolding marked pick
-history_kept = record { same_answers_lem = λ trace. answers_are (came_to 0 []) trace idle_reached }
+history_kept = record { same_answers = λ trace. answers_are (came_to 0 []) trace idle_reached }

@@ -148,6 +148,6 @@ trace_of false false setting e = each_one_of (λ s. Reached (s with-history fals
 pub reached_exactly : ReachedExactly
 reached_exactly =
     record {
-      stays_inside_lem = λ trace. trace_stays idle trace idle_reached;
+      stays_inside = λ trace. trace_stays idle trace idle_reached;
       has_a_trace = λ f. trace_of f.history f.lost f.setting;
     }

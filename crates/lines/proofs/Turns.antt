@@ -188,17 +188,17 @@ plainly f trace =
 pub plain_definition_is_the_step : PlainDefinitionIsTheStep
 plain_definition_is_the_step =
     record {
-      controller_takes_lem = controller_takes_lem;
-      drive_takes_lem = drive_takes_lem;
-      controllers_turn_lem = controllers_turn_lem;
-      drives_turn_lem = drives_turn_lem;
+      controller_takes = controller_takes_lem;
+      drive_takes = drive_takes_lem;
+      controllers_turn = controllers_turn_lem;
+      drives_turn = drives_turn_lem;
       one_sided = not_the_controllers;
     }
 
 pub plain_is_the_table : PlainIsTheTable
 plain_is_the_table =
     record {
-      same_answers_lem = λ f trace. ap (λ (read : Read). read.answers) (plainly f trace);
+      same_answers = λ f trace. ap (λ (read : Read). read.answers) (plainly f trace);
       same_last = λ f trace. ap (λ (read : Read). read.last) (plainly f trace);
       same_call = λ f trace. (λ h. rw (plainly f trace) at h, λ h. rw (plainly f trace) h);
     }

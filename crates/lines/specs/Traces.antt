@@ -23,7 +23,7 @@ pub record Reached (f : Follower) : Type 0 where
 
 -- `is_reached` is reachability, both ways: every trace stays inside, and every state inside has a trace.
 pub record ReachedExactly : Type 0 where
-  pub stays_inside_lem : (trace : List ℕ) → is_reached (after idle trace) ≡ true
+  pub stays_inside : (trace : List ℕ) → is_reached (after idle trace) ≡ true
   pub has_a_trace : (f : Follower) → is_reached f ≡ true → Reached f
 
 -- How the lines came to their setting: the earlier settings without a break, newest first, repeats left out. Or they are lost.
@@ -73,4 +73,4 @@ watched_answers way (new ∷ trace) = (watch way new).answer ∷ watched_answers
 
 -- The follower's mark is as good as the whole way: the same answers to every trace from the start.
 pub record HistoryKept : Type 0 where
-  pub same_answers_lem : (trace : List ℕ) → answers idle trace ≡ watched_answers (came_to IDLE []) trace
+  pub same_answers : (trace : List ℕ) → answers idle trace ≡ watched_answers (came_to IDLE []) trace

@@ -6,7 +6,6 @@ use native.Mathlib.Omega.{arith}
 use lib.ListN.{length, length-append}
 use Rattle.drive.specs.Power.{at_rest}
 use Rattle.drive.specs.Cases.{bench}
-use Rattle.drive.specs.declared.power.Powered.TheVariants.{Up}
 use Rattle.drive.specs.Batch.{events_of}
 use Rattle.bench.specs.Run.{bench_at_rest, lines_of_run, run_report}
 use Rattle.bench.proofs.Pieces.{Going, going_from, going_on_lem}

@@ -1,15 +1,12 @@
 -- `defects::encoding::encode_map` meets its contract: at each `return` the tests that led there say which row holds first, or that none does.
 -- Assumes nothing.
 use Prim.Native.Nat.{◌/◌}
-use mathlib.Core.Path.{◌≡◌, refl, sym, ap, ◌∙◌}
-use mathlib.Core.Bool.{true, false}
+use mathlib.Core.Path.{refl, sym, ap, ◌∙◌}
+use mathlib.Core.Bool.{false}
 use native.Mathlib.Nat.{le-div_iff_mul-le}
 use native.Mathlib.Omega.{arith}
-use lib.Dec.{ltb}
 use lib.ListN.{length}
 use Rattle.laws.specs.Pick.{pick}
-use Rattle.parts.specs.Setup.{within_limits}
-use Rattle.defects.specs.Encoding.{map_length}
 use Rattle.defects.specs.EncodeSteps.{Planned}
 use Rattle.defects.specs.declared.encoding.MapEncoded.TheVariants.{Written}
 use Rattle.defects.proofs.Plans.{plan}

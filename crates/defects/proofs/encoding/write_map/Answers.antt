@@ -2,12 +2,12 @@
 -- Assumes nothing.
 use Rattle.defects.proofs.Promised.{map_wrote}
 use mathlib.Core.Path.{◌≡◌, refl, sym, ◌∙◌}
-use mathlib.Core.Bool.{true, false}
+use mathlib.Core.Bool.{true}
 use native.Mathlib.Omega.{arith}
 use lib.Dec.{ltb}
 use lib.ListN.{length}
 use Rattle.laws.specs.Pick.{pick}
-use Rattle.parts.specs.Setup.{within_limits, all_words}
+use Rattle.parts.specs.Setup.{all_words}
 use Rattle.defects.specs.EncodeSteps.{Planned}
 use Rattle.defects.proofs.Plans.{plan}
 use Rattle.defects.proofs.SectorFields.{lacks_words}
