@@ -1,6 +1,7 @@
 // The bench drive of document 01, and the runner of the cases of a topic.
+use crate::row::{Case, Row};
 use crate::tally::Tally;
-use crate::{event, power, row, words};
+use crate::{event, power};
 
 // The words of the bench drive at rest: "Address 3; 2 cylinders, 2 heads, 3 sectors; header 1, field 1 of 2, field 2 of 1",
 // "nobody selected, no hold, position 0/0/0, target FFFF hex (none, and never outside the drive), nothing pending".
@@ -8,97 +9,80 @@ pub(crate) const AT_REST: [u16; 21] = [
     2, 2, 3, 1, 2, 1, 3, 2, 2, 0, 0, 0, 0, 0xFFFF, 0, 0, 0, 0, 0, 0, 0,
 ];
 
-// What a run of a case found.
-#[derive(Clone, Copy)]
-struct Ran {
-    // Behind the row that ends the case.
-    end: usize,
-    // Did all come out as expected?
-    same: bool,
+// The words of a drive and what is lent to it. The bench drive has 48 sector words; the others are never changed.
+#[derive(Clone, Copy, PartialEq)]
+pub(crate) struct Bench {
+    pub(crate) state: [u16; 21],
+    pub(crate) sectors: [u16; 180],
+    pub(crate) staging: [u16; 4],
 }
 
-// The rows, two numbers each, case after case: each case has the next of the names.
-pub(crate) fn runs(tally: Tally, names: &[u8], rows: &[u64]) -> Tally {
-    let mut told = tally.topic();
-    let mut at = 0;
-    while at < rows.len() {
-        let ran = case(rows, at);
-        told = told.next(names, ran.same);
-        if ran.end <= at {
-            return told;
-        }
-        at = ran.end;
+pub(crate) fn runs(tally: Tally, cases: &[Case]) -> Tally {
+    let mut told = tally;
+    for case in cases {
+        told = told.case(case.name, comes_out(case));
     }
     told
 }
 
-// One case, from power-up with all words zero. The bench drive has 48 words; the others are never changed.
-fn case(rows: &[u64], from: usize) -> Ran {
-    let mut state = AT_REST;
-    let mut sectors = [0u16; 180];
-    let mut staging = [0u16; 4];
+// One case, from power-up with all words zero.
+fn comes_out(case: &Case) -> bool {
+    let mut bench = Bench::with(AT_REST);
     let mut expected = [0u16; 180];
-    let mut same = power::answered(0, state);
-    let mut at = from;
-    while at < rows.len() {
-        if rows.len() - at < 2 {
-            break;
-        }
-        let done = rows[at];
-        let outcome = rows[at + 1];
-        at += 2;
-        let octets = words::octets(done);
-        same = same
-            & if octets[1] != row::IS_EVENT {
-                is_put(
-                    octets,
-                    outcome,
-                    &mut state,
-                    &mut sectors,
-                    &mut expected,
-                    &staging,
-                )
-            } else if event::is_refusal(outcome) {
-                event::is_refused(octets, outcome, state, sectors, staging)
-            } else {
-                event::is_given(octets, outcome, &mut state, &mut sectors, &mut staging)
-            };
-        if done == row::ENDS {
-            return Ran { end: at, same };
+    let mut same = power::answered(None, &AT_REST);
+    for &row in case.rows {
+        same = same & bench.does(row, &mut expected);
+    }
+    let owner = case.owner.unwrap_or(NOBODY);
+    same & (bench.sectors == expected)
+        & (bench.state[8] == owner)
+        & (&bench.state[10..13] == case.place.as_slice())
+}
+
+// The owner in the words of a state.
+const NOBODY: u16 = 2;
+
+impl Bench {
+    // In this state, with all words zero.
+    pub(crate) fn with(state: [u16; 21]) -> Bench {
+        Bench {
+            state,
+            sectors: [0; 180],
+            staging: [0; 4],
         }
     }
-    // No row ends the case.
-    Ran {
-        end: rows.len(),
-        same: false,
+
+    fn does(&mut self, row: Row, expected: &mut [u16; 180]) -> bool {
+        if let Some(sent) = row.event() {
+            return event::is_answered(self, sent);
+        }
+        match row {
+            Row::Stored(index, words) => put(&mut self.sectors, index, words),
+            Row::Expects(index, words) => put(expected, index, words),
+            Row::State(index, words) => put(&mut self.state, index, words),
+            Row::AtRest => {
+                let at_rest = AT_REST;
+                self.state = at_rest;
+                true
+            }
+            Row::Holds(words) => &self.state[7..11] == words.as_slice(),
+            Row::Stands(words) => &self.state[10..14] == words.as_slice(),
+            Row::Open(words) => &self.state[14..18] == words.as_slice(),
+            Row::Kept(words) => &self.state[17..21] == words.as_slice(),
+            Row::Staged(words) => self.staging == words,
+            Row::PowerUp(refusal) => power::answered(refusal, &self.state),
+            _ => false,
+        }
     }
 }
 
-// Words that are put somewhere, or that must be there.
-fn is_put(
-    octets: [u8; 8],
-    outcome: u64,
-    state: &mut [u16; 21],
-    sectors: &mut [u16; 180],
-    expected: &mut [u16; 180],
-    staging: &[u16; 4],
-) -> bool {
-    let four = words::words(outcome);
-    let index = words::wide(octets[7]);
-    let kind = octets[1];
-    match kind {
-        row::IS_STATE => words::put(state, index, &four),
-        row::IS_STORED => words::put(sectors, index, &four),
-        row::IS_EXPECTS => words::put(expected, index, &four),
-        row::IS_AT_REST => words::put(state, 0, &AT_REST),
-        row::IS_POWER_UP => power::answered(outcome, *state),
-        row::IS_HAS => words::has(state, index, &four),
-        row::IS_STAGED => words::same(staging, &four),
-        _ => words::same(sectors, expected) & is_at(state, four),
+// The words go to `all` from the index on. Were all of them put there?
+fn put(all: &mut [u16], index: usize, words: [u16; 4]) -> bool {
+    match all.get_mut(index..index.saturating_add(4)) {
+        Some(place) => {
+            place.copy_from_slice(&words);
+            true
+        }
+        None => false,
     }
-}
-
-// The owner, the cylinder, the head and the sector.
-fn is_at(state: &[u16; 21], four: [u16; 4]) -> bool {
-    (state[8] == four[0]) & (state[10] == four[1]) & (state[11] == four[2]) & (state[12] == four[3])
 }

@@ -1,20 +1,15 @@
 // Arguments by place: calls whose arguments of one type differ, so that two of them changed over give another answer.
 use crate::tally::Tally;
-use crate::words;
 use drive::{Answer, Drive, Powered};
 use lines::Follower;
 use parts::{Event, Setup};
 
 pub(crate) fn run(tally: Tally) -> Tally {
-    let names = b"\
-the settings that have a name\n\
-Position 2/3/4 by the call of one event\n\
-that drive by value, and a selection\n\
-a follower by value\n";
-    let settings = tally.topic().next(names, has_settings());
-    let positioned = settings.next(names, positions());
-    let selected = positioned.next(names, powers_up());
-    selected.next(names, follows())
+    tally
+        .case("the settings that have a name", has_settings())
+        .case("Position 2/3/4 by the call of one event", positions())
+        .case("that drive by value, and a selection", powers_up())
+        .case("a follower by value", follows())
 }
 
 // "IDLE 0, MAINT 1, REQUEST 4, DESEL 8, SELECT 16, SLAVEND 20, SLAVACK 24, BUSCTL 25, MASTEND 26, BUSACK 27, XFRRDY 28, XFRST 30.
@@ -36,20 +31,14 @@ fn has_settings() -> bool {
         lines::XFRRES,
         lines::XFREND,
     ];
-    check::same(
-        &settings,
-        &[0, 1, 4, 8, 16, 20, 24, 25, 26, 27, 28, 30, 31, 29],
-    )
+    settings == [0, 1, 4, 8, 16, 20, 24, 25, 26, 27, 28, 30, 31, 29]
 }
 
 // Port 1, kind 7, and the octets 0, 2, 3 and 4. The drive has 3 cylinders, 4 heads, 5 sectors of 0, 1 and 2 words, address 6.
 fn positions() -> bool {
-    let mut state = [0u16; 21];
-    let put = words::put(
-        &mut state,
-        0,
-        &[3, 4, 5, 0, 1, 2, 6, 1, 1, 0, 0, 0, 0, 0xFFFF],
-    );
+    let mut state = [
+        3, 4, 5, 0, 1, 2, 6, 1, 1, 0, 0, 0, 0, 0xFFFF, 0, 0, 0, 0, 0, 0, 0,
+    ];
     let refusal = pantoglide::pg_event(
         &mut state,
         1,
@@ -62,9 +51,11 @@ fn positions() -> bool {
         &mut [0u16; 3],
         &mut [0u16; 13],
     );
-    put & (refusal == 0)
-        & words::has(&state, 0, &[3, 4, 5, 0, 1, 2, 6, 1, 1, 0, 2, 3, 4, 0xFFFF])
-        & words::has(&state, 14, &[0u16; 7])
+    (refusal == 0)
+        & (state
+            == [
+                3, 4, 5, 0, 1, 2, 6, 1, 1, 0, 2, 3, 4, 0xFFFF, 0, 0, 0, 0, 0, 0, 0,
+            ])
 }
 
 fn powers_up() -> bool {
@@ -96,12 +87,7 @@ fn is_granted(drive: Drive) -> bool {
         a3: 0,
     };
     let outcome = events::handle(drive, select, &mut [0u16; 180], &mut [0u16; 3]);
-    let answer = outcome.answer;
-    if let Answer::Done = answer {
-        true
-    } else {
-        false
-    }
+    matches!(outcome.answer, Answer::Done)
 }
 
 // From IDLE to SELECT, which is then remembered.

@@ -1,88 +1,190 @@
 // Records and captures, both ways, with refusals 8, 10, 12, 13 and 14. The mark 49 50 49 32 is "IPI2".
+use crate::calls::Call;
 use crate::octets;
+use crate::octets::{Case, Row};
 use crate::tally::Tally;
 
 pub(crate) fn run(tally: Tally) -> Tally {
-    octets::runs(
-        tally,
-        b"\
-record 00 05 01 01 30, both ways\n\
-refusal 10: a record of 7 octets\n\
-capture of three events, both ways\n\
-bench notes before the first record\n\
-refusal 12: a capture under 8 octets\n\
-refusal 13: a wrong trailer mark\n\
-refusal 14: a wrong trailer distance\n\
-refusal 8: records that are not whole\n\
-refusal 10: no room for a capture\n\
-notes and records of 8 octets each\n",
-        &CASES,
-    )
+    octets::runs(tally, &CASES)
 }
 
-// The rows are those of `octets`, and the calls those of `calls`: a line for what is called, one for the octets given, and one for
-// those that must stand in the room, where there are any. A line of one 00 ends a case.
-const CASES: [u8; 517] = *b"\
-    \x03\x00\x08\x09\
-    \x00\x05\x01\x01\x30\x00\x00\x00\
-    \x00\x05\x01\x01\x30\x00\x00\x00\xFF\
-    \x09\x00\x00\x09\
-    \x01\x02\x03\x04\x05\x06\x07\x08\xFF\
-    \x03\x00\x08\x09\
-    \x01\x02\x03\x04\x05\x06\x07\x08\
-    \x01\x02\x03\x04\x05\x06\x07\x08\xFF\
-    \x00\
-    \x03\x0A\x08\x07\
-    \x00\x05\x01\x01\x30\x00\x00\x00\
-    \xFF\xFF\xFF\xFF\xFF\xFF\xFF\
-    \x03\x0A\x07\x08\
-    \x00\x05\x01\x01\x30\x00\x00\
-    \xFF\xFF\xFF\xFF\xFF\xFF\xFF\xFF\
-    \x00\
-    \x04\x00\x20\x20\
-    \x00\x00\x00\x01\x30\x00\x00\x00\x00\x05\x01\x01\x30\x00\x00\x00\x00\x09\x00\x02\x00\x00\x00\x00\x00\x00\x00\x18\x49\x50\x49\x32\
-    \x00\x00\x00\x01\x30\x00\x00\x00\x00\x05\x01\x01\x30\x00\x00\x00\x00\x09\x00\x02\x00\x00\x00\x00\x00\x00\x00\x18\x49\x50\x49\x32\
-    \x05\x83\x20\x00\
-    \x00\x00\x00\x01\x30\x00\x00\x00\x00\x05\x01\x01\x30\x00\x00\x00\x00\x09\x00\x02\x00\x00\x00\x00\x00\x00\x00\x18\x49\x50\x49\x32\
-    \x00\
-    \x04\x00\x12\x12\
-    \x6F\x6B\x00\x05\x01\x01\x30\x00\x00\x00\x00\x00\x00\x08\x49\x50\x49\x32\
-    \x6F\x6B\x00\x05\x01\x01\x30\x00\x00\x00\x00\x00\x00\x08\x49\x50\x49\x32\
-    \x05\xA1\x12\x00\
-    \x6F\x6B\x00\x05\x01\x01\x30\x00\x00\x00\x00\x00\x00\x08\x49\x50\x49\x32\
-    \x00\
-    \x05\x0C\x00\x00\
-    \x05\x0C\x07\x00\
-    \x00\x00\x00\x49\x50\x49\x32\
-    \x00\
-    \x05\x0D\x08\x00\
-    \x00\x00\x00\x00\x49\x50\x49\x33\
-    \x05\x0D\x08\x00\
-    \x00\x00\x00\x07\x49\x50\x49\x33\
-    \x00\
-    \x05\x0E\x08\x00\
-    \x00\x00\x00\x07\x49\x50\x49\x32\
-    \x05\x0E\x08\x00\
-    \x00\x00\x00\x08\x49\x50\x49\x32\
-    \x05\x0E\x10\x00\
-    \x6E\x6F\x74\x65\x73\x20\x6F\x6E\x00\x00\x00\x07\x49\x50\x49\x32\
-    \x05\x0E\x10\x00\
-    \x6E\x6F\x74\x65\x73\x20\x6F\x6E\x00\x00\x00\x10\x49\x50\x49\x32\
-    \x05\x80\x08\x00\
-    \x00\x00\x00\x00\x49\x50\x49\x32\
-    \x00\
-    \x06\x08\x08\x10\
-    \x00\x00\x05\x01\x01\x30\x00\x00\
-    \xFF\xFF\xFF\xFF\xFF\xFF\xFF\xFF\xFF\xFF\xFF\xFF\xFF\xFF\xFF\xFF\
-    \x00\
-    \x06\x0A\x0A\x10\
-    \x01\x21\x00\x05\x01\x01\x30\x00\x00\x00\
-    \xFF\xFF\xFF\xFF\xFF\xFF\xFF\xFF\xFF\xFF\xFF\xFF\xFF\xFF\xFF\xFF\
-    \x06\x0A\x0A\x10\
-    \x02\x21\x21\x00\x05\x01\x01\x30\x00\x00\
-    \xFF\xFF\xFF\xFF\xFF\xFF\xFF\xFF\xFF\xFF\xFF\xFF\xFF\xFF\xFF\xFF\
-    \x00\
-    \x06\x00\x11\x18\
-    \x08\x6E\x6F\x74\x65\x64\x20\x6F\x6E\x00\x05\x01\x01\x30\x00\x00\x00\
-    \x6E\x6F\x74\x65\x64\x20\x6F\x6E\x00\x05\x01\x01\x30\x00\x00\x00\x00\x00\x00\x08\x49\x50\x49\x32\
-    \x00";
+const CASES: [Case; 10] = [
+    Case {
+        name: "record 00 05 01 01 30, both ways",
+        rows: &[
+            Row {
+                call: Call::Record,
+                given: b"\x00\x05\x01\x01\x30\x00\x00\x00",
+                refusal: None,
+                room: b"\x00\x05\x01\x01\x30\x00\x00\x00\xFF",
+            },
+            Row {
+                call: Call::Parts,
+                given: b"",
+                refusal: None,
+                room: b"\x01\x02\x03\x04\x05\x06\x07\x08\xFF",
+            },
+            Row {
+                call: Call::Record,
+                given: b"\x01\x02\x03\x04\x05\x06\x07\x08",
+                refusal: None,
+                room: b"\x01\x02\x03\x04\x05\x06\x07\x08\xFF",
+            },
+        ],
+    },
+    Case {
+        name: "refusal 10: a record of 7 octets",
+        rows: &[
+            Row {
+                call: Call::Record,
+                given: b"\x00\x05\x01\x01\x30\x00\x00\x00",
+                refusal: Some(10),
+                room: b"\xFF\xFF\xFF\xFF\xFF\xFF\xFF",
+            },
+            Row {
+                call: Call::Record,
+                given: b"\x00\x05\x01\x01\x30\x00\x00",
+                refusal: Some(10),
+                room: b"\xFF\xFF\xFF\xFF\xFF\xFF\xFF\xFF",
+            },
+        ],
+    },
+    Case {
+        name: "capture of three events, both ways",
+        rows: &[
+            Row {
+                call: Call::Capture,
+                given: b"\x00\x00\x00\x01\x30\x00\x00\x00\x00\x05\x01\x01\x30\x00\x00\x00\x00\x09\x00\x02\x00\x00\x00\x00\x00\x00\x00\x18\x49\x50\x49\x32",
+                refusal: None,
+                room: b"\x00\x00\x00\x01\x30\x00\x00\x00\x00\x05\x01\x01\x30\x00\x00\x00\x00\x09\x00\x02\x00\x00\x00\x00\x00\x00\x00\x18\x49\x50\x49\x32",
+            },
+            Row {
+                call: Call::CaptureAt(Some((0, 3))),
+                given: b"\x00\x00\x00\x01\x30\x00\x00\x00\x00\x05\x01\x01\x30\x00\x00\x00\x00\x09\x00\x02\x00\x00\x00\x00\x00\x00\x00\x18\x49\x50\x49\x32",
+                refusal: None,
+                room: b"",
+            },
+        ],
+    },
+    Case {
+        name: "bench notes before the first record",
+        rows: &[
+            Row {
+                call: Call::Capture,
+                given: b"\x6F\x6B\x00\x05\x01\x01\x30\x00\x00\x00\x00\x00\x00\x08\x49\x50\x49\x32",
+                refusal: None,
+                room: b"\x6F\x6B\x00\x05\x01\x01\x30\x00\x00\x00\x00\x00\x00\x08\x49\x50\x49\x32",
+            },
+            Row {
+                call: Call::CaptureAt(Some((2, 1))),
+                given: b"\x6F\x6B\x00\x05\x01\x01\x30\x00\x00\x00\x00\x00\x00\x08\x49\x50\x49\x32",
+                refusal: None,
+                room: b"",
+            },
+        ],
+    },
+    Case {
+        name: "refusal 12: a capture under 8 octets",
+        rows: &[
+            Row {
+                call: Call::CaptureAt(None),
+                given: b"",
+                refusal: Some(12),
+                room: b"",
+            },
+            Row {
+                call: Call::CaptureAt(None),
+                given: b"\x00\x00\x00\x49\x50\x49\x32",
+                refusal: Some(12),
+                room: b"",
+            },
+        ],
+    },
+    Case {
+        name: "refusal 13: a wrong trailer mark",
+        rows: &[
+            Row {
+                call: Call::CaptureAt(None),
+                given: b"\x00\x00\x00\x00\x49\x50\x49\x33",
+                refusal: Some(13),
+                room: b"",
+            },
+            Row {
+                call: Call::CaptureAt(None),
+                given: b"\x00\x00\x00\x07\x49\x50\x49\x33",
+                refusal: Some(13),
+                room: b"",
+            },
+        ],
+    },
+    Case {
+        name: "refusal 14: a wrong trailer distance",
+        rows: &[
+            Row {
+                call: Call::CaptureAt(None),
+                given: b"\x00\x00\x00\x07\x49\x50\x49\x32",
+                refusal: Some(14),
+                room: b"",
+            },
+            Row {
+                call: Call::CaptureAt(None),
+                given: b"\x00\x00\x00\x08\x49\x50\x49\x32",
+                refusal: Some(14),
+                room: b"",
+            },
+            Row {
+                call: Call::CaptureAt(None),
+                given: b"\x6E\x6F\x74\x65\x73\x20\x6F\x6E\x00\x00\x00\x07\x49\x50\x49\x32",
+                refusal: Some(14),
+                room: b"",
+            },
+            Row {
+                call: Call::CaptureAt(None),
+                given: b"\x6E\x6F\x74\x65\x73\x20\x6F\x6E\x00\x00\x00\x10\x49\x50\x49\x32",
+                refusal: Some(14),
+                room: b"",
+            },
+            Row {
+                call: Call::CaptureAt(Some((0, 0))),
+                given: b"\x00\x00\x00\x00\x49\x50\x49\x32",
+                refusal: None,
+                room: b"",
+            },
+        ],
+    },
+    Case {
+        name: "refusal 8: records that are not whole",
+        rows: &[Row {
+            call: Call::CaptureOf(0),
+            given: b"\x00\x05\x01\x01\x30\x00\x00",
+            refusal: Some(8),
+            room: b"\xFF\xFF\xFF\xFF\xFF\xFF\xFF\xFF\xFF\xFF\xFF\xFF\xFF\xFF\xFF\xFF",
+        }],
+    },
+    Case {
+        name: "refusal 10: no room for a capture",
+        rows: &[
+            Row {
+                call: Call::CaptureOf(1),
+                given: b"\x21\x00\x05\x01\x01\x30\x00\x00\x00",
+                refusal: Some(10),
+                room: b"\xFF\xFF\xFF\xFF\xFF\xFF\xFF\xFF\xFF\xFF\xFF\xFF\xFF\xFF\xFF\xFF",
+            },
+            Row {
+                call: Call::CaptureOf(2),
+                given: b"\x21\x21\x00\x05\x01\x01\x30\x00\x00",
+                refusal: Some(10),
+                room: b"\xFF\xFF\xFF\xFF\xFF\xFF\xFF\xFF\xFF\xFF\xFF\xFF\xFF\xFF\xFF\xFF",
+            },
+        ],
+    },
+    Case {
+        name: "notes and records of 8 octets each",
+        rows: &[Row {
+            call: Call::CaptureOf(8),
+            given: b"\x6E\x6F\x74\x65\x64\x20\x6F\x6E\x00\x05\x01\x01\x30\x00\x00\x00",
+            refusal: None,
+            room: b"\x6E\x6F\x74\x65\x64\x20\x6F\x6E\x00\x05\x01\x01\x30\x00\x00\x00\x00\x00\x00\x08\x49\x50\x49\x32",
+        }],
+    },
+];

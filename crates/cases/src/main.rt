@@ -29,7 +29,6 @@ mod trace_cases;
 mod traces;
 mod transfer_cases;
 mod watch;
-mod words;
 
 use tally::Tally;
 

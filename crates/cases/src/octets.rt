@@ -1,79 +1,44 @@
 // Octets read and written again, and the runner of these cases.
+use crate::calls;
+use crate::calls::Call;
 use crate::tally::Tally;
-use crate::{calls, words};
 
-// A row: what is called, what it answers, how many octets are given, how many there is room for, the octets given, and those
-// that must then stand in the room. An octet 0 in the place of a row ends the case.
-const ENDS: u8 = 0;
+#[derive(Clone, Copy)]
+pub(crate) struct Case {
+    pub(crate) name: &'static str,
+    pub(crate) rows: &'static [Row],
+}
+
+// What is called on which octets, the number that it is refused with, and all octets of the room that it may write to, afterwards.
+#[derive(Clone, Copy)]
+pub(crate) struct Row {
+    pub(crate) call: Call,
+    pub(crate) given: &'static [u8],
+    pub(crate) refusal: Option<u8>,
+    pub(crate) room: &'static [u8],
+}
 
 const ROOM: usize = 48;
 
 // What stands in the room before.
 const UNTOUCHED: u8 = 0xFF;
 
-#[derive(Clone, Copy)]
-struct Ran {
-    // How many octets the row has; 0 for none.
-    length: usize,
-    same: bool,
-}
-
-// The rows, case after case: each case has the next of the names.
-pub(crate) fn runs(tally: Tally, names: &[u8], rows: &[u8]) -> Tally {
-    let mut told = tally.topic();
-    let mut same = true;
-    let mut at = 0;
-    while at < rows.len() {
-        if rows[at] == ENDS {
-            told = told.next(names, same);
-            same = true;
-            at += 1;
-        } else {
-            let ran = row(&rows[at..]);
-            let length = ran.length;
-            if length == 0 {
-                return told.next(names, false);
-            }
-            if rows.len() - at < length {
-                return told.next(names, false);
-            }
-            same = same & ran.same;
-            at += length;
-        }
+pub(crate) fn runs(tally: Tally, cases: &[Case]) -> Tally {
+    let mut told = tally;
+    for case in cases {
+        told = told.case(case.name, case.rows.iter().all(is_answered));
     }
     told
 }
 
-fn row(rows: &[u8]) -> Ran {
-    if rows.len() < 4 {
-        return Ran {
-            length: 0,
-            same: false,
-        };
+// Is the call refused so, or not, and do these octets stand in the room? The room is the end of a longer one.
+fn is_answered(row: &Row) -> bool {
+    let mut all = [UNTOUCHED; ROOM];
+    match all.len().checked_sub(row.room.len()) {
+        Some(from) => {
+            let room = &mut all[from..];
+            (calls::called(row.call, row.given, room) == row.refusal) & (&*room == row.room)
+        }
+        None => false,
     }
-    let given_end = 4 + words::wide(rows[2]);
-    let end = given_end + words::wide(rows[3]);
-    if rows.len() < end {
-        return Ran {
-            length: 0,
-            same: false,
-        };
-    }
-    let same = is_answered(rows[0], rows[1], &rows[4..given_end], &rows[given_end..end]);
-    Ran { length: end, same }
-}
-
-fn is_answered(call: u8, answer: u8, given: &[u8], expected: &[u8]) -> bool {
-    let mut room = [UNTOUCHED; ROOM];
-    is_told(call, answer, given, expected, &mut room)
-}
-
-// Is that the answer, and stand these octets at the end of the room, of which the call has so much?
-fn is_told(call: u8, answer: u8, given: &[u8], expected: &[u8], room: &mut [u8]) -> bool {
-    if room.len() < expected.len() {
-        return false;
-    }
-    let from = room.len() - expected.len();
-    let number = calls::called(call, given, &mut room[from..]);
-    (number == answer) & check::same(&room[from..], expected)
 }

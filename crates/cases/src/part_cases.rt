@@ -1,6 +1,6 @@
 // A replay that stops on request (M-103): three events, of which port 1's is refused, at the ticks FFFE, 0003 and 0009.
 use crate::tally::Tally;
-use crate::{bench, power, words};
+use crate::{bench, power};
 
 const RECORDS: [u8; 24] = *b"\
     \xFF\xFE\x00\x01\x30\x00\x00\x00\
@@ -11,21 +11,27 @@ const RECORDS: [u8; 24] = *b"\
 const UNTOUCHED: u16 = 0x5A5A;
 
 pub(crate) fn run(tally: Tally) -> Tally {
-    let names = b"\
-103: stopped after two events, the refused one counted\n\
-103: continued, the gap to the event before included\n\
-103: a limit of 0, and a part behind the last record\n\
-103: refusal 10, then 8, and nothing changed\n";
     let mut state = [0u16; 21];
-    let up = power::refusal_of(bench::AT_REST, &mut state) == 0;
+    let up = power::refusal_of(&bench::AT_REST, &mut state) == 0;
     let stopped = is_part(&mut state, 0, 2, 2, [0, 6], [0, 5]) & (state[8] == 0);
     let continued = is_part(&mut state, 2, 9, 1, [0, UNTOUCHED], [6, UNTOUCHED]) & (state[8] == 2);
     tally
-        .topic()
-        .next(names, up & stopped)
-        .next(names, continued)
-        .next(names, runs_nothing(&mut state))
-        .next(names, is_too_short() & is_torn())
+        .case(
+            "103: stopped after two events, the refused one counted",
+            up & stopped,
+        )
+        .case(
+            "103: continued, the gap to the event before included",
+            continued,
+        )
+        .case(
+            "103: a limit of 0, and a part behind the last record",
+            runs_nothing(&mut state),
+        )
+        .case(
+            "103: refusal 10, then 8, and nothing changed",
+            is_too_short() & is_torn(),
+        )
 }
 
 fn runs_nothing(state: &mut [u16]) -> bool {
@@ -106,7 +112,7 @@ fn is_part(
         & (ran[0] == count)
         & (answers[0] == refusals[0])
         & (answers[13] == refusals[1])
-        & words::same(&told, &gaps)
+        & (told == gaps)
 }
 
 // From the first record on, of a drive at rest.
@@ -119,7 +125,7 @@ fn is_refused(
     ran: &mut [u64],
 ) -> bool {
     let mut state = [0u16; 21];
-    let up = power::refusal_of(bench::AT_REST, &mut state) == 0;
+    let up = power::refusal_of(&bench::AT_REST, &mut state) == 0;
     let before = state;
     let returned = pantoglide::pg_replay(
         &mut state,
@@ -132,19 +138,13 @@ fn is_refused(
         gaps,
         ran,
     );
-    up & (returned == number) & words::same(&state, &before) & is_untouched(gaps) & is_seven(ran)
+    up & (returned == number) & (state == before) & is_untouched(gaps) & is_seven(ran)
 }
 
 fn is_untouched(gaps: &[u16]) -> bool {
-    if gaps.len() == 0 {
-        return true;
-    }
-    gaps[0] == UNTOUCHED
+    gaps.iter().all(|&gap| gap == UNTOUCHED)
 }
 
 fn is_seven(ran: &[u64]) -> bool {
-    if ran.len() == 0 {
-        return true;
-    }
-    ran[0] == 7
+    ran.iter().all(|&count| count == 7)
 }

@@ -1,119 +1,120 @@
-// A row of a case is two numbers: what is done, and what must come of it.
-//   event, answer                 the event gets the answer
-//   STORED + index, the words     four sector words from the index on are now these
-//   EXPECTS + index, the words    at the end, four sector words from the index on are these; those not named are zero
-//   STATE + index, the words      four words of the state from the index on are now these
-//   AT_REST, 0                    the state is that of the bench drive at rest
-//   HOLDS, the words              the selected port, the owner, the hold and the cylinder are these
-//   STANDS, the words             the cylinder, the head, the sector and the target are these
-//   OPEN, the words               the open control, its words moved and what is pending on port 0 and port 1 are these
-//   KEPT, the words               what is pending on port 1 and the three parameter words are these
-//   STAGED, the words             the staging words are these
-//   POWER_UP, refusal             power-up with the first seven words of the state as its numbers; 0 for no refusal
-//   ENDS, owner + place           whose the drive is, and where it is; this row ends the case
+// A case of the bench: its name, its rows one after another, and whose the drive is and where it stands behind them.
+#[derive(Clone, Copy)]
+pub(crate) struct Case {
+    pub(crate) name: &'static str,
+    pub(crate) rows: &'static [Row],
+    pub(crate) owner: Option<u16>,
+    // The cylinder, the head and the sector.
+    pub(crate) place: [u16; 3],
+}
 
-// An event: PORT + KIND + four argument octets, as in a record of a capture. Words stand high octet first.
-pub(crate) const PORT_1: u64 = 0x01_00_00000000;
+// What is done, and what must come of it. An event has its port first and its answer last.
+#[derive(Clone, Copy)]
+pub(crate) enum Row {
+    Select(u8, u8, Answer),
+    Deselect(u8, Answer),
+    DataControl(u8, u8, Answer),
+    WordFromHost(u8, u16, Answer),
+    Take(u8, Answer),
+    End(u8, Answer),
+    // The cylinder, the head and the sector.
+    Position(u8, [u16; 3], Answer),
+    Target(u8, u16, Answer),
+    ReadStatus(u8, Answer),
+    Reset(u8, Answer),
+    // An event as it stands in a record of a capture: port, kind and four argument octets.
+    Octets([u8; 6], Answer),
+    // Four sector words from the index on are now these.
+    Stored(usize, [u16; 4]),
+    // At the end four sector words from the index on are these; those not named are zero.
+    Expects(usize, [u16; 4]),
+    // Four words of the state from the index on are now these.
+    State(usize, [u16; 4]),
+    // The state is that of the bench drive at rest.
+    AtRest,
+    // The selected port, the owner, the hold and the cylinder are these.
+    Holds([u16; 4]),
+    // The cylinder, the head, the sector and the target are these.
+    Stands([u16; 4]),
+    // The open control, its words moved and what is pending on port 0 and port 1 are these.
+    Open([u16; 4]),
+    // What is pending on port 1 and the three parameter words are these.
+    Kept([u16; 4]),
+    // The staging words are these.
+    Staged([u16; 4]),
+    // Power-up with the first seven words of the state as its numbers is refused with this number, or not.
+    PowerUp(Option<u8>),
+}
 
-pub(crate) const PORT_2: u64 = 0x02_00_00000000;
+// An answer with document 01's numbers.
+#[derive(Clone, Copy)]
+pub(crate) enum Answer {
+    Done,
+    // The number: those of a refusal are the callers' own, and a case says which.
+    Refused(u16),
+    // The drive status octet.
+    Status(u16),
+    // The words to come; and the cylinder, the head and the sector.
+    Opened(u16, [u16; 3]),
+    Word(u16),
+    // With status 0.
+    LastWord(u16),
+    // Octets 0, 1 and 2, with status 0.
+    Response([u8; 3]),
+}
 
-pub(crate) const PORT_255: u64 = 0xFF_00_00000000;
+// An event as a record of a capture, and its answer.
+#[derive(Clone, Copy)]
+pub(crate) struct Sent {
+    pub(crate) record: [u8; 8],
+    pub(crate) answer: Answer,
+}
 
-pub(crate) const SELECT: u64 = 0x01_00000000;
+impl Row {
+    // The event, if the row is one.
+    pub(crate) fn event(self) -> Option<Sent> {
+        match self {
+            Row::Select(port, octet, answer) => Some(event_of(port, 1, [octet, 0, 0, 0], answer)),
+            Row::Deselect(port, answer) => Some(event_of(port, 2, [0; 4], answer)),
+            Row::DataControl(port, octet, answer) => Some(event_of(
+                port,
+                3,
+                [octet, 0, 0, 0],
+                answer,
+            )),
+            Row::WordFromHost(port, word, answer) => Some(event_of(port, 4, pair(word), answer)),
+            Row::Take(port, answer) => Some(event_of(port, 5, [0; 4], answer)),
+            Row::End(port, answer) => Some(event_of(port, 6, [0; 4], answer)),
+            Row::Position(port, place, answer) => Some(event_of(port, 7, octets(place), answer)),
+            Row::Target(port, sector, answer) => Some(event_of(port, 8, pair(sector), answer)),
+            Row::ReadStatus(port, answer) => Some(event_of(port, 9, [0; 4], answer)),
+            Row::Reset(port, answer) => Some(event_of(port, 10, [0; 4], answer)),
+            Row::Octets(octets, answer) => {
+                let [port, kind, a0, a1, a2, a3] = octets;
+                Some(event_of(port, kind, [a0, a1, a2, a3], answer))
+            }
+            _ => None,
+        }
+    }
+}
 
-pub(crate) const DESELECT: u64 = 0x02_00000000;
+fn event_of(port: u8, kind: u8, arguments: [u8; 4], answer: Answer) -> Sent {
+    let [a0, a1, a2, a3] = arguments;
+    Sent {
+        record: [0, 0, port, kind, a0, a1, a2, a3],
+        answer,
+    }
+}
 
-pub(crate) const DATA_CONTROL: u64 = 0x03_00000000;
+// A word, high octet first.
+fn pair(word: u16) -> [u8; 4] {
+    let [high, low] = word.to_be_bytes();
+    [high, low, 0, 0]
+}
 
-pub(crate) const WORD_FROM_HOST: u64 = 0x04_00000000;
-
-pub(crate) const TAKE: u64 = 0x05_00000000;
-
-pub(crate) const END: u64 = 0x06_00000000;
-
-pub(crate) const POSITION: u64 = 0x07_00000000;
-
-pub(crate) const TARGET: u64 = 0x08_00000000;
-
-pub(crate) const READ_STATUS: u64 = 0x09_00000000;
-
-pub(crate) const RESET: u64 = 0x0A_00000000;
-
-// No such kinds.
-pub(crate) const KIND_0: u64 = 0x00_00000000;
-
-pub(crate) const KIND_11: u64 = 0x0B_00000000;
-
-pub(crate) const KIND_255: u64 = 0xFF_00000000;
-
-// What is done, if not an event: the second octet tells.
-pub(crate) const STORED: u64 = 0x01_00_00_00000000;
-
-pub(crate) const EXPECTS: u64 = 0x02_00_00_00000000;
-
-pub(crate) const STATE: u64 = 0x03_00_00_00000000;
-
-pub(crate) const AT_REST: u64 = 0x04_00_00_00000000;
-
-pub(crate) const POWER_UP: u64 = 0x05_00_00_00000000;
-
-pub(crate) const ENDS: u64 = 0x06_00_00_00000000;
-
-// Four words of the state from an index on.
-pub(crate) const HOLDS: u64 = 0x07_00_00_00000000 + 7;
-
-pub(crate) const STANDS: u64 = 0x07_00_00_00000000 + 10;
-
-pub(crate) const OPEN: u64 = 0x07_00_00_00000000 + 14;
-
-pub(crate) const KEPT: u64 = 0x07_00_00_00000000 + 17;
-
-pub(crate) const STAGED: u64 = 0x08_00_00_00000000;
-
-// Sectors of four words follow by sector, then head, then cylinder.
-pub(crate) const SECTOR: u64 = 4;
-
-// The same as octets.
-pub(crate) const IS_EVENT: u8 = 0;
-
-pub(crate) const IS_STORED: u8 = 1;
-
-pub(crate) const IS_EXPECTS: u8 = 2;
-
-pub(crate) const IS_STATE: u8 = 3;
-
-pub(crate) const IS_AT_REST: u8 = 4;
-
-pub(crate) const IS_POWER_UP: u8 = 5;
-
-pub(crate) const IS_HAS: u8 = 7;
-
-pub(crate) const IS_STAGED: u8 = 8;
-
-// The answers.
-pub(crate) const DONE: u64 = 0;
-
-// The number.
-pub(crate) const REFUSED: u64 = 0x01_00000000;
-
-// The drive status octet.
-pub(crate) const STATUS: u64 = 0x02_00000000;
-
-// The words to come, cylinder, head and sector, an octet each.
-pub(crate) const OPENED: u64 = 0x03_00000000;
-
-// The word.
-pub(crate) const WORD: u64 = 0x04_00000000;
-
-// The word, with status 0.
-pub(crate) const LAST_WORD: u64 = 0x05_00000000;
-
-// Octets 0, 1 and 2, with status 0.
-pub(crate) const RESPONSE: u64 = 0x06_00000000;
-
-// The owners, before a cylinder, a head and a sector, a word each.
-pub(crate) const OWNED_BY_0: u64 = 0;
-
-pub(crate) const OWNED_BY_1: u64 = 0x0001_0000_0000_0000;
-
-pub(crate) const OWNED_BY_NOBODY: u64 = 0x0002_0000_0000_0000;
+// A cylinder in two octets; a head and a sector, an octet each.
+fn octets(place: [u16; 3]) -> [u8; 4] {
+    let [cylinder, head, sector] = place;
+    let [high, low] = cylinder.to_be_bytes();
+    [high, low, (head & 0xFF) as u8, (sector & 0xFF) as u8]
+}

@@ -1,26 +1,11 @@
-// Traces of settings, each read in one call by the table and in one plainly (M-104), and the runner of their cases.
-use crate::tally::Tally;
-use crate::watch::{ENDS, IS_HANDED, IS_PAIR};
-use crate::{watch, words};
+// Traces of settings, each read in one call by the table and in one plainly (M-104).
+use crate::watch;
+use crate::watch::{Case, Trace};
 
 #[derive(Clone, Copy)]
 pub(crate) enum Reader {
     Table,
     Plain,
-}
-
-// A trace, and what both readers must leave.
-#[derive(Clone, Copy)]
-struct Trace {
-    // Did all before it come out as expected, and each of its settings by itself?
-    same: bool,
-    // The octet of the follower before the trace, and the one that its settings lead to one by one.
-    first: u8,
-    last: u8,
-    length: usize,
-    settings: [u8; ROOM],
-    // All of the room for the answers.
-    answers: [u8; ROOM],
 }
 
 // Longer than any trace of these cases.
@@ -29,27 +14,6 @@ const ROOM: usize = 48;
 // What stands in the room before, and behind the answers afterwards.
 pub(crate) const UNTOUCHED: u8 = 0xEE;
 
-// The octet of a new follower.
-const START: u8 = 0;
-
-// The rows of `watch`, case after case: each case starts with a new follower, and has the next of the names.
-pub(crate) fn runs(tally: Tally, names: &[u8], rows: &[u64]) -> Tally {
-    let mut told = tally.topic();
-    let mut trace = Trace::new(START, true);
-    let mut at = 0;
-    while at < rows.len() {
-        let row = rows[at];
-        at += 1;
-        if row == ENDS {
-            told = told.next(names, trace.is_read());
-            trace = Trace::new(START, true);
-        } else {
-            trace = trace.with(row);
-        }
-    }
-    told
-}
-
 pub(crate) fn called(reader: Reader, follower: &mut [u8], trace: &[u8], answers: &mut [u8]) -> u8 {
     match reader {
         Reader::Table => pantoglide::pg_lines(follower, trace, answers),
@@ -57,71 +21,31 @@ pub(crate) fn called(reader: Reader, follower: &mut [u8], trace: &[u8], answers:
     }
 }
 
-impl Trace {
-    fn new(first: u8, same: bool) -> Trace {
-        Trace {
-            same,
-            first,
-            last: first,
-            length: 0,
-            settings: [0; ROOM],
-            answers: [UNTOUCHED; ROOM],
-        }
-    }
-
-    // A follower that is handed in starts another trace, and a move is no setting.
-    fn with(self, row: u64) -> Trace {
-        let octets = words::octets(row);
-        let kind = octets[4];
-        match kind {
-            IS_HANDED => Trace::new(octets[7], self.is_read()),
-            IS_PAIR => self,
-            _ => self.and(octets[7], octets[5]),
-        }
-    }
-
-    // One setting more, and the answer that it gets.
-    fn and(mut self, setting: u8, answer: u8) -> Trace {
-        let at = self.length;
-        if ROOM <= at {
-            // No room for its answer.
-            self.same = false;
-            return self;
-        }
-        let mut follower = [self.last; 1];
-        self.same = self.same & watch::is_answered(&mut follower, setting, answer);
-        self.last = follower[0];
-        self.settings[at] = setting;
-        self.answers[at] = answer;
-        self.length = at + 1;
-        self
-    }
-
-    fn is_read(self) -> bool {
-        self.same & self.is_read_by(Reader::Table) & self.is_read_by(Reader::Plain)
-    }
-
-    // Are these the answers, with the room behind them untouched, and is the follower where the settings lead one by one?
-    fn is_read_by(self, reader: Reader) -> bool {
-        let settings = self.settings;
-        let answers = self.answers;
-        let mut follower = [self.first; 1];
-        let mut room = [UNTOUCHED; ROOM];
-        let taken = is_taken(reader, &mut follower, &settings, self.length, &mut room);
-        taken & (follower[0] == self.last) & check::same(&room, &answers)
-    }
+// Does each trace give its answers setting by setting, and to both readers at once?
+pub(crate) fn is_read(case: &Case) -> bool {
+    case.traces.iter().all(|trace| is_read_by(Reader::Table, trace)
+        & is_read_by(Reader::Plain, trace))
 }
 
-// So many of the settings are the trace, and no refusal is returned.
-fn is_taken(
-    reader: Reader,
-    follower: &mut [u8],
-    settings: &[u8],
-    length: usize,
-    room: &mut [u8],
-) -> bool {
-    if settings.len() < length {
-        return false;
+// Are these the answers, with the room behind them untouched, and is the follower where the settings lead one by one?
+fn is_read_by(reader: Reader, trace: &Trace) -> bool {
+    let mut settings = [0; ROOM];
+    let mut expected = [UNTOUCHED; ROOM];
+    for (place, &(setting, _)) in settings.iter_mut().zip(trace.seen) {
+        *place = setting;
     }
-    called(reader, follower, &settings[0..length], room) == 0
+    for (place, &(_, answer)) in expected.iter_mut().zip(trace.seen) {
+        *place = answer.number();
+    }
+    let mut follower = [trace.follower];
+    let mut answers = [UNTOUCHED; ROOM];
+    match settings.get(..trace.seen.len()) {
+        Some(whole) => {
+            let number = called(reader, &mut follower, whole, &mut answers);
+            (number == 0)
+                & (answers == expected)
+                & (watch::follower_behind(trace) == Some(follower[0]))
+        }
+        None => false,
+    }
 }

@@ -1,92 +1,88 @@
 // A follower of the lines under watch, and the runner of its cases.
 use crate::tally::Tally;
-use crate::words;
 use lines::Move;
 
-// A row is a setting + the answer that it gets, by the numbers of the archive's header:
-pub(crate) const SAME: u64 = 16 * BY;
+// A case: traces of settings, and moves with what the list of moves says of them.
+#[derive(Clone, Copy)]
+pub(crate) struct Case {
+    pub(crate) name: &'static str,
+    pub(crate) traces: &'static [Trace],
+    // From the first setting to the second.
+    pub(crate) moves: &'static [(u8, u8, Answer)],
+}
 
-pub(crate) const CONTROLLERS: u64 = 17 * BY;
+// The octet of the follower before the trace; and the settings that it sees, each with its answer.
+#[derive(Clone, Copy)]
+pub(crate) struct Trace {
+    pub(crate) follower: u8,
+    pub(crate) seen: &'static [(u8, Answer)],
+}
 
-pub(crate) const DRIVES: u64 = 18 * BY;
+#[derive(Clone, Copy)]
+pub(crate) enum Answer {
+    Same,
+    Controllers,
+    Drives,
+    Undefined,
+    Lost,
+    Idle,
+    // The number of the refusal.
+    Refused(u8),
+}
 
-pub(crate) const UNDEFINED: u64 = 19 * BY;
+// In the octet of a follower, beside its setting.
+pub(crate) const HAS_HISTORY: u8 = 32;
 
-pub(crate) const LOST: u64 = 20 * BY;
+pub(crate) const IS_LOST: u8 = 64;
 
-pub(crate) const NOW_IDLE: u64 = 21 * BY;
-
-// Or the number of a refusal.
-pub(crate) const BY: u64 = 0x0001_0000;
-
-// Or the octet of a follower that is handed in: a setting, with these.
-pub(crate) const HANDED: u64 = 0x0100_0000;
-
-pub(crate) const HAS_HISTORY: u64 = 32;
-
-pub(crate) const IS_LOST: u64 = 64;
-
-// Or a move, FROM * the old setting + the new one, and what the list of moves says of it.
-pub(crate) const PAIR: u64 = 0x0200_0000;
-
-pub(crate) const FROM: u64 = 0x0100;
-
-// Or the end of the case.
-pub(crate) const ENDS: u64 = 0x0300_0000;
-
-pub(crate) const IS_HANDED: u8 = 1;
-
-pub(crate) const IS_PAIR: u8 = 2;
-
-// The least number that is an answer and no refusal.
-const LEAST_ANSWER: u8 = 16;
-
-// The rows, case after case: each case starts with a new follower, and has the next of the names.
-pub(crate) fn runs(tally: Tally, names: &[u8], rows: &[u64]) -> Tally {
-    let mut told = tally.topic();
-    let mut follower = [0u8; 1];
-    let mut same = true;
-    let mut at = 0;
-    while at < rows.len() {
-        let row = rows[at];
-        at += 1;
-        if row == ENDS {
-            told = told.next(names, same);
-            follower = [0u8; 1];
-            same = true;
-        } else {
-            same = same & answered(row, &mut follower);
+impl Answer {
+    // As the archive's header says it.
+    pub(crate) fn number(self) -> u8 {
+        match self {
+            Answer::Same => 16,
+            Answer::Controllers => 17,
+            Answer::Drives => 18,
+            Answer::Undefined => 19,
+            Answer::Lost => 20,
+            Answer::Idle => 21,
+            Answer::Refused(number) => number,
         }
+    }
+}
+
+pub(crate) fn runs(tally: Tally, cases: &[Case]) -> Tally {
+    let mut told = tally;
+    for case in cases {
+        let followed = case
+            .traces
+            .iter()
+            .all(|trace| follower_behind(trace).is_some());
+        told = told.case(case.name, followed & case.moves.iter().all(is_so));
     }
     told
 }
 
-fn answered(row: u64, follower: &mut [u8; 1]) -> bool {
-    let octets = words::octets(row);
-    let kind = octets[4];
-    match kind {
-        IS_HANDED => {
-            follower[0] = octets[7];
-            true
+// Where the settings lead one by one, if each gets its answer. A refusal changes nothing.
+pub(crate) fn follower_behind(trace: &Trace) -> Option<u8> {
+    let mut follower = [trace.follower];
+    for &(setting, answer) in trace.seen {
+        let before = follower;
+        let number = pantoglide::pg_line(&mut follower, setting);
+        let stays = matches!(answer, Answer::Refused(_));
+        if (number != answer.number()) | (stays & (follower != before)) {
+            return None;
         }
-        IS_PAIR => number_of(lines::move_of(octets[6], octets[7])) == octets[5],
-        _ => is_answered(follower, octets[7], octets[5]),
     }
+    Some(follower[0])
 }
 
-// The setting gets this answer; and if that is a refusal, nothing has changed.
-pub(crate) fn is_answered(follower: &mut [u8; 1], setting: u8, answer: u8) -> bool {
-    let before = follower[0];
-    let number = pantoglide::pg_line(follower, setting);
-    (number == answer) & ((LEAST_ANSWER <= number) | (follower[0] == before))
-}
-
-fn number_of(found: Move) -> u8 {
-    match found {
+fn is_so(&(old, new, answer): &(u8, u8, Answer)) -> bool {
+    let number = match lines::move_of(old, new) {
         Move::Same => 16,
         Move::Controllers => 17,
         Move::Drives => 18,
         Move::Undefined => 19,
         Move::Refused(n) => n,
-    }
+    };
+    number == answer.number()
 }

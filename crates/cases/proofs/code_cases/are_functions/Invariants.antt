@@ -1,7 +1,0 @@
--- `code_cases::are_functions` ends: the codes to come fall.
--- Assumes nothing.
-use Rattle.std.proofs.Common.{◌-◌}
-use Rattle.cases.proofs.code_cases.are_functions.Given as goal
-
-abbrev pub decreases-loop-code : goal.decreases-loop-code
-decreases-loop-code l = 256 - l.code

@@ -1,7 +1,0 @@
--- `watch::runs` ends: what is left of the rows falls.
--- Assumes nothing.
-use Rattle.std.proofs.Common.{◌-◌, length}
-use Rattle.cases.proofs.watch.runs.Given as goal
-
-abbrev pub decreases-loop-at : goal.decreases-loop-at
-decreases-loop-at l = length l.rows - l.at
