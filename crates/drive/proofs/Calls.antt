@@ -4,12 +4,12 @@ use Prim.Native.Nat.{ℕ}
 use mathlib.Core.Path.{◌≡◌, refl, ap, ◌∙◌}
 use mathlib.Core.Bool.{true, false}
 use mathlib.Core.List.{List, [], ◌∷◌, ◌++◌}
-use borrow.Author.Tests.{not-false}
+use Rattle.std.specs.Prelude.{Ok}
 use Rattle.laws.proofs.Rows
 use Rattle.parts.specs.Setup.{within_limits}
 use Rattle.drive.specs.Refusal.{row10}
 use Rattle.drive.specs.Event.{Handled}
-use Rattle.drive.specs.Power.{at_rest, power_up_rows, powered_up, PoweredUp}
+use Rattle.drive.specs.Power.{at_rest, power_up_rows, PoweredUp}
 use Rattle.drive.specs.Run.{Machine, machine, answer_to, after, answers, final}
 use Rattle.drive.specs.Accepted.{accepted}
 use Rattle.drive.specs.Journal.{journal}
@@ -20,8 +20,8 @@ use Rattle.drive.specs.declared.drive.Drive.{Drive}
 use Rattle.parts.specs.declared.event.Event.{Event}
 use Rattle.drive.specs.declared.answer.Answer.{Answer}
 use Rattle.drive.specs.declared.answer.Outcome.{Outcome}
-use Rattle.drive.specs.declared.power.Powered.TheVariants.{Up, Refused}
-use Rattle.drive.proofs.Step.{as_promised, powered_as_promised}
+use Rattle.drive.proofs.Step.{as_promised}
+use Rattle.drive.proofs.Powered.{risen}
 use Rattle.drive.proofs.StruckOut.{struck_out}
 use Rattle.drive.proofs.Demand3.{demand_3}
 
@@ -46,26 +46,13 @@ unfolding answers final answer_to after
 run m [] = none
 run m (e ∷ events) = call (as_promised refl) (run (after m e) events)
 
-powered : (s : Setup) (sectors staging : List ℕ) → within_limits s ≡ true → row10 s sectors staging ≡ false → PoweredUp s sectors staging (Up (at_rest s))
-unfolding powered_up
-powered s sectors staging h r = powered_as_promised (rw (Rows.none_given (power_up_rows s sectors staging) (rw h, (r, tt))))
-
--- what a power-up that handed back a drive has passed
-record AtRest (s : Setup) (sectors staging : List ℕ) (d : Drive) : Type 0 where
-  drive : d ≡ at_rest s
-  limits : within_limits s ≡ true
-  room : row10 s sectors staging ≡ false
-
-at_rest_lem : {s : Setup} {sectors staging : List ℕ} {d : Drive} → PoweredUp s sectors staging (Up d) → AtRest s sectors staging d
-unfolding powered_up
-at_rest_lem {s} {sectors} {staging} {d} p =
-    let a = Rows.accepted (power_up_rows s sectors staging) Refused (Up d) (Up (at_rest s)) refl (λ n e. cc) p.answer in
-    record { drive = cc; limits = not-false (within_limits s) a.1.0; room = a.1.1.0 }
+powered : (s : Setup) (sectors staging : List ℕ) → within_limits s ≡ true → row10 s sectors staging ≡ false → PoweredUp s sectors staging (Ok (at_rest s))
+powered s sectors staging h r = record { answer = rw (Rows.none_given (power_up_rows s sectors staging) (rw h, (r, tt))) }
 
 met : {s : Setup} {sectors staging : List ℕ} {d : Drive} {events : List Event} {told : List Answer} {end : Machine}
-    → PoweredUp s sectors staging (Up d) → Calls (machine d sectors staging) events told end → MeetsDemand3 (machine d sectors staging) events told end
+    → PoweredUp s sectors staging (Ok d) → Calls (machine d sectors staging) events told end → MeetsDemand3 (machine d sectors staging) events told end
 met {s} {sectors} {staging} {d} {events} p calls =
-    let start = at_rest_lem p in
+    let start = risen p in
     let run = ran calls in
     rw (run.answered, run.ended, start.drive) (demand_3.met s sectors staging start.limits start.room events)
 
@@ -78,7 +65,7 @@ alone {start} {events} calls fewer =
     (left.answered ∙ rw run.answered same.same_answers, left.ended ∙ rw (run.answered, run.ended) same.same_end)
 
 cut_short : {s : Setup} {sectors staging : List ℕ} {d : Drive} {events stretch : List Event} {told told' : List Answer} {end end' : Machine}
-    → PoweredUp s sectors staging (Up d) → Calls (machine d sectors staging) events told end → Calls end stretch told' end'
+    → PoweredUp s sectors staging (Ok d) → Calls (machine d sectors staging) events told end → Calls end stretch told' end'
     → journal (events ++ stretch) (told ++ told') ≡ journal events told → end'.sectors ≡ end.sectors
 cut_short {stretch = stretch} p calls further nothing =
     let run = ran further in

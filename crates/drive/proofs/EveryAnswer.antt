@@ -15,7 +15,7 @@ use Rattle.drive.specs.State.{Result}
 use Rattle.drive.specs.Refusal.{rows, rows_of, row8, row1, row10, row11, refusal_of}
 use Rattle.drive.specs.Event.{act, refused_with, handled}
 use Rattle.drive.specs.Power.{at_rest, power_up_rows}
-use Rattle.drive.specs.Power as power
+use Rattle.refusals.proofs.OnPaper.{exactly_on_paper}
 use Rattle.drive.specs.EveryAnswer as every
 use Rattle.drive.specs.EveryAnswer.{request_statuses, Accepted, Listed, refusal_numbers, EveryAnswer}
 use Rattle.drive.specs.Exactly.{Exactly}
@@ -24,7 +24,6 @@ use Rattle.drive.specs.declared.drive.Drive.{Drive}
 use Rattle.drive.specs.declared.answer.Outcome.{Outcome}
 use Rattle.drive.specs.declared.answer.Answer.{Answer}
 use Rattle.drive.specs.declared.answer.Answer.TheVariants.{Status}
-use Rattle.drive.specs.declared.power.Powered.TheVariants as powered
 use Rattle.drive.proofs.Outcomes
 
 -- ---- what each kind answers
@@ -142,10 +141,10 @@ event_exactly k d e sectors staging n =
     exactly report_of (λ m. refused_with m d sectors staging) (act k d e sectors staging) _ (rows k d e sectors staging) (λ m. refl) (act_unrefused k d e sectors staging) refl n
 
 pub exactly_when : Exactly
-unfolding handled refusal_of power.powered_up
+unfolding handled refusal_of
 exactly_when =
     record {
       event = λ d e sectors staging r sectors' staging' h n. rw h.answer (event_exactly (kind_of e.kind) d e sectors staging n);
       power_up = λ s sectors staging r h n.
-          exactly power.refusal_in powered.Refused (powered.Up (at_rest s)) r (power_up_rows s sectors staging) (λ m. refl) refl h.answer n;
+          exactly_on_paper (power_up_rows s sectors staging) (at_rest s) r h.answer n;
     }

@@ -1,6 +1,7 @@
 pub mod Reading
 pub mod Own
 pub mod Step
+pub mod Powered
 pub mod Only
 pub mod EveryAnswer
 pub mod Sound

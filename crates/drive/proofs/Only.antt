@@ -4,22 +4,23 @@ use Prim.Native.Nat.{ℕ}
 use mathlib.Core.Path.{◌≡◌, refl, sym, ap, ◌∙◌}
 use mathlib.Core.List.{List, [], ◌∷◌}
 use mathlib.Core.Option.{Option, some, none}
+use Rattle.std.specs.Prelude.{Result}
 use Rattle.laws.proofs.Only.{answer_only}
+use Rattle.refusals.proofs.OnPaper as given
+use Rattle.refusals.specs.declared.refusal.Refusal.{Refusal}
 use Rattle.parts.specs.declared.setup.Setup.{Setup}
 use Rattle.parts.specs.declared.setup.Place.{Place}
 use Rattle.parts.specs.declared.event.Event.{Event}
 use Rattle.drive.specs.Answer.{Paper, paper, Says}
 use Rattle.drive.specs.Event.{Handled}
-use Rattle.drive.specs.Power.{PowerUpPaper, power_up_paper, PoweredUp}
+use Rattle.drive.specs.Power.{PoweredUp}
 use Rattle.drive.specs.declared.drive.Drive.{Drive}
-use Rattle.drive.specs.declared.power.Powered.{Powered}
-use Rattle.drive.specs.declared.power.Powered.TheVariants as powered
 use Rattle.drive.specs.declared.answer.Outcome.{Outcome}
 use Rattle.drive.specs.declared.answer.Answer.{Answer}
 use Rattle.drive.specs.declared.answer.Answer.TheVariants.{Refused, Done, Status, Opened, Word, LastWord, Response}
 
-pub power_up_only : {s : Setup} {sectors staging : List ℕ} {r r' : Powered} → PoweredUp s sectors staging r → PoweredUp s sectors staging r' → r ≡ r'
-power_up_only h k = answer_only h.answer k.answer
+pub power_up_only : {s : Setup} {sectors staging : List ℕ} {r r' : Result Drive Refusal} → PoweredUp s sectors staging r → PoweredUp s sectors staging r' → r ≡ r'
+power_up_only h k = given.answer_only h.answer k.answer
 
 -- the outcome and both lent slices
 pub handle_only : {d : Drive} {e : Event} {sectors staging : List ℕ} {r r' : Outcome} {sectors' staging' sectors'' staging'' : List ℕ}
@@ -73,17 +74,3 @@ says_only {a} {b} h k =
       word = answer_only h.word k.word i;
       response = answer_only h.response k.response i;
     })
-
--- and that of power-up leaves none
-powered_back : Option ℕ → Option Drive → Powered → Powered
-powered_back (some n) d other = powered.Refused n
-powered_back none (some d) other = powered.Up d
-powered_back none none other = other
-
-power_read_back : (a other : Powered) → powered_back (power_up_paper a).refusal (power_up_paper a).drive other ≡ a
-unfolding power_up_paper powered_back
-power_read_back (powered.Up d) other = refl
-power_read_back (powered.Refused n) other = refl
-
-pub power_up_paper_tells_apart : (a b : Powered) → power_up_paper a ≡ power_up_paper b → a ≡ b
-power_up_paper_tells_apart a b e = sym (power_read_back a a) ∙ ap (λ (p : PowerUpPaper). powered_back p.refusal p.drive a) e ∙ power_read_back b a

@@ -7,19 +7,16 @@ use mathlib.Core.List.{List}
 use Rattle.laws.specs.Pick.{pick}
 use Rattle.laws.specs.Rows.{first, unless_refused}
 use Rattle.parts.specs.Kind.{Kind, Unknown, kind_of}
-use Rattle.parts.specs.declared.setup.Setup.{Setup}
 use Rattle.drive.specs.Answer.{paper, Says}
 use Rattle.drive.specs.State.{told, Result, result}
 use Rattle.drive.specs.Refusal.{row1, row10, row11, own_rows, refusal_of}
 use Rattle.drive.specs.Event.{act, refused_with, handled, Handled}
-use Rattle.drive.specs.Power.{powered_up, power_up_paper, PoweredUp}
 use Rattle.drive.specs.Able.{Passable, unless_own_row, unless_own_row_in}
 use Rattle.drive.specs.declared.drive.Drive.{Drive}
 use Rattle.parts.specs.declared.event.Event.{Event}
 use Rattle.drive.specs.declared.answer.Answer.{Answer}
 use Rattle.drive.specs.declared.answer.Outcome.{Outcome}
 use Rattle.drive.specs.declared.answer.Answer.TheVariants.{Refused}
-use Rattle.drive.specs.declared.power.Powered.{Powered}
 
 -- rows 11, 10 and 1 do not hold: the kind's own rows decide
 pub handled_by_kind : (d : Drive) (e : Event) (sectors staging : List ℕ) (k : Kind) → Passable d sectors staging → row1 e ≡ false → kind_of e.kind ≡ k
@@ -83,7 +80,3 @@ as_promised p =
       sectors = ap (λ (x : Result). x.sectors) p;
       staging = ap (λ (x : Result). x.staging) p;
     }
-
--- and that of power-up
-pub powered_as_promised : {s : Setup} {sectors staging : List ℕ} {r : Powered} → r ≡ powered_up s sectors staging → PoweredUp s sectors staging r
-powered_as_promised p = record { answer = p; refusal = ap (λ (x : Powered). (power_up_paper x).refusal) p; drive = ap (λ (x : Powered). (power_up_paper x).drive) p }

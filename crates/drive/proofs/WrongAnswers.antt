@@ -2,18 +2,13 @@
 -- Assumes nothing.
 use Prim.Native.Nat.{ℕ}
 use mathlib.Core.Path.{refl, ap}
+use mathlib.Core.Bool.{true≢false}
 use Rattle.laws.proofs.Differ.{told_apart}
 use Rattle.parts.specs.Holding.{paper}
-use Rattle.drive.specs.Power.{refusal_in}
 use Rattle.drive.specs.WrongAnswers.{WrongAnswers}
 use Rattle.drive.specs.declared.drive.Drive.{Drive}
-use Rattle.drive.specs.declared.power.Powered.{Powered}
-use Rattle.drive.specs.declared.power.Powered.TheVariants.{Up, Refused}
 use Rattle.drive.proofs.Computing.{computing}
-
-abbrev sector_of : Powered → ℕ
-sector_of (Up d) = d.place.sector
-sector_of (Refused n) = 0
+use Rattle.drive.proofs.Powered.{row_refused, risen}
 
 -- the hold on paper
 abbrev hold_of : Drive → ℕ
@@ -23,9 +18,9 @@ pub wrong_answers : WrongAnswers
 unfolding computing
 wrong_answers =
     record {
-      ten_before_nine = λ h. told_apart 10 9 refl (ap refusal_in h.answer);
-      last_word_lacking = λ h. told_apart 0 10 refl (ap refusal_in h.answer);
-      not_at_rest = λ h. told_apart 1 0 refl (ap sector_of h.answer);
+      ten_before_nine = λ h. told_apart 9 10 refl (row_refused h);
+      last_word_lacking = λ h. true≢false (risen h).room;
+      not_at_rest = λ h. told_apart 1 0 refl (ap (λ (d : Drive). d.place.sector) (risen h).drive);
       takeover_keeps_the_transfer = λ h. told_apart 2 0 refl (ap (λ (d : Drive). d.transfer.moved) h);
       takeover_posts_reset = λ h. told_apart 0x80 0x40 refl (ap (λ (d : Drive). d.pending0.octet1) h);
       takeover_posts_nothing = λ h. told_apart 0 0x40 refl (ap (λ (d : Drive). d.pending0.octet1) h);

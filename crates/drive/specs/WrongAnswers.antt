@@ -1,5 +1,5 @@
 -- Wrong answers of the public calls: what a careless programmer would get, and no promise allows.
-use Rattle.std.specs.Prelude.{ℕ, ◌≡◌, [], replicate}
+use Rattle.std.specs.Prelude.{ℕ, ◌≡◌, [], replicate, Ok, Err}
 use Rattle.parts.specs.Holding.{nobody, held}
 use Rattle.parts.specs.Pending.{reset_complete, alternate_port_priority_select, pending_of, nothing_pending}
 use Rattle.parts.specs.Tests.{transferring}
@@ -11,7 +11,7 @@ use Rattle.drive.specs.Drive.{selected, deselected, after_reset, reserved, unres
 use Rattle.drive.specs.Power.{at_rest, setup_of, PoweredUp}
 use Rattle.drive.specs.Cases.{bench}
 use Rattle.drive.specs.declared.drive.Drive.{Drive}
-use Rattle.drive.specs.declared.power.Powered.TheVariants.{Up, Refused}
+use Rattle.refusals.specs.declared.refusal.Refusal.TheVariants.{SliceTooShort}
 
 -- The bench drive with a port selected, with this hold.
 abbrev pub selected_by : ℕ → Hold → Drive
@@ -32,11 +32,11 @@ reset_done d = with_pending d (pending_of reset_complete 0) (pending_of reset_co
 pub record WrongAnswers : Type 0 where
   -- ---- `power_up`
   -- 10 for a drive with no heads and empty slices: 9 is tested first.
-  pub ten_before_nine : PoweredUp (setup_of 2 0 3 1 2 1 3) [] [] (Refused 10) → ⊥
+  pub ten_before_nine : PoweredUp (setup_of 2 0 3 1 2 1 3) [] [] (Err SliceTooShort) → ⊥
   -- A sector slice that lacks the last word is taken.
-  pub last_word_lacking : PoweredUp bench (replicate 47 0) (replicate 4 0) (Up (at_rest bench)) → ⊥
+  pub last_word_lacking : PoweredUp bench (replicate 47 0) (replicate 4 0) (Ok (at_rest bench)) → ⊥
   -- A drive that stands at 0/0/1.
-  pub not_at_rest : PoweredUp bench (replicate 48 0) (replicate 4 0) (Up (with_place (at_rest bench) (at_place 0 0 1))) → ⊥
+  pub not_at_rest : PoweredUp bench (replicate 48 0) (replicate 4 0) (Ok (with_place (at_rest bench) (at_place 0 0 1))) → ⊥
   -- ---- `Drive::select`
   -- A takeover that keeps the transfer: port 1 would go on with port 0's write.
   pub takeover_keeps_the_transfer : with_transfer (taken_over (pending_of alternate_port_priority_select 0)) (transferring 0x85 2) ≡ selected writing 1 0x31 → ⊥

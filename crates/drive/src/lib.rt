@@ -8,4 +8,4 @@ mod power;
 
 pub use answer::{Answer, Outcome};
 pub use drive::Drive;
-pub use power::{Powered, power_up};
+pub use power::power_up;

@@ -1,46 +1,26 @@
 // Power-up: the limits, then the slices.
 ghost use Rattle.std.specs.Prelude.{◌≡◌};
-ghost use Rattle.drive.specs.Power.{setup_of, at_rest, PoweredUp};
+ghost use Rattle.drive.specs.Power.{at_rest, PoweredUp};
 
 use crate::drive::Drive;
 use parts::{Pending, Place, Setup};
-
-#[derive(Clone, Copy)]
-pub enum Powered {
-    Up(Drive),
-    Refused(u8),
-}
+use refusals::Refusal;
 
 // The drive at rest; or 9 for a number outside its limits, 10 for a slice too short. No lent word is touched.
 pub fn power_up(
-    cylinders: u16,
-    heads: u16,
-    sectors: u16,
-    header: u16,
-    field1: u16,
-    field2: u16,
-    address: u16,
+    setup: Setup,
     sector_words: &[u16],
     staging_words: &[u16],
-) -> Powered
-    ensures { PoweredUp (setup_of cylinders heads sectors header field1 field2 address) sector_words.now staging_words.now result }
+) -> Result<Drive, Refusal>
+    ensures { PoweredUp setup sector_words.now staging_words.now result }
 {
-    let setup = Setup {
-        cylinders,
-        heads,
-        sectors,
-        header,
-        field1,
-        field2,
-        address,
-    };
     if !setup.within_limits() {
-        return Powered::Refused(parts::OUTSIDE_ITS_LIMITS);
+        return Err(Refusal::OutsideItsLimits);
     }
     if setup.lacks_room(sector_words.len(), staging_words.len()) {
-        return Powered::Refused(parts::SLICE_TOO_SHORT);
+        return Err(Refusal::SliceTooShort);
     }
-    Powered::Up(at_rest(setup))
+    Ok(at_rest(setup))
 }
 
 fn at_rest(setup: Setup) -> Drive
