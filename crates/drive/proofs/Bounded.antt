@@ -1,7 +1,7 @@
 -- Every answer is within bounds, and is read back from the words that tell it.
 -- Assumes nothing.
 use Prim.Native.Nat.{ℕ, zero, suc, ◌+◌, ◌*◌, ◌/◌, ◌%◌, ◌<◌, ◌≤◌}
-use mathlib.Core.Path.{◌≡◌, refl, sym, subst}
+use mathlib.Core.Path.{◌≡◌, refl, sym, ap, subst, ◌∙◌}
 use mathlib.Core.Bool.{Bool, true, false, true≢false}
 use mathlib.Core.Logic.{◌⊎◌, inl, inr}
 use mathlib.Core.List.{List, [], ◌∷◌, ◌++◌, append_assoc}
@@ -13,9 +13,9 @@ use lib.ListN.{length, get_or, get_or-append}
 use lib.Seq.{take_at, drop_at}
 use Rattle.laws.specs.Pick.{pick}
 use Rattle.laws.specs.Lists.{one_of}
-use Rattle.laws.proofs.Rows.{first_among}
 use Rattle.laws.proofs.Differ.{absent}
 use Rattle.laws.proofs.Lists.{each_one_of}
+use Rattle.refusals.proofs.OnPaper.{of_its_number, left_as_it_was}
 use Rattle.parts.specs.Setup.{within_limits, sector_words}
 use Rattle.parts.specs.Control.{is_data, words_to_come}
 use Rattle.parts.specs.Pending.{bit6, noticed, faulted}
@@ -27,7 +27,7 @@ use Rattle.drive.specs.State.{Result, pending_on, posted_on}
 use Rattle.drive.specs.Request.{octet2_cleared}
 use Rattle.drive.specs.Answer.{paper, refusal_in}
 use Rattle.drive.specs.AnswerWords.{answer_words, words_of_answers, answer_in, answers_in}
-use Rattle.drive.specs.Refusal.{rows, refusal_of}
+use Rattle.drive.specs.Refusal.{refusal_of}
 use Rattle.drive.specs.Able.{Passable}
 use Rattle.drive.specs.Run.{Machine, answer_to, after, answers, final}
 use Rattle.drive.specs.Bounded.{AreOctets, statuses, response_to, Bounded, PendingOctets, AllBounded, AnswersBounded}
@@ -38,7 +38,7 @@ use Rattle.drive.specs.declared.answer.Outcome.{Outcome}
 use Rattle.parts.proofs.Bounds.{Limits, limits, words_within, code_words_few, sector_words_few}
 use Rattle.drive.proofs.Sound.{sound}
 use Rattle.drive.proofs.Laws.{by_cases, done_by, AllPassed}
-use Rattle.drive.proofs.EveryAnswer.{OfTheTable, numbers}
+use Rattle.drive.proofs.EveryAnswer.{of_the_table, named_right}
 use Rattle.drive.proofs.SoundPlace.{pending_stray}
 use Rattle.drive.proofs.Posted.{on_either, kept_on_both}
 use Rattle.drive.proofs.Standing.{sought_setup}
@@ -109,7 +109,7 @@ bounded : (m : Machine) (e : Event) → PendingOctets m → Bounded m.drive.setu
 unfolding refusal_of
 bounded m e f =
     by_cases (λ answer next. Bounded m.drive.setup answer) m e
-    (λ n z. let k = kind_of e.kind in first_among OfTheTable (rows k m.drive e m.sectors m.staging) (numbers k m.drive e m.sectors m.staging) n z)
+    (λ n z. rw (named_right (kind_of e.kind) m.drive e m.sectors m.staging n z) (of_the_table (kind_of e.kind) m.drive e m.sectors m.staging n z))
     (λ k z p. kind_bounded k m e f p)
 
 octets_stay : (m : Machine) (e : Event) → PendingOctets m → PendingOctets (after m e)
@@ -176,8 +176,7 @@ status_there status b = each_one_of (λ n. eqb n 0xFFFF ≡ false) statuses stat
 
 told_back : (s : Setup) (answer : Answer) → within_limits s ≡ true → Bounded s answer → answer_in (refusal_in answer) (answer_words answer) ≡ answer
 unfolding answer_in answer_words paper pick
-told_back s (Refused zero) l b = absurd (true≢false (sym b))
-told_back s (Refused (suc n)) l b = refl
+told_back s (Refused refusal) l b = left_as_it_was refusal _ refl ∙ ap Refused (of_its_number refusal)
 told_back s Done l b = refl
 told_back s (Status status) l b = rw (status_there status b)
 told_back s (Opened words place) l b = rw (there words (few_words s words (limits s l) b.count))
@@ -192,7 +191,7 @@ told_back s (Response first second third) l b =
 -- word 0 of an answer is its refusal
 refusal_first : (answer : Answer) → get_or (answer_words answer) 0 0 ≡ refusal_in answer
 unfolding answer_words paper
-refusal_first (Refused n) = refl
+refusal_first (Refused refusal) = refl
 refusal_first Done = refl
 refusal_first (Status status) = refl
 refusal_first (Opened words place) = refl

@@ -7,15 +7,17 @@ use mathlib.Core.List.{List}
 use Rattle.laws.specs.Lists.{one_of}
 use mathlib.Core.Logic.{◌↔◌}
 use Rattle.laws.specs.Rows.{first, Given, unless_refused}
-use Rattle.laws.proofs.Rows.{first_among, EachNumber, exactly, row_off, rows_rest}
+use Rattle.laws.proofs.Rows.{first_among, EachNumber, first_is_exact, row_off, rows_rest}
+use Rattle.laws.proofs.Lists.{each_one_of}
+use Rattle.refusals.specs.Refusal.{number, named}
 use Rattle.parts.specs.Kind.{Kind, Select, Deselect, Use, Reset, Unknown, Work, kind_of}
 use Rattle.parts.specs.declared.event.Event.{Event}
 use Rattle.drive.specs.Answer.{refusal_in}
-use Rattle.drive.specs.State.{Result}
+use Rattle.drive.specs.State.{Result, told, result}
 use Rattle.drive.specs.Refusal.{rows, rows_of, row8, row1, row10, row11, refusal_of}
 use Rattle.drive.specs.Event.{act, refused_with, handled}
 use Rattle.drive.specs.Power.{at_rest, power_up_rows}
-use Rattle.refusals.proofs.OnPaper.{exactly_on_paper}
+use Rattle.refusals.proofs.OnPaper.{exactly_on_paper, reported_by_name}
 use Rattle.drive.specs.EveryAnswer as every
 use Rattle.drive.specs.EveryAnswer.{request_statuses, Accepted, Listed, refusal_numbers, EveryAnswer}
 use Rattle.drive.specs.Exactly.{Exactly}
@@ -23,7 +25,7 @@ use Rattle.drive.specs.Frame as frame
 use Rattle.drive.specs.declared.drive.Drive.{Drive}
 use Rattle.drive.specs.declared.answer.Outcome.{Outcome}
 use Rattle.drive.specs.declared.answer.Answer.{Answer}
-use Rattle.drive.specs.declared.answer.Answer.TheVariants.{Status}
+use Rattle.drive.specs.declared.answer.Answer.TheVariants.{Refused, Status}
 use Rattle.drive.proofs.Outcomes
 
 -- ---- what each kind answers
@@ -68,9 +70,9 @@ done_answers (Outcomes.more high z) = every.more
 work_answers : (w : Work) (d : Drive) (e : Event) (sectors staging : List ℕ) → Accepted (Use w) (act (Use w) d e sectors staging).outcome.answer
 work_answers w d e sectors staging = done_answers (Outcomes.work_done d e sectors staging w)
 
--- ---- refusals
+-- ---- refusals: the number of the first row that holds is one of the table
 
-abbrev pub OfTheTable : ℕ → Type 0
+abbrev OfTheTable : ℕ → Type 0
 OfTheTable n = one_of refusal_numbers n ≡ true
 
 own_numbers : (k : Kind) (d : Drive) (e : Event) → EachNumber OfTheTable (rows_of k d e)
@@ -80,8 +82,18 @@ own_numbers (Use w) d e = (refl, (refl, tt))
 own_numbers Reset d e = tt
 own_numbers Unknown d e = tt
 
-pub numbers : (k : Kind) (d : Drive) (e : Event) (sectors staging : List ℕ) → EachNumber OfTheTable (rows k d e sectors staging)
+numbers : (k : Kind) (d : Drive) (e : Event) (sectors staging : List ℕ) → EachNumber OfTheTable (rows k d e sectors staging)
 numbers k d e sectors staging = (refl, (refl, (refl, (refl, own_numbers k d e))))
+
+pub of_the_table : (k : Kind) (d : Drive) (e : Event) (sectors staging : List ℕ) (n : ℕ) → refusal_of k d e sectors staging ≡ suc n → OfTheTable (suc n)
+unfolding refusal_of
+of_the_table k d e sectors staging n z = first_among OfTheTable (rows k d e sectors staging) (numbers k d e sectors staging) n z
+
+-- and has the name of a refusal
+pub named_right : (k : Kind) (d : Drive) (e : Event) (sectors staging : List ℕ) (n : ℕ) → refusal_of k d e sectors staging ≡ suc n → number (named (suc n)) ≡ suc n
+named_right k d e sectors staging n z =
+    each_one_of (λ n. number (named n) ≡ n) refusal_numbers (suc n) (of_the_table k d e sectors staging n z)
+    (refl, (refl, (refl, (refl, (refl, (refl, (refl, (refl, (refl, (refl, tt))))))))))
 
 -- a kind that is not 1 to 10 never passes row 8
 never_unknown : (d : Drive) (e : Event) (sectors staging : List ℕ) → first (rows Unknown d e sectors staging) ≡ 0 → ⊥
@@ -97,10 +109,11 @@ accepted_answer Reset d e sectors staging p = every.reset
 accepted_answer (Use w) d e sectors staging p = work_answers w d e sectors staging
 accepted_answer Unknown d e sectors staging p = absurd (never_unknown d e sectors staging p)
 
-by_refusal : (k : Kind) (d : Drive) (e : Event) (sectors staging : List ℕ) (n : ℕ) → first (rows k d e sectors staging) ≡ n
+by_refusal : (k : Kind) (d : Drive) (e : Event) (sectors staging : List ℕ) (n : ℕ) → refusal_of k d e sectors staging ≡ n
     → Listed k (unless_refused n (refused_with n d sectors staging) (act k d e sectors staging)).outcome.answer
+unfolding refusal_of
 by_refusal k d e sectors staging zero p = every.accepted (accepted_answer k d e sectors staging p)
-by_refusal k d e sectors staging (suc n) p = every.refused (first_among OfTheTable (rows k d e sectors staging) (numbers k d e sectors staging) n p)
+by_refusal k d e sectors staging (suc n) p = every.refused (rw (named_right k d e sectors staging n p) (of_the_table k d e sectors staging n p))
 
 pub every_answer : EveryAnswer
 unfolding handled refusal_of
@@ -137,8 +150,11 @@ report_of r = refusal_in r.outcome.answer
 
 event_exactly : (k : Kind) (d : Drive) (e : Event) (sectors staging : List ℕ) (n : ℕ) → let m = first (rows k d e sectors staging) in
     report_of (unless_refused m (refused_with m d sectors staging) (act k d e sectors staging)) ≡ suc n ↔ Given (suc n) (rows k d e sectors staging)
+unfolding refusal_of
 event_exactly k d e sectors staging n =
-    exactly report_of (λ m. refused_with m d sectors staging) (act k d e sectors staging) _ (rows k d e sectors staging) (λ m. refl) (act_unrefused k d e sectors staging) refl n
+    rw (reported_by_name report_of (λ refusal. result (told (Refused refusal) d) sectors staging) (λ refusal. refl) (first (rows k d e sectors staging))
+    (λ m z. rw z (named_right k d e sectors staging m z)) (act k d e sectors staging) (act_unrefused k d e sectors staging))
+    (first_is_exact n (rows k d e sectors staging))
 
 pub exactly_when : Exactly
 unfolding handled refusal_of

@@ -10,6 +10,8 @@ use lib.Dec.{eqb}
 use Rattle.laws.specs.Rows.{unless_refused}
 use Rattle.laws.proofs.Pick.{either}
 use Rattle.laws.proofs.Rows.{Passed, numbered, all_passed}
+use Rattle.refusals.specs.Refusal.{named}
+use Rattle.refusals.specs.declared.refusal.Refusal.{Refusal}
 use Rattle.parts.specs.Holding.{nobody, granted_to, released, released_from}
 use Rattle.parts.specs.Kind.{Kind, Select, Deselect, Use, Reset, Unknown, Work, kind_of}
 use Rattle.drive.specs.State.{Result, told, posted_on}
@@ -63,13 +65,13 @@ passed_all k m e z =
     record { sound = p.0; room = p.1.0; port = p.1.1.0; formed = p.1.1.1.0; own = p.1.1.1.1 }
 
 by_refusal : (P : Answer → Machine → Type 0) (n : ℕ) (m : Machine) (r : Result)
-    → ((j : ℕ) → n ≡ suc j → P (Refused (suc j)) m) → (n ≡ 0 → P r.outcome.answer (left r))
+    → ((j : ℕ) → n ≡ suc j → P (Refused (named (suc j))) m) → (n ≡ 0 → P r.outcome.answer (left r))
     → let given = unless_refused n (refused_with n m.drive m.sectors m.staging) r in P given.outcome.answer (left given)
 by_refusal P zero m r refused done = done refl
 by_refusal P (suc n) m r refused done = refused n refl
 
 pub by_cases : (P : Answer → Machine → Type 0) (m : Machine) (e : Event)
-    → ((n : ℕ) → refusal_of (kind_of e.kind) m.drive e m.sectors m.staging ≡ suc n → P (Refused (suc n)) m)
+    → ((n : ℕ) → refusal_of (kind_of e.kind) m.drive e m.sectors m.staging ≡ suc n → P (Refused (named (suc n))) m)
     → ((k : Kind) → kind_of e.kind ≡ k → AllPassed k m e → P (done_by k m e).outcome.answer (left (done_by k m e)))
     → P (answer_to m e) (after m e)
 unfolding handled answer_to after
@@ -78,10 +80,10 @@ by_cases P m e refused done =
     by_refusal P (refusal_of k m.drive e m.sectors m.staging) m (done_by k m e) refused (λ z. done k refl (passed_all k m e z))
 
 -- an event whose kind is known
-pub by_kind : (P : Answer → Machine → Type 0) (k : Kind) (m : Machine) (e : Event) → kind_of e.kind ≡ k → ((n : ℕ) → P (Refused (suc n)) m)
+pub by_kind : (P : Answer → Machine → Type 0) (k : Kind) (m : Machine) (e : Event) → kind_of e.kind ≡ k → ((refusal : Refusal) → P (Refused refusal) m)
     → (AllPassed k m e → P (done_by k m e).outcome.answer (left (done_by k m e))) → P (answer_to m e) (after m e)
 by_kind P k m e z refused done =
-    by_cases P m e (λ n y. refused n)
+    by_cases P m e (λ n y. refused (named (suc n)))
     (λ k' y p. subst (λ (j : Kind). AllPassed j m e → P (done_by j m e).outcome.answer (left (done_by j m e))) (sym z ∙ y) done p)
 
 -- and an accepted one

@@ -6,6 +6,7 @@ use mathlib.Core.List.{List, [], ◌∷◌}
 use mathlib.Core.Option.{Option, some, none}
 use Rattle.std.specs.Prelude.{Result}
 use Rattle.laws.proofs.Only.{answer_only}
+use Rattle.refusals.specs.Refusal.{named}
 use Rattle.refusals.proofs.OnPaper as given
 use Rattle.refusals.specs.declared.refusal.Refusal.{Refusal}
 use Rattle.parts.specs.declared.setup.Setup.{Setup}
@@ -47,12 +48,12 @@ unrefused_back none (some n) none none none = Done
 unrefused_back none none place none none = Done
 
 back : Option ℕ → Paper → Answer
-back (some n) p = Refused n
+back (some n) p = Refused (named n)
 back none p = unrefused_back p.status p.word_count p.place p.word p.response
 
 read_back : (a : Answer) → back (paper a).refusal (paper a) ≡ a
 unfolding paper back unrefused_back octets_back
-read_back (Refused n) = refl
+read_back (Refused refusal) = ap Refused (given.of_its_number refusal)
 read_back Done = refl
 read_back (Status s) = refl
 read_back (Opened n p) = refl

@@ -8,16 +8,18 @@ use borrow.Author.Tests.{ne_eqb, leb-false}
 use lib.Dec.{eqb, leb}
 use Rattle.laws.specs.Pick.{pick}
 use Rattle.laws.specs.Rows.{first}
-use Rattle.laws.proofs.Rows.{refused_as, accepted_as}
+use Rattle.laws.proofs.Rows.{accepted_as}
 use Rattle.laws.proofs.Tests.{or_r}
+use Rattle.refusals.specs.Refusal.{number}
+use Rattle.refusals.specs.declared.refusal.Refusal.{Refusal}
+use Rattle.refusals.proofs.OnPaper.{told_by_name}
 use Rattle.parts.specs.Command.{code_of}
 use Rattle.parts.specs.Control.{control_of, takes_words, gives_words, words_to_come}
 use Rattle.parts.specs.Holding.{nobody}
 use Rattle.parts.specs.Kind.{Kind}
-use Rattle.drive.specs.State.{told, Result}
+use Rattle.drive.specs.State.{told, Result, result}
 use Rattle.drive.specs.Refusal.{own_rows}
 use Rattle.parts.specs.Tests.{is_taking, is_giving, is_open, is_broken_transfer}
-use Rattle.drive.specs.Event.{refused_with}
 use Rattle.drive.specs.Able.{Passable, Able, unless_own_row, unless_own_row_in}
 use Rattle.parts.specs.declared.setup.Setup.{Setup}
 use Rattle.parts.specs.declared.holding.Holding.{Holding}
@@ -28,20 +30,20 @@ use Rattle.drive.specs.declared.answer.Outcome.{Outcome}
 use Rattle.drive.specs.declared.answer.Answer.TheVariants.{Refused}
 use Rattle.drive.proofs.Sound.{sound}
 
-pub own_refused : (k : Kind) (d : Drive) (e : Event) (accepted : Outcome) (n : ℕ) → n ≡ first (own_rows k d e) → (n ≡ 0 → ⊥)
-    → told (Refused n) d ≡ unless_own_row k d e accepted
+pub own_refused : (k : Kind) (d : Drive) (e : Event) (accepted : Outcome) (refusal : Refusal) → number refusal ≡ first (own_rows k d e)
+    → told (Refused refusal) d ≡ unless_own_row k d e accepted
 unfolding unless_own_row
-own_refused k d e accepted n p h = refused_as n (first (own_rows k d e)) (λ m. told (Refused m) d) accepted p h
+own_refused k d e accepted refusal p = told_by_name (λ r. told (Refused r) d) refusal accepted p
 
 pub own_accepted : (k : Kind) (d : Drive) (e : Event) (accepted x : Outcome) (n : ℕ) → n ≡ first (own_rows k d e) → n ≡ 0 → x ≡ accepted
     → x ≡ unless_own_row k d e accepted
 unfolding unless_own_row
 own_accepted k d e accepted x n p z h = accepted_as n (first (own_rows k d e)) _ accepted x p z h
 
-pub own_refused_in : (k : Kind) (d : Drive) (e : Event) (sectors staging : List ℕ) (accepted : Result) (n : ℕ) → n ≡ first (own_rows k d e) → (n ≡ 0 → ⊥)
-    → refused_with n d sectors staging ≡ unless_own_row_in k d e sectors staging accepted
+pub own_refused_in : (k : Kind) (d : Drive) (e : Event) (sectors staging : List ℕ) (accepted : Result) (refusal : Refusal) → number refusal ≡ first (own_rows k d e)
+    → result (told (Refused refusal) d) sectors staging ≡ unless_own_row_in k d e sectors staging accepted
 unfolding unless_own_row_in
-own_refused_in k d e sectors staging accepted n p h = refused_as n (first (own_rows k d e)) (λ m. refused_with m d sectors staging) accepted p h
+own_refused_in k d e sectors staging accepted refusal p = told_by_name (λ r. result (told (Refused r) d) sectors staging) refusal accepted p
 
 pub own_accepted_in : (k : Kind) (d : Drive) (e : Event) (sectors staging : List ℕ) (accepted x : Result) (n : ℕ) → n ≡ first (own_rows k d e) → n ≡ 0 → x ≡ accepted
     → x ≡ unless_own_row_in k d e sectors staging accepted

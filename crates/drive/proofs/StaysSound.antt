@@ -36,6 +36,7 @@ use Rattle.drive.specs.declared.answer.Answer.TheVariants.{Refused, Done, Status
 use Rattle.drive.proofs.Sound.{Sound, sound, unsound, room}
 use Rattle.drive.proofs.Own.{able_to_write, able_to_read}
 use Rattle.drive.proofs.Frame.{commit_frame, staged_room}
+use Rattle.drive.proofs.EveryAnswer.{named_right}
 use Rattle.drive.proofs.Laws.{by_cases, done_by, left, AllPassed, stays, accepts, its_own}
 use Rattle.drive.proofs.SoundPlace.{place_kept, recalibrated_kept, head_step_kept, at_target_kept, target_kept, posted_kept, pending_stray, fault_stray, nothing_stray, cleared_kept}
 use Rattle.drive.proofs.SoundHolding.{closed_kept, ended_kept, transfer_kept, hold_kept, selected_kept, deselected_kept, reset_kept, rest_sound}
@@ -174,7 +175,7 @@ unfolding refusal_of pick
 small_refusal k m e s = rw (s.sound, s.room) (first_up_to 8 (1 when row1 e ∷ own_rows k m.drive e) (small_numbers k m.drive e))
 
 pub no_refusal : (answer : Answer) → is_refused answer ≡ false → refusal_in answer ≡ 0
-no_refusal (Refused n) h = absurd (true≢false h)
+no_refusal (Refused refusal) h = absurd (true≢false h)
 no_refusal Done h = refl
 no_refusal (Status s) h = refl
 no_refusal (Opened n p) h = refl
@@ -184,7 +185,7 @@ no_refusal (Response octet0 octet1 octet2) h = refl
 
 small_answer : (m : Machine) (e : Event) → IsSound m → refusal_in (answer_to m e) ≤ 8
 small_answer m e s =
-    by_cases (λ answer next. refusal_in answer ≤ 8) m e (λ n z. omega (arith, small_refusal (kind_of e.kind) m e s))
+    by_cases (λ answer next. refusal_in answer ≤ 8) m e (λ n z. rw (named_right (kind_of e.kind) m.drive e m.sectors m.staging n z) (omega (arith, z, small_refusal (kind_of e.kind) m e s)))
     (λ k z p. omega (arith, no_refusal (done_by k m e).outcome.answer (accepts k m e)))
 
 never_11_or_10 : (m : Machine) (events : List Event) → IsSound m → Never11Or10 (answers m events)

@@ -6,6 +6,7 @@ use mathlib.Core.Bool.{true, false}
 use mathlib.Core.List.{List}
 use Rattle.laws.specs.Pick.{pick}
 use Rattle.laws.specs.Rows.{first, unless_refused}
+use Rattle.refusals.specs.Refusal.{named}
 use Rattle.parts.specs.Kind.{Kind, Unknown, kind_of}
 use Rattle.drive.specs.Answer.{paper, Says}
 use Rattle.drive.specs.State.{told, Result, result}
@@ -25,7 +26,7 @@ unfolding handled refusal_of unless_own_row_in pick
 handled_by_kind d e sectors staging k p h z = rw (z, p.sound, p.room, h)
 
 outcome_only : (n : ℕ) (d : Drive) (sectors staging : List ℕ) (accepted : Outcome)
-    → result (unless_refused n (told (Refused n) d) accepted) sectors staging ≡ unless_refused n (refused_with n d sectors staging) (result accepted sectors staging)
+    → result (unless_refused n (told (Refused (named n)) d) accepted) sectors staging ≡ unless_refused n (refused_with n d sectors staging) (result accepted sectors staging)
 outcome_only zero d sectors staging accepted = refl
 outcome_only (suc n) d sectors staging accepted = refl
 

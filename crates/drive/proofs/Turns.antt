@@ -77,7 +77,7 @@ judged_after m e =
 
 pub thirteen : (answer : Answer) → length (answer_words answer) ≡ 13
 unfolding answer_words paper
-thirteen (Refused n) = refl
+thirteen (Refused refusal) = refl
 thirteen Done = refl
 thirteen (Status s) = refl
 thirteen (Opened n p) = refl

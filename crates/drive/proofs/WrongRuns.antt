@@ -11,6 +11,7 @@ use lib.Dec.{eqb}
 use lib.ListN.{get_or}
 use Rattle.laws.specs.Pick.{pick}
 use Rattle.laws.proofs.Differ.{told_apart, absent}
+use Rattle.refusals.specs.declared.refusal.Refusal.TheVariants.{Busy}
 use Rattle.parts.specs.Control.{control_of, is_read}
 use Rattle.parts.specs.Holding.{nobody}
 use Rattle.parts.specs.Kind.{Kind, Select, Deselect, Use, Reset, Unknown, kind_of}
@@ -79,7 +80,7 @@ sessions_own (sessions.still_open {selection} {work} z works) port = rw (z, ← 
 -- ---- an idle drive
 
 abbrev refused : List Event → List Answer
-refused events = map (λ e. Refused 6) events
+refused events = map (λ e. Refused Busy) events
 
 none_accepted : {A : Type 0} (list : List A) (events : List Event) → accepted list (refused events) ≡ []
 unfolding accepted pick
@@ -98,10 +99,10 @@ journal_behind [] stretch told = refl
 journal_behind (e ∷ events) stretch told = journal_behind events stretch told
 
 -- what holds of a refusal holds of each of these
-behind : (P : Saying) → ((before : List Event) (told : List Answer) (e : Event) → P before told e (Refused 6))
+behind : (P : Saying) → ((before : List Event) (told : List Answer) (e : Event) → P before told e (Refused Busy))
     → (before : List Event) (told : List Answer) (events : List Event) → HoldsBehind P before told events (refused events)
 behind P each before told [] = tt
-behind P each before told (e ∷ events) = (each before told e, behind P each (before ++ (e ∷ [])) (told ++ (Refused 6 ∷ [])) events)
+behind P each before told (e ∷ events) = (each before told e, behind P each (before ++ (e ∷ [])) (told ++ (Refused Busy ∷ [])) events)
 
 none_over_8 : (events : List Event) → Never11Or10 (refused events)
 none_over_8 [] = tt

@@ -2,6 +2,7 @@
 use Rattle.std.specs.Prelude.{ℕ, ◌+◌, ◌≤◌, ◌<◌, ◌≡◌, false, List, [], ◌∷◌, length, get_or}
 use Rattle.laws.specs.Rows.{first, ◌when◌, unless_refused}
 use Rattle.laws.specs.Lists.{written_over}
+use Rattle.refusals.specs.Refusal.{named}
 use Rattle.parts.specs.Setup.{sector_words}
 use Rattle.parts.specs.Control.{words_to_come, words_read}
 use Rattle.parts.specs.Kind.{Kind}
@@ -23,7 +24,7 @@ pub record Passable (d : Drive) (sectors staging : List ℕ) : Type 0 where
 
 -- What a kind's own tests, from 8 on, leave of what it would do.
 unfoldable pub unless_own_row : Kind → Drive → Event → Outcome → Outcome
-unless_own_row k d e accepted = let n = first (own_rows k d e) in unless_refused n (told (Refused n) d) accepted
+unless_own_row k d e accepted = let n = first (own_rows k d e) in unless_refused n (told (Refused (named n)) d) accepted
 
 -- The same of a kind that touches the lent words.
 unfoldable pub unless_own_row_in : Kind → Drive → Event → List ℕ → List ℕ → Result → Result

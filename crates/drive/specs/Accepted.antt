@@ -5,7 +5,7 @@ use Rattle.drive.specs.declared.answer.Answer.{Answer}
 use Rattle.drive.specs.declared.answer.Answer.TheVariants.{Refused, Done, Status, Opened, Word, LastWord, Response}
 
 abbrev pub is_refused : Answer → Bool
-is_refused (Refused n) = true
+is_refused (Refused refusal) = true
 is_refused Done = false
 is_refused (Status s) = false
 is_refused (Opened n p) = false

@@ -1,6 +1,7 @@
 -- The answer in the paper's words: refusal, status, word count, place, word, response, each there or not.
 use Rattle.std.specs.Prelude.{ℕ, ◌≡◌, List, [], ◌∷◌}
 use Rattle.std.proofs.Math.Option.{Option, some, none}
+use Rattle.refusals.specs.Refusal.{number}
 use Rattle.parts.specs.declared.setup.Place.{Place}
 use Rattle.drive.specs.declared.answer.Answer.{Answer}
 use Rattle.drive.specs.declared.answer.Answer.TheVariants.{Refused, Done, Status, Opened, Word, LastWord, Response}
@@ -30,7 +31,7 @@ pub record Paper : Type 0 where
 -- "The answer that opens a transfer tells the number of words to come and the place." "Take answers the next word."
 -- "The response is 8 octets .. All else 0." "Read status answers 0 with the octets".
 unfoldable pub paper : Answer → Paper
-paper (Refused n) = record { refusal = some n; status = none; word_count = none; place = none; word = none; response = none }
+paper (Refused refusal) = record { refusal = some (number refusal); status = none; word_count = none; place = none; word = none; response = none }
 paper Done = record { refusal = none; status = none; word_count = none; place = none; word = none; response = none }
 paper (Status s) = record { refusal = none; status = some s; word_count = none; place = none; word = none; response = none }
 paper (Opened n p) = record { refusal = none; status = none; word_count = some n; place = some p; word = none; response = none }
@@ -57,7 +58,7 @@ pub record Says (answer : Answer) (given : Paper) : Type 0 where
 
 -- The number of a refused answer, 0 for the others.
 abbrev pub refusal_in : Answer → ℕ
-refusal_in (Refused n) = n
+refusal_in (Refused refusal) = number refusal
 refusal_in Done = 0
 refusal_in (Status s) = 0
 refusal_in (Opened n p) = 0

@@ -3,6 +3,8 @@
 use Rattle.std.specs.Prelude.{ℕ, zero, suc, ◌+◌, ◌*◌, ◌/◌, ◌%◌, List, [], ◌∷◌, ◌++◌, eqb, get_or, take, drop}
 use Rattle.std.proofs.Math.Option.{Option, some, none}
 use Rattle.laws.specs.Pick.{pick}
+use Rattle.laws.specs.Rows.{unless_refused}
+use Rattle.refusals.specs.Refusal.{named}
 use Rattle.parts.specs.declared.setup.Place.{Place}
 use Rattle.drive.specs.State.{at_place}
 use Rattle.drive.specs.Answer.{Paper, paper}
@@ -64,8 +66,7 @@ accepted_in words =
 
 -- The answer to one event: by the refusal that its call returned, and else by its words.
 unfoldable pub answer_in : ℕ → List ℕ → Answer
-answer_in zero words = accepted_in words
-answer_in (suc n) words = Refused (suc n)
+answer_in n words = unless_refused n (Refused (named n)) (accepted_in words)
 
 -- The answers to so many events of a run: the refusal is the first of each 13 words.
 unfoldable pub answers_in : ℕ → List ℕ → List Answer

@@ -2,6 +2,7 @@
 use Rattle.std.specs.Prelude.{ℕ, ◌<◌, ◌≤◌, ◌≡◌, ◌⊎◌, true, false, List, [], ◌∷◌, ◌++◌, length}
 use Rattle.std.proofs.Math.Option.{some}
 use Rattle.laws.specs.Lists.{one_of}
+use Rattle.refusals.specs.Refusal.{number}
 use Rattle.parts.specs.Setup.{within_limits, sector_words, is_place}
 use Rattle.parts.specs.Pending.{pending_of, octet0}
 use Rattle.parts.specs.Tests.{has_stray_bit}
@@ -37,7 +38,7 @@ pub record OpenedWithin (s : Setup) (words : ℕ) (place : Place) : Type 0 where
   pub inside : is_place s place ≡ true
 
 abbrev pub Bounded : Setup → Answer → Type 0
-Bounded s (Refused n) = one_of refusal_numbers n ≡ true
+Bounded s (Refused refusal) = one_of refusal_numbers (number refusal) ≡ true
 Bounded s Done = Unit
 Bounded s (Status status) = one_of statuses status ≡ true
 Bounded s (Opened words place) = OpenedWithin s words place

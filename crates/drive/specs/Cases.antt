@@ -4,6 +4,7 @@ use Rattle.std.specs.Prelude.{ℕ, ◌/◌, ◌%◌, ◌≡◌, List, [], ◌∷
 use Rattle.drive.specs.Power.{at_rest}
 use Rattle.drive.specs.State.{at_place}
 use Rattle.drive.specs.Run.{Machine, machine, answers, final}
+use Rattle.refusals.specs.declared.refusal.Refusal.TheVariants.{NotSelected, AlreadySelected, NotOurAddress, ModeCannotChange, Busy}
 use Rattle.parts.specs.declared.setup.Setup.{Setup}
 use Rattle.parts.specs.declared.event.Event.{Event}
 use Rattle.drive.specs.declared.answer.Answer.{Answer}
@@ -66,7 +67,7 @@ p1_p2_p3 =
     record {
       stored = zeros;
       events = select 0 0x30 ∷ select 1 0x30 ∷ select 1 0x31 ∷ take 0 ∷ [];
-      answers = Done ∷ Refused 6 ∷ Done ∷ Refused 2 ∷ [];
+      answers = Done ∷ Refused Busy ∷ Done ∷ Refused NotSelected ∷ [];
       left = zeros;
       sector = 0;
     }
@@ -77,7 +78,7 @@ p4_p5_p6 =
     record {
       stored = zeros;
       events = select 0 0x32 ∷ deselect 0 ∷ select 1 0x31 ∷ select 1 0x33 ∷ select 0 0x33 ∷ [];
-      answers = Done ∷ Done ∷ Refused 6 ∷ Done ∷ Refused 6 ∷ [];
+      answers = Done ∷ Done ∷ Refused Busy ∷ Done ∷ Refused Busy ∷ [];
       left = zeros;
       sector = 0;
     }
@@ -88,7 +89,7 @@ p7 =
     record {
       stored = zeros;
       events = select 0 0x40 ∷ select 0 0xB0 ∷ select 0 0x38 ∷ select 0 0x30 ∷ select 0 0x30 ∷ [];
-      answers = Refused 4 ∷ Refused 4 ∷ Refused 5 ∷ Done ∷ Refused 3 ∷ [];
+      answers = Refused NotOurAddress ∷ Refused NotOurAddress ∷ Refused ModeCannotChange ∷ Done ∷ Refused AlreadySelected ∷ [];
       left = zeros;
       sector = 0;
     }

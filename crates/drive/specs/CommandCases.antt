@@ -1,5 +1,6 @@
 -- Worked cases of commands and responses: a second table beside P1 to P12. Each is a run of the bench drive from power-up, with all words zero.
 use Rattle.std.specs.Prelude.{ℕ, ◌*◌, ◌≡◌, List, [], ◌∷◌, ◌++◌, replicate}
+use Rattle.refusals.specs.declared.refusal.Refusal.TheVariants.{Busy}
 use Rattle.parts.specs.Holding.{nobody, held}
 use Rattle.parts.specs.Pending.{alternate_port_priority_select, reset_complete, invalid_parameter, pending_of, nothing_pending}
 use Rattle.parts.specs.Tests.{transferring, transferring_with, parameters}
@@ -45,7 +46,7 @@ abbrev pub reserve_keeps : CommandCase
 reserve_keeps =
     record {
       events = select 0 0x30 ∷ function 0 0x14 ++ (deselect 0 ∷ select 1 0x30 ∷ select 1 0x31 ∷ select 1 0x32 ∷ select 1 0x33 ∷ []);
-      answers = Done ∷ function_done ++ (Done ∷ Refused 6 ∷ Refused 6 ∷ Refused 6 ∷ Done ∷ []);
+      answers = Done ∷ function_done ++ (Done ∷ Refused Busy ∷ Refused Busy ∷ Refused Busy ∷ Done ∷ []);
       end = with_pending (with_holding (at_rest bench) (held 1 1 Strong)) (pending_of alternate_port_priority_select 0) nothing_pending;
     }
 
@@ -54,7 +55,7 @@ abbrev pub release_frees : CommandCase
 release_frees =
     record {
       events = select 0 0x32 ∷ function 0 0x15 ++ (select 1 0x30 ∷ deselect 0 ∷ select 1 0x30 ∷ []);
-      answers = Done ∷ function_done ++ (Refused 6 ∷ Done ∷ Done ∷ []);
+      answers = Done ∷ function_done ++ (Refused Busy ∷ Done ∷ Done ∷ []);
       end = with_holding (at_rest bench) (held 1 1 None);
     }
 
@@ -63,7 +64,7 @@ abbrev pub priority_reserve_withstands : CommandCase
 priority_reserve_withstands =
     record {
       events = select 0 0x30 ∷ function 0 0x13 ++ (deselect 0 ∷ select 1 0x33 ∷ []);
-      answers = Done ∷ function_done ++ (Done ∷ Refused 6 ∷ []);
+      answers = Done ∷ function_done ++ (Done ∷ Refused Busy ∷ []);
       end = with_holding (at_rest bench) (held nobody 0 Strong);
     }
 

@@ -13,7 +13,7 @@ use Rattle.drive.specs.declared.answer.Answer.TheVariants.{Refused, Done, Status
 -- This event was answered with the opening of a write.
 abbrev pub opens_write : Event → Answer → Bool
 opens_write e (Opened words place) = is_write (control_of e.a0)
-opens_write e (Refused n) = false
+opens_write e (Refused refusal) = false
 opens_write e Done = false
 opens_write e (Status status) = false
 opens_write e (Word word) = false

@@ -1,6 +1,7 @@
 -- An event: what an accepted one does, kind by kind, and the whole rule.
 use Rattle.std.specs.Prelude.{ℕ, ◌≡◌, List}
 use Rattle.laws.specs.Rows.{unless_refused}
+use Rattle.refusals.specs.Refusal.{named}
 use Rattle.drive.specs.Answer.{normal, paper, Says}
 use Rattle.drive.specs.State.{told, Result, result}
 use Rattle.parts.specs.Kind.{Kind, Select, Deselect, Use, Reset, Unknown, DataControl, WordFromHost, TakeWord, End, Position, Target, ReadStatus, kind_of, word_of, place_of}
@@ -29,7 +30,7 @@ act Unknown d e sectors staging = result (told Done d) sectors staging
 
 -- "A refusal reports its number and nothing else, and changes nothing."
 abbrev pub refused_with : ℕ → Drive → List ℕ → List ℕ → Result
-refused_with n d sectors staging = result (told (Refused n) d) sectors staging
+refused_with n d sectors staging = result (told (Refused (named n)) d) sectors staging
 
 unfoldable pub handled : Drive → Event → List ℕ → List ℕ → Result
 handled d e sectors staging =

@@ -1,6 +1,8 @@
 -- Demand 1: "Every event on either port, from any caller with any arguments, gets one of the answers in document 01."
 use Rattle.std.specs.Prelude.{ℕ, ◌≡◌, true, List, [], ◌∷◌}
 use Rattle.laws.specs.Lists.{one_of}
+use Rattle.refusals.specs.Refusal.{number}
+use Rattle.refusals.specs.declared.refusal.Refusal.{Refusal}
 use Rattle.parts.specs.Kind.{Kind, Select, Deselect, Use, Reset, DataControl, WordFromHost, TakeWord, End, Position, Target, ReadStatus, kind_of}
 use Rattle.parts.specs.declared.setup.Place.{Place}
 use Rattle.parts.specs.declared.event.Event.{Event}
@@ -43,7 +45,7 @@ abbrev pub refusal_numbers : List ℕ
 refusal_numbers = 1 ∷ 2 ∷ 3 ∷ 4 ∷ 5 ∷ 6 ∷ 7 ∷ 8 ∷ 10 ∷ 11 ∷ []
 
 pub data Listed (k : Kind) : Answer → Type 0 where
-  refused : {n : ℕ} → one_of refusal_numbers n ≡ true → Listed k (Refused n)
+  refused : {refusal : Refusal} → one_of refusal_numbers (number refusal) ≡ true → Listed k (Refused refusal)
   accepted : {answer : Answer} → Accepted k answer → Listed k answer
 
 pub record EveryAnswer : Type 0 where

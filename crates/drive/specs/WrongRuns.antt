@@ -1,5 +1,6 @@
 -- Runs of wrong drives, and the part of demand 3 that refuses each.
 use Rattle.std.specs.Prelude.{ℕ, ◌≡◌, List, [], ◌∷◌, ◌++◌, map, replicate}
+use Rattle.refusals.specs.declared.refusal.Refusal.TheVariants.{Busy, UnsoundState}
 use Rattle.parts.specs.Pending.{alternate_port_priority_select, reset_complete, invalid_parameter, pending_of, nothing_pending}
 use Rattle.parts.specs.Tests.{transferring, no_transfer}
 use Rattle.parts.specs.declared.holding.Hold.TheVariants.{None}
@@ -84,7 +85,7 @@ zeros = replicate 4 0
 
 -- "a drive that refuses all"
 abbrev pub all_refused : List Event → WrongRun
-all_refused events = record { events = events; told = map (λ e. Refused 6) events; end = power_up }
+all_refused events = record { events = events; told = map (λ e. Refused Busy) events; end = power_up }
 
 abbrev pub refuses_all : WrongRun
 refuses_all = all_refused (whole_sector_written 0 3 (at_place 0 0 0) (7 ∷ 1 ∷ 2 ∷ 3 ∷ []))
@@ -192,11 +193,11 @@ stranger_deselects = record { events = sent 0 1 0x30 0 ∷ sent 1 2 0 0 ∷ []; 
 
 -- A refused selection moves the sector.
 abbrev pub refusal_moves : WrongRun
-refusal_moves = record { events = sent 0 1 0x30 0 ∷ sent 1 1 0x30 0 ∷ []; told = Done ∷ Refused 6 ∷ []; end = left 0 1 no_transfer untouched zeros }
+refusal_moves = record { events = sent 0 1 0x30 0 ∷ sent 1 1 0x30 0 ∷ []; told = Done ∷ Refused Busy ∷ []; end = left 0 1 no_transfer untouched zeros }
 
 -- A drive that finds itself unsound after power-up.
 abbrev pub finds_itself_unsound : WrongRun
-finds_itself_unsound = record { events = sent 0 1 0x30 0 ∷ []; told = Refused 11 ∷ []; end = power_up }
+finds_itself_unsound = record { events = sent 0 1 0x30 0 ∷ []; told = Refused UnsoundState ∷ []; end = power_up }
 
 -- ---- commands and responses
 

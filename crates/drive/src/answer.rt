@@ -1,11 +1,12 @@
 // The answer to an event, and the drive after it.
 use crate::drive::Drive;
 use parts::Place;
+use refusals::Refusal;
 
 #[derive(Clone, Copy)]
 pub enum Answer {
-    // The number of the refusal: nothing changed.
-    Refused(u8),
+    // Nothing changed.
+    Refused(Refusal),
     // Kinds 1, 2 and 10, and a word of a write before its last.
     Done,
     // The drive status octet.

@@ -137,3 +137,15 @@ paper_only {r = Err x} {s = Ok y} e = absurd (number_is_not_0 x (same_number e))
 
 pub answer_only : {A : Type 0} {r s : Result A Refusal} {p : Paper A} → on_paper r ≡ p → on_paper s ≡ p → r ≡ s
 answer_only p q = paper_only (p ∙ sym q)
+
+-- ---- a definition that names the refusal of a row's number
+
+-- a refusal with that number is the one that is named
+pub told_by_name : {A : Type 0} (told : Refusal → A) (refusal : Refusal) {n : ℕ} (new : A) → number refusal ≡ n → told refusal ≡ unless_refused n (told (named n)) new
+told_by_name told refusal new e = rw (← e) (ap told (sym (of_its_number refusal)) ∙ sym (left_as_it_was refusal new refl))
+
+-- the number that is reported is that row's, if each row's number is a refusal's
+pub reported_by_name : {A : Type 0} (report : A → ℕ) (refused : Refusal → A) → ((refusal : Refusal) → report (refused refusal) ≡ number refusal)
+    → (n : ℕ) → ((k : ℕ) → n ≡ suc k → number (named n) ≡ n) → (accepted : A) → report accepted ≡ 0 → report (unless_refused n (refused (named n)) accepted) ≡ n
+reported_by_name report refused told zero named_right accepted e = e
+reported_by_name report refused told (suc n) named_right accepted e = told (named (suc n)) ∙ named_right n refl
