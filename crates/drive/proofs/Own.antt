@@ -8,7 +8,6 @@ use borrow.Author.Tests.{ne_eqb, leb-false}
 use lib.Dec.{eqb, leb}
 use Rattle.laws.specs.Pick.{pick}
 use Rattle.laws.specs.Rows.{first}
-use Rattle.laws.proofs.Rows.{accepted_as}
 use Rattle.laws.proofs.Tests.{or_r}
 use Rattle.refusals.specs.Refusal.{number}
 use Rattle.refusals.specs.declared.refusal.Refusal.{Refusal}
@@ -35,20 +34,19 @@ pub own_refused : (k : Kind) (d : Drive) (e : Event) (accepted : Outcome) (refus
 unfolding unless_own_row
 own_refused k d e accepted refusal p = told_by_name (λ r. told (Refused r) d) refusal accepted p
 
-pub own_accepted : (k : Kind) (d : Drive) (e : Event) (accepted x : Outcome) (n : ℕ) → n ≡ first (own_rows k d e) → n ≡ 0 → x ≡ accepted
-    → x ≡ unless_own_row k d e accepted
+pub own_accepted : (k : Kind) (d : Drive) (e : Event) (accepted : Outcome) → 0 ≡ first (own_rows k d e) → accepted ≡ unless_own_row k d e accepted
 unfolding unless_own_row
-own_accepted k d e accepted x n p z h = accepted_as n (first (own_rows k d e)) _ accepted x p z h
+own_accepted k d e accepted p = rw (← p)
 
 pub own_refused_in : (k : Kind) (d : Drive) (e : Event) (sectors staging : List ℕ) (accepted : Result) (refusal : Refusal) → number refusal ≡ first (own_rows k d e)
     → result (told (Refused refusal) d) sectors staging ≡ unless_own_row_in k d e sectors staging accepted
 unfolding unless_own_row_in
 own_refused_in k d e sectors staging accepted refusal p = told_by_name (λ r. result (told (Refused r) d) sectors staging) refusal accepted p
 
-pub own_accepted_in : (k : Kind) (d : Drive) (e : Event) (sectors staging : List ℕ) (accepted x : Result) (n : ℕ) → n ≡ first (own_rows k d e) → n ≡ 0 → x ≡ accepted
-    → x ≡ unless_own_row_in k d e sectors staging accepted
+pub own_accepted_in : (k : Kind) (d : Drive) (e : Event) (sectors staging : List ℕ) (accepted : Result) → 0 ≡ first (own_rows k d e)
+    → accepted ≡ unless_own_row_in k d e sectors staging accepted
 unfolding unless_own_row_in
-own_accepted_in k d e sectors staging accepted x n p z h = accepted_as n (first (own_rows k d e)) _ accepted x p z h
+own_accepted_in k d e sectors staging accepted p = rw (← p)
 
 -- ---- an open transfer of a state that row 11 lets pass has a word to come
 

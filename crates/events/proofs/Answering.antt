@@ -1,8 +1,10 @@
--- An event on any words of a state: what is answered is what the rule says, and a refusal has a number.
+-- An event on any words of a state: what is answered is what the rule says.
 -- Assumes nothing.
 use Rattle.std.proofs.Common.{◌≡◌, ℕ, zero, suc, ◌≤◌, Bool, false, List, length, sym, refl, ap, ◌∙◌, true≢false, arith}
 use Rattle.laws.specs.Rows.{unless_refused}
-use Rattle.parts.specs.Kind.{kind_of}
+use Rattle.refusals.specs.Refusal.{number, named}
+use Rattle.refusals.specs.declared.refusal.Refusal.{Refusal}
+use Rattle.refusals.proofs.OnPaper.{of_its_number, number_is_not_0}
 use Rattle.parts.specs.declared.event.Event.{Event}
 use Rattle.drive.specs.Accepted.{is_refused}
 use Rattle.drive.specs.Refusal.{refusal_of}
@@ -19,15 +21,14 @@ use Rattle.events.specs.Turn.{Telling, Answered, Turn}
 use Rattle.events.specs.Fit.{Fits, DidIn}
 use Rattle.events.proofs.Done.{fit, known}
 use Rattle.events.proofs.Goes.{moved_known, unmoved}
-use Rattle.events.proofs.ToldWords.{Numbered}
 
-pub answered_refused : (e : Event) (state sectors staging : List ℕ) (n : ℕ) → 21 ≤ length state → n ≡ judgement (drive_in state) sectors staging → (n ≡ 0 → ⊥)
-    → Answered e state sectors staging (Refused n) state sectors staging
+pub answered_refused : (e : Event) (state sectors staging : List ℕ) (refusal : Refusal) → 21 ≤ length state → number refusal ≡ judgement (drive_in state) sectors staging
+    → Answered e state sectors staging (Refused refusal) state sectors staging
 unfolding answer_to after
-answered_refused e state sectors staging n h j z =
-    let r = refused_as_judged (drive_in state) e sectors staging (λ y. z (j ∙ y)) in
+answered_refused e state sectors staging refusal h j =
+    let r = refused_as_judged (drive_in state) e sectors staging (λ y. number_is_not_0 refusal (j ∙ y)) in
     record {
-      answer = ap Refused j ∙ sym (ap (λ (x : Result). x.outcome.answer) r);
+      answer = ap Refused (sym (of_its_number refusal) ∙ ap named j) ∙ sym (ap (λ (x : Result). x.outcome.answer) r);
       state = sym (unmoved state h) ∙ sym (ap (λ (x : Result). state_after state x.outcome.drive) r);
       sectors = sym (ap (λ (x : Result). x.sectors) r);
       staging = sym (ap (λ (x : Result). x.staging) r);
@@ -49,13 +50,3 @@ pub step_told : {telling : Bool} {e : Event} {state sectors staging out : List �
     → DidIn state (handled (drive_in state) e sectors staging) r state' sectors' staging' → Telling telling r out n out'
     → Turn telling e state sectors staging out n state' sectors' staging' out'
 step_told f d t = turn_told (answered_stepped f d) t
-
--- a refusal has a number
-pub numbered : (m : Machine) (e : Event) → Numbered (answer_to m e)
-unfolding answer_to handled
-numbered m e = by_refusal (refusal_of (kind_of e.kind) m.drive e m.sectors m.staging) (done_by (kind_of e.kind) m e) (accepts (kind_of e.kind) m e)
-  where
-    by_refusal : (n : ℕ) (r : Result) → is_refused r.outcome.answer ≡ false
-        → Numbered (unless_refused n (refused_with n m.drive m.sectors m.staging) r).outcome.answer
-    by_refusal zero r a h z = true≢false (sym h ∙ a)
-    by_refusal (suc n) r a h z = omega arith

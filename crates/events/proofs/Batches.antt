@@ -8,6 +8,9 @@ use Rattle.laws.specs.Rows.{unless_refused}
 use Rattle.laws.specs.Lists.{written_over}
 use Rattle.laws.proofs.Pick.{either}
 use Rattle.laws.proofs.Runs.{rest_whole}
+use Rattle.refusals.specs.Refusal.{number, named}
+use Rattle.refusals.specs.declared.refusal.Refusal.{Refusal}
+use Rattle.refusals.proofs.OnPaper.{number_is_not_0}
 use Rattle.parts.specs.Setup as setup
 use Rattle.parts.specs.Setup.{sector_words}
 use Rattle.parts.specs.declared.event.Event.{Event}
@@ -27,7 +30,7 @@ use Rattle.events.specs.State.{drive_in, state_after}
 use Rattle.events.specs.Event.{machine_in}
 use Rattle.events.specs.Turn.{quietly, refusals, Turn, Worked, RefusedShort}
 use Rattle.events.proofs.Goes.{goes, unmoved}
-use Rattle.events.proofs.Answering.{answered_refused, numbered, turn_told}
+use Rattle.events.proofs.Answering.{answered_refused, turn_told}
 use Rattle.events.proofs.ToldWords.{refusal_kept, told_out}
 
 pub record Going (telling : Bool) (count : ℕ) (records state₀ sectors₀ staging₀ out₀ state sectors staging out : List ℕ) (i : ℕ) : Type 0 where
@@ -61,7 +64,7 @@ machine_after {e = e} {state} {sectors} {staging} h t =
 taken_turn : {telling : Bool} {e : Event} {state sectors staging out : List ℕ} {n : ℕ} {state' sectors' staging' out' : List ℕ} → 21 ≤ length state → n ≡ 0
     → Turn telling e state sectors staging out n state' sectors' staging' out'
     → TurnTaken (machine_in state sectors staging) e out (machine_in state' sectors' staging') out'
-taken_turn h z t = record { machine = machine_after h t; out = rw z at (told_out _ _ (numbered _ _) t.told) }
+taken_turn h z t = record { machine = machine_after h t; out = rw z at (told_out _ _ t.told) }
 
 quiet_refusal : {telling : Bool} {e : Event} {state sectors staging out : List ℕ} {n : ℕ} {state' sectors' staging' out' : List ℕ} → telling ≡ false
     → Turn telling e state sectors staging out n state' sectors' staging' out' → n ≡ refusal_in (answer_to (machine_in state sectors staging) e)
@@ -104,7 +107,7 @@ stopped : (records state sectors staging out : List ℕ) (n : ℕ) (state' secto
     → Turn false (event_of records) state sectors staging out n state' sectors' staging' part → Worked false 1 records state sectors staging out n state' sectors' staging' part
 unfolding final events_in
 stopped records state sectors staging out n state' sectors' staging' part z t =
-    record { number = t.told.number; state = t.answered.state; sectors = t.answered.sectors; staging = t.answered.staging; out = told_out _ _ (numbered _ _) t.told ∙ kept_by n z _ _ }
+    record { number = t.told.number; state = t.answered.state; sectors = t.answered.sectors; staging = t.answered.staging; out = told_out _ _ t.told ∙ kept_by n z _ _ }
   where
     kept_by : (n : ℕ) → (n ≡ 0 → ⊥) → (x y : List ℕ) → unless_refused n out x ≡ unless_refused n out y
     kept_by zero h x y = absurd (h refl)
@@ -157,11 +160,11 @@ worked_none count records state sectors staging out h z = rw z (record { number 
 -- ---- a state that rows 11 and 10 refuse
 
 -- the one event of a quiet batch
-pub refused_quietly : (records state sectors staging out : List ℕ) (n : ℕ) → 21 ≤ length state → n ≡ judgement (drive_in state) sectors staging → (n ≡ 0 → ⊥)
-    → Worked false 1 records state sectors staging out n state sectors staging out
-refused_quietly records state sectors staging out n h j z =
-    stopped records state sectors staging out n state sectors staging out z
-    (turn_told (answered_refused (event_of records) state sectors staging n h j z) (refusal_kept false (Refused n) n out refl refl))
+pub refused_quietly : (records state sectors staging out : List ℕ) (refusal : Refusal) → 21 ≤ length state → number refusal ≡ judgement (drive_in state) sectors staging
+    → Worked false 1 records state sectors staging out (number refusal) state sectors staging out
+refused_quietly records state sectors staging out refusal h j =
+    stopped records state sectors staging out (number refusal) state sectors staging out (number_is_not_0 refusal)
+    (turn_told (answered_refused (event_of records) state sectors staging refusal h j) (refusal_kept false (Refused refusal) refusal out refl refl))
 
 -- with no staging words every event is refused, with 11, else 10
 no_staging : (d : Drive) (sectors : List ℕ) (unsound : Bool) → row11 d ≡ unsound → pick unsound 11 10 ≡ judgement d sectors []
@@ -175,35 +178,35 @@ pub refused_short : {records state sectors out : List ℕ} {r : ℕ} {state' sec
     → Worked false 1 records state sectors [] out r state' sectors' staging' out' → RefusedShort state sectors r state' sectors'
 refused_short {records} {state} {sectors} {out} h w =
     let unsound = row11 (drive_in state) in
-    let some = either (λ (n : ℕ). n ≡ 0 → ⊥) unsound {x = 11} {y = 10} (λ z. omega arith) (λ z. omega arith) in
-    let q = refused_quietly records state sectors [] out (pick unsound 11 10) h (no_staging (drive_in state) sectors unsound refl) some in
-    record { number = w.number ∙ sym q.number; state = w.state ∙ sym q.state; sectors = w.sectors ∙ sym q.sectors }
+    let named_right = either (λ (n : ℕ). number (named n) ≡ n) unsound {x = 11} {y = 10} refl refl in
+    let q = refused_quietly records state sectors [] out (named (pick unsound 11 10)) h (named_right ∙ no_staging (drive_in state) sectors unsound refl) in
+    record { number = w.number ∙ sym q.number ∙ named_right; state = w.state ∙ sym q.state; sectors = w.sectors ∙ sym q.sectors }
 
-front_or_last : (n count : ℕ) → refusals n count ++ answer_words (Refused n) ≡ answer_words (Refused n) ++ refusals n count
+front_or_last : (refusal : Refusal) (count : ℕ) → refusals refusal count ++ answer_words (Refused refusal) ≡ answer_words (Refused refusal) ++ refusals refusal count
 unfolding refusals
-front_or_last n zero = sym (append-nil (answer_words (Refused n)))
-front_or_last n (suc count) =
-    let ws = answer_words (Refused n) in
-    ap (λ (l : List ℕ). l ++ ws) (front_or_last n count) ∙ append_assoc ws (refusals n count) ws
+front_or_last refusal zero = sym (append-nil (answer_words (Refused refusal)))
+front_or_last refusal (suc count) =
+    let ws = answer_words (Refused refusal) in
+    ap (λ (l : List ℕ). l ++ ws) (front_or_last refusal count) ∙ append_assoc ws (refusals refusal count) ws
 
 -- a machine that refuses every event stays, and tells so many refusals
-pub record AllRefused (m : Machine) (n count : ℕ) (records : List ℕ) : Type 0 where
+pub record AllRefused (m : Machine) (refusal : Refusal) (count : ℕ) (records : List ℕ) : Type 0 where
   pub end : final m (events_in count records) ≡ m
-  pub words : words_of_answers (answers m (events_in count records)) ≡ refusals n count
+  pub words : words_of_answers (answers m (events_in count records)) ≡ refusals refusal count
 
-all_refused_lem : (m : Machine) (n : ℕ) → ((e : Event) → answer_to m e ≡ Refused n) → ((e : Event) → after m e ≡ m) → (count : ℕ) (records : List ℕ)
-    → AllRefused m n count records
+all_refused_lem : (m : Machine) (refusal : Refusal) → ((e : Event) → answer_to m e ≡ Refused refusal) → ((e : Event) → after m e ≡ m) → (count : ℕ) (records : List ℕ)
+    → AllRefused m refusal count records
 unfolding final answers words_of_answers events_in refusals
-all_refused_lem m n refuses stays zero records = record { end = refl; words = refl }
-all_refused_lem m n refuses stays (suc count) records =
+all_refused_lem m refusal refuses stays zero records = record { end = refl; words = refl }
+all_refused_lem m refusal refuses stays (suc count) records =
     let e = event_of records in
     let es = events_in count (drop 8 records) in
-    let ws = answer_words (Refused n) in
-    let rest = all_refused_lem m n refuses stays count (drop 8 records) in
+    let ws = answer_words (Refused refusal) in
+    let rest = all_refused_lem m refusal refuses stays count (drop 8 records) in
     record {
       end = ap (λ (x : Machine). final x es) (stays e) ∙ rest.end;
       words = ap (λ (a : Answer). answer_words a ++ words_of_answers (answers (after m e) es)) (refuses e) ∙ ap (λ (x : Machine). ws ++ words_of_answers (answers x es)) (stays e)
-          ∙ ap (λ (l : List ℕ). ws ++ l) rest.words ∙ sym (front_or_last n count);
+          ∙ ap (λ (l : List ℕ). ws ++ l) rest.words ∙ sym (front_or_last refusal count);
     }
 
 still : (state sectors staging : List ℕ) (e : Event) → (judgement (drive_in state) sectors staging ≡ 0 → ⊥)
@@ -212,11 +215,11 @@ unfolding after
 still state sectors staging e z = rw (refused_as_judged (drive_in state) e sectors staging z)
 
 -- a batch that tells
-pub refused_all : (count : ℕ) (records state sectors staging out : List ℕ) (n : ℕ) {out' : List ℕ} → 21 ≤ length state → n ≡ judgement (drive_in state) sectors staging
-    → (n ≡ 0 → ⊥) → out' ≡ written_over out (refusals n count) → Worked true count records state sectors staging out 0 state sectors staging out'
+pub refused_all : (count : ℕ) (records state sectors staging out : List ℕ) (refusal : Refusal) {out' : List ℕ} → 21 ≤ length state
+    → number refusal ≡ judgement (drive_in state) sectors staging → out' ≡ written_over out (refusals refusal count) → Worked true count records state sectors staging out 0 state sectors staging out'
 unfolding pick
-refused_all count records state sectors staging out n h j z w =
-    let k = all_refused_lem (machine_in state sectors staging) n refuses (λ e. still state sectors staging e (λ y. z (j ∙ y))) count records in
+refused_all count records state sectors staging out refusal h j w =
+    let k = all_refused_lem (machine_in state sectors staging) refusal refuses (λ e. still state sectors staging e (λ y. number_is_not_0 refusal (j ∙ y))) count records in
     record {
       number = refl;
       state = sym (unmoved state h) ∙ sym (ap (λ (m : Machine). state_after state m.drive) k.end);
@@ -225,28 +228,28 @@ refused_all count records state sectors staging out n h j z w =
       out = rw k.words w;
     }
   where
-    refuses : (e : Event) → answer_to (machine_in state sectors staging) e ≡ Refused n
-    refuses e = sym (answered_refused e state sectors staging n h j z).answer
+    refuses : (e : Event) → answer_to (machine_in state sectors staging) e ≡ Refused refusal
+    refuses e = sym (answered_refused e state sectors staging refusal h j).answer
 
 -- so many of the refusals are written
-pub record Refusing (n : ℕ) (out₀ out : List ℕ) (i : ℕ) : Type 0 where
-  pub front : take (13 * i) out ≡ refusals n i
+pub record Refusing (refusal : Refusal) (out₀ out : List ℕ) (i : ℕ) : Type 0 where
+  pub front : take (13 * i) out ≡ refusals refusal i
   pub left : drop (13 * i) out ≡ drop (13 * i) out₀
 
-pub refusing_start : (n : ℕ) (out : List ℕ) → Refusing n out out 0
+pub refusing_start : (refusal : Refusal) (out : List ℕ) → Refusing refusal out out 0
 unfolding refusals
-refusing_start n out = record { front = refl; left = refl }
+refusing_start refusal out = record { front = refl; left = refl }
 
-pub refusing_next : (n : ℕ) (out₀ out part : List ℕ) (i : ℕ) → 13 * i ≤ length out → Refusing n out₀ out i
-    → part ≡ written_over (take (length out - 13 * i) (drop (13 * i) out)) (answer_words (Refused n))
-    → Refusing n out₀ (take (13 * i) out ++ (part ++ drop (length out - 13 * i) (drop (13 * i) out))) (i + 1)
+pub refusing_next : (refusal : Refusal) (out₀ out part : List ℕ) (i : ℕ) → 13 * i ≤ length out → Refusing refusal out₀ out i
+    → part ≡ written_over (take (length out - 13 * i) (drop (13 * i) out)) (answer_words (Refused refusal))
+    → Refusing refusal out₀ (take (13 * i) out ++ (part ++ drop (length out - 13 * i) (drop (13 * i) out))) (i + 1)
 unfolding refusals
-refusing_next n out₀ out part i h g p =
-    let ws = answer_words (Refused n) in
-    let put = run_behind (refusals n i) ws out₀ out part (13 * i) h g.front g.left (rw (rest_whole out (13 * i)) at p) in
+refusing_next refusal out₀ out part i h g p =
+    let ws = answer_words (Refused refusal) in
+    let put = run_behind (refusals refusal i) ws out₀ out part (13 * i) h g.front g.left (rw (rest_whole out (13 * i)) at p) in
     let one : i + 1 ≡ suc i = omega arith in
-    let size : 13 * suc i ≡ 13 * i + length ws = rw (thirteen (Refused n)) (omega arith) in
+    let size : 13 * suc i ≡ 13 * i + length ws = rw (thirteen (Refused refusal)) (omega arith) in
     rw (one, lent_rest out part (13 * i) h) (record { front = rw size put.0; left = rw size put.1 })
 
-pub refusing_ended : (n count : ℕ) (out₀ out : List ℕ) (i : ℕ) → i ≡ count → 13 * count ≤ length out → Refusing n out₀ out i → out ≡ written_over out₀ (refusals n count)
-refusing_ended n count out₀ out i e room g = rw (← e) (whole_run out out₀ (refusals n i) (13 * i) (omega arith) g.front g.left)
+pub refusing_ended : (refusal : Refusal) (count : ℕ) (out₀ out : List ℕ) (i : ℕ) → i ≡ count → 13 * count ≤ length out → Refusing refusal out₀ out i → out ≡ written_over out₀ (refusals refusal count)
+refusing_ended refusal count out₀ out i e room g = rw (← e) (whole_run out out₀ (refusals refusal i) (13 * i) (omega arith) g.front g.left)

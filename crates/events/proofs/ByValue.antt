@@ -33,7 +33,7 @@ use Rattle.events.proofs.Promises.{refused_answer, as_the_drive, as_after}
 status_fits : (s : Setup) (answer : Answer) (rest : List ℕ) → Bounded s answer → (get_or (answer_words answer ++ rest) 1 0 ≡ 0xFFFF → ⊥)
     → get_or (answer_words answer ++ rest) 1 0 < 256
 unfolding answer_words paper
-status_fits s (Refused n) rest b h = absurd (h refl)
+status_fits s (Refused refusal) rest b h = absurd (h refl)
 status_fits s Done rest b h = absurd (h refl)
 status_fits s (Status status) rest b h = each_one_of (λ n. n < 256) statuses status b (omega arith, (omega arith, (omega arith, (omega arith, tt))))
 status_fits s (Opened words place) rest b h = absurd (h refl)
@@ -44,7 +44,7 @@ status_fits s (Response first second third) rest b h = omega arith
 -- what follows them is not read
 front_read : (answer : Answer) (rest : List ℕ) → accepted_in (answer_words answer ++ rest) ≡ accepted_in (answer_words answer)
 unfolding answer_words paper
-front_read (Refused n) rest = refl
+front_read (Refused refusal) rest = refl
 front_read Done rest = refl
 front_read (Status status) rest = refl
 front_read (Opened words place) rest = refl

@@ -3,6 +3,8 @@
 use Rattle.std.proofs.Common.{◌≡◌, ℕ, Bool, true, false, ltb, List, sym, refl, ap, ◌∙◌, true≢false}
 use Rattle.laws.specs.Pick.{pick}
 use Rattle.laws.specs.Rows.{first}
+use Rattle.refusals.specs.Refusal.{number}
+use Rattle.refusals.specs.declared.refusal.Refusal.{Refusal}
 use Rattle.parts.specs.Holding.{nobody}
 use Rattle.parts.specs.Kind.{Kind}
 use Rattle.parts.specs.declared.event.Event.{Event}
@@ -55,25 +57,25 @@ pub did_in : {state state' : List ℕ} {r : Answer} {o : Outcome} (sectors stagi
     → DidIn state (result o sectors staging) r state' sectors staging
 did_in sectors staging d = record { answer = d.answer; state = d.state; sectors = refl; staging = refl }
 
-pub did_refused : (k : Kind) (state : List ℕ) (e : Event) (accepted : Outcome) (n : ℕ) → Fit state → n ≡ first (own_rows k (drive_in state) e) → (n ≡ 0 → ⊥)
-    → Did state (unless_own_row k (drive_in state) e accepted) (Refused n) state
-did_refused k state e accepted n f p h = did_as _ _ (own_refused k (drive_in state) e accepted n p h) (did_nothing (Refused n) f)
+pub did_refused : (k : Kind) (state : List ℕ) (e : Event) (accepted : Outcome) (refusal : Refusal) → Fit state → number refusal ≡ first (own_rows k (drive_in state) e)
+    → Did state (unless_own_row k (drive_in state) e accepted) (Refused refusal) state
+did_refused k state e accepted refusal f p = did_as _ _ (own_refused k (drive_in state) e accepted refusal p) (did_nothing (Refused refusal) f)
 
-pub did_accepted : (k : Kind) (state : List ℕ) (e : Event) (accepted : Outcome) (n : ℕ) {r : Answer} {state' : List ℕ}
-    → n ≡ first (own_rows k (drive_in state) e) → n ≡ 0 → Did state accepted r state' → Did state (unless_own_row k (drive_in state) e accepted) r state'
-did_accepted k state e accepted n p z d = did_as _ _ (own_accepted k (drive_in state) e accepted accepted n p z refl) d
+pub did_accepted : (k : Kind) (state : List ℕ) (e : Event) (accepted : Outcome) {r : Answer} {state' : List ℕ}
+    → 0 ≡ first (own_rows k (drive_in state) e) → Did state accepted r state' → Did state (unless_own_row k (drive_in state) e accepted) r state'
+did_accepted k state e accepted p d = did_as _ _ (own_accepted k (drive_in state) e accepted p) d
 
-pub did_refused_in : (k : Kind) (state : List ℕ) (e : Event) (sectors staging : List ℕ) (accepted : Result) (n : ℕ) → Fit state
-    → n ≡ first (own_rows k (drive_in state) e) → (n ≡ 0 → ⊥)
-    → DidIn state (unless_own_row_in k (drive_in state) e sectors staging accepted) (Refused n) state sectors staging
-did_refused_in k state e sectors staging accepted n f p h =
-    did_as_in _ _ (own_refused_in k (drive_in state) e sectors staging accepted n p h) (did_in sectors staging (did_nothing (Refused n) f))
+pub did_refused_in : (k : Kind) (state : List ℕ) (e : Event) (sectors staging : List ℕ) (accepted : Result) (refusal : Refusal) → Fit state
+    → number refusal ≡ first (own_rows k (drive_in state) e)
+    → DidIn state (unless_own_row_in k (drive_in state) e sectors staging accepted) (Refused refusal) state sectors staging
+did_refused_in k state e sectors staging accepted refusal f p =
+    did_as_in _ _ (own_refused_in k (drive_in state) e sectors staging accepted refusal p) (did_in sectors staging (did_nothing (Refused refusal) f))
 
-pub did_accepted_in : (k : Kind) (state : List ℕ) (e : Event) (sectors staging : List ℕ) (accepted : Result) (n : ℕ) {r : Answer} {state' sectors' staging' : List ℕ}
-    → n ≡ first (own_rows k (drive_in state) e) → n ≡ 0 → DidIn state accepted r state' sectors' staging'
+pub did_accepted_in : (k : Kind) (state : List ℕ) (e : Event) (sectors staging : List ℕ) (accepted : Result) {r : Answer} {state' sectors' staging' : List ℕ}
+    → 0 ≡ first (own_rows k (drive_in state) e) → DidIn state accepted r state' sectors' staging'
     → DidIn state (unless_own_row_in k (drive_in state) e sectors staging accepted) r state' sectors' staging'
-did_accepted_in k state e sectors staging accepted n p z d =
-    did_as_in _ _ (own_accepted_in k (drive_in state) e sectors staging accepted accepted n p z refl) d
+did_accepted_in k state e sectors staging accepted p d =
+    did_as_in _ _ (own_accepted_in k (drive_in state) e sectors staging accepted p) d
 
 -- by a test that a callee answered
 pub did_first : (test r : Bool) (a b : Outcome) {answer : Answer} {state state' : List ℕ} → r ≡ test → r ≡ true → Did state a answer state'

@@ -3,17 +3,22 @@
 use Rattle.std.proofs.Common.{◌≡◌, ℕ, zero, suc, ◌+◌, ◌-◌, ◌*◌, ◌/◌, ◌%◌, ◌^◌, ◌<◌, ◌≤◌, min, Bool, true, false, not, ◌||◌, eqb, ltb, List, length, get_or, take, drop, set, sym, refl, ap, ◌∙◌, zero-add, arith, ltb-false, eq-eqb, ne_eqb}
 use native.Mathlib.Nat.{min-le_right}
 use lib.Seq.{paste, paste-zero, paste-suc, take-length}
+use Rattle.std.specs.Prelude.{Ok, Err}
+use Rattle.refusals.specs.Refusal.{number}
+use Rattle.refusals.specs.declared.refusal.Refusal.{Refusal}
+use Rattle.refusals.specs.declared.refusal.Refusal.TheVariants.{Malformed, SliceTooShort}
+use Rattle.refusals.proofs.OnPaper.{left_as_it_was, value_given}
 use Rattle.laws.specs.Lists.{written_over, table_from}
 use Rattle.laws.proofs.Lists.{table_from_lem, length_table, take_table, drop_table}
 use Rattle.laws.specs.Pick.{pick}
+use Rattle.laws.proofs.Rows.{Passed, all_passed}
 use Rattle.laws.proofs.Runs.{run_read}
 use Rattle.laws.proofs.Tests.{or_l, or_r, same_test_lem}
 use Rattle.drive.specs.Batch.{events_in, record_count}
 use Rattle.drive.proofs.Turns.{event_count, events_taken, events_dropped}
 use Rattle.events.specs.Event.{machine_in}
-use Rattle.events.specs.Part.{part, part_of, tick_at, gap, gap_at, gaps_of, part_refusal, PartOnWords}
+use Rattle.events.specs.Part.{part, part_of, tick_at, gap, gap_at, gaps_of, part_rows, part_refusal, PartOnWords}
 use Rattle.events.specs.Turn.{Worked}
-use Rattle.events.specs.declared.part.Part.TheVariants.{Ran, Refused}
 use Rattle.events.proofs.Batches.{worked_none}
 
 -- ---- how many there are
@@ -112,23 +117,23 @@ part_refusal_lem state records from limit answers gaps {count} e =
     rw (same, room) (rows_joined (ltb (length state) 21) (ltb (length answers / 13) count) (ltb (length gaps) count) _)
 
 -- refused, and nothing changed
-part_refused : (state records : List ℕ) (from limit : ℕ) (sectors staging answers gaps : List ℕ) (n : ℕ) → part_refusal state records from limit answers gaps ≡ suc n
-    → PartOnWords state records from limit sectors staging answers gaps (Refused (suc n)) state sectors staging answers gaps
-part_refused state records from limit sectors staging answers gaps n e =
-    record { answer = rw e; on_paper = rw e; state = refl; sectors = refl; staging = refl; answers = refl; gaps = refl }
+part_refused : (state records : List ℕ) (from limit : ℕ) (sectors staging answers gaps : List ℕ) (refusal : Refusal) → part_refusal state records from limit answers gaps ≡ number refusal
+    → PartOnWords state records from limit sectors staging answers gaps (Err refusal) state sectors staging answers gaps
+part_refused state records from limit sectors staging answers gaps refusal e =
+    record { answer = rw e (sym (left_as_it_was refusal _ refl)); state = sym (left_as_it_was refusal _ refl); sectors = sym (left_as_it_was refusal _ refl); staging = sym (left_as_it_was refusal _ refl); answers = sym (left_as_it_was refusal _ refl); gaps = sym (left_as_it_was refusal _ refl) }
 
 pub part_short : (state records : List ℕ) (from limit : ℕ) (sectors staging answers gaps : List ℕ) {count : ℕ} → count ≡ min limit (record_count records - from)
-    → is_short state answers gaps count ≡ true → PartOnWords state records from limit sectors staging answers gaps (Refused 10) state sectors staging answers gaps
+    → is_short state answers gaps count ≡ true → PartOnWords state records from limit sectors staging answers gaps (Err SliceTooShort) state sectors staging answers gaps
 unfolding pick
 part_short state records from limit sectors staging answers gaps e h =
-    part_refused state records from limit sectors staging answers gaps 9 (part_refusal_lem state records from limit answers gaps e ∙ rw h)
+    part_refused state records from limit sectors staging answers gaps SliceTooShort (part_refusal_lem state records from limit answers gaps e ∙ rw h)
 
 pub part_not_whole : (state records : List ℕ) (from limit : ℕ) (sectors staging answers gaps : List ℕ) {count : ℕ} → count ≡ min limit (record_count records - from)
     → is_short state answers gaps count ≡ false → (length records % 8 ≡ 0 → ⊥)
-    → PartOnWords state records from limit sectors staging answers gaps (Refused 8) state sectors staging answers gaps
+    → PartOnWords state records from limit sectors staging answers gaps (Err Malformed) state sectors staging answers gaps
 unfolding pick
 part_not_whole state records from limit sectors staging answers gaps e h n =
-    part_refused state records from limit sectors staging answers gaps 7 (part_refusal_lem state records from limit answers gaps e ∙ rw (h, ne_eqb (length records % 8) 0 n))
+    part_refused state records from limit sectors staging answers gaps Malformed (part_refusal_lem state records from limit answers gaps e ∙ rw (h, ne_eqb (length records % 8) 0 n))
 
 -- room for what will be run
 pub record Roomy (state records : List ℕ) (from : ℕ) (answers gaps : List ℕ) (count : ℕ) : Type 0 where
@@ -152,7 +157,7 @@ pub part_worked : {state records : List ℕ} {from limit : ℕ} {sectors staging
     → count ≡ min limit (record_count records - from) → is_short state answers gaps count ≡ false → length records % 8 ≡ 0
     → Worked true count (drop (8 * from) records) state sectors staging answers r state' sectors' staging' answers'
     → gaps' ≡ written_over gaps (table_from (gap_at records) from count)
-    → PartOnWords state records from limit sectors staging answers gaps (Ran count) state' sectors' staging' answers' gaps'
+    → PartOnWords state records from limit sectors staging answers gaps (Ok count) state' sectors' staging' answers' gaps'
 unfolding pick
 part_worked {state} {records} {from} {limit} {sectors} {staging} {answers} {gaps} {count} e h n w told =
     let m = machine_in state sectors staging in
@@ -162,7 +167,6 @@ part_worked {state} {records} {from} {limit} {sectors} {staging} {answers} {gaps
     let z = w.number in
     record {
       answer = rw (none, ← size);
-      on_paper = rw (none, ← size);
       state = rw (← events) w.state;
       sectors = rw (← events) w.sectors;
       staging = rw (← events) w.staging;
@@ -173,8 +177,16 @@ part_worked {state} {records} {from} {limit} {sectors} {staging} {answers} {gaps
 -- no event at all
 pub part_none : (state records : List ℕ) (from limit : ℕ) (sectors staging answers gaps : List ℕ) {count : ℕ} → count ≡ min limit (record_count records - from)
     → is_short state answers gaps count ≡ false → length records % 8 ≡ 0 → count ≡ 0
-    → PartOnWords state records from limit sectors staging answers gaps (Ran 0) state sectors staging answers gaps
+    → PartOnWords state records from limit sectors staging answers gaps (Ok 0) state sectors staging answers gaps
 part_none state records from limit sectors staging answers gaps {count} e h n z =
     let long = (part_room state records from limit answers gaps e h).long in
     let told : gaps ≡ written_over gaps (table_from (gap_at records) from count) = rw z in
     rw z at (part_worked e h n (worked_none count (drop (8 * from) records) state sectors staging answers long z) told)
+
+-- what a part that was run passed
+pub part_ran : {state records : List ℕ} {from limit : ℕ} {sectors staging answers gaps : List ℕ} {n : ℕ} {state' sectors' staging' answers' gaps' : List ℕ}
+    → PartOnWords state records from limit sectors staging answers gaps (Ok n) state' sectors' staging' answers' gaps'
+    → (n ≡ length (part_of records from limit)) × Passed (part_rows state records from limit answers gaps)
+part_ran {state} {records} {from} {limit} {answers = answers} {gaps} call =
+    let given = value_given (part_rows state records from limit answers gaps) call.answer in
+    (given.1, all_passed (part_rows state records from limit answers gaps) refl given.0)

@@ -6,19 +6,21 @@ use Rattle.laws.specs.Pick.{pick}
 use Rattle.laws.specs.Rows.{first, unless_refused}
 use Rattle.laws.specs.Lists.{written_over}
 use Rattle.laws.proofs.Tests.{or_l, or_r}
-use Rattle.laws.proofs.Rows.{reported}
+use Rattle.refusals.specs.Refusal.{named}
+use Rattle.refusals.proofs.OnPaper.{of_its_number, reported_by_name}
 use Rattle.parts.specs.Kind.{kind_of}
 use Rattle.parts.specs.declared.event.Event.{Event}
 use Rattle.drive.specs.Answer.{refusal_in}
 use Rattle.drive.specs.Accepted.{is_refused}
-use Rattle.drive.specs.State.{Result}
+use Rattle.drive.specs.State.{Result, told, result}
 use Rattle.drive.specs.Refusal.{row11, row10, rows, refusal_of}
-use Rattle.drive.specs.Event.{refused_with, handled}
+use Rattle.drive.specs.Event.{handled}
 use Rattle.drive.specs.Run.{Machine, answer_to, after, answers, final}
 use Rattle.drive.specs.AnswerWords.{answer_words, words_of_answers}
 use Rattle.drive.specs.Batch.{event_of, events_in, record_count, batch_refusal}
 use Rattle.drive.specs.declared.answer.Answer.{Answer}
 use Rattle.drive.specs.declared.answer.Answer.TheVariants.{Refused, Done, Status, Opened, Word, LastWord, Response}
+use Rattle.drive.proofs.EveryAnswer.{named_right}
 use Rattle.drive.proofs.Laws.{done_by, accepts, refused_changes_nothing}
 use Rattle.drive.proofs.Turns.{out_too_short, not_whole, whole_with_room}
 use Rattle.events.specs.State.{drive_in, state_after}
@@ -51,7 +53,7 @@ no_room_for_answer {state} {e} {sectors} {staging} {answer} {r} h k n = rw (n.st
         rw z (event_refused state e sectors staging answer 9 (rw (le-ltb (length state) 21 h, u, lt-ltb (length answer) 13 k, or-true (row10 (drive_in state).setup sectors staging))))
 
 pub numbered_refused : (answer : Answer) → (refusal_in answer ≡ 0 → ⊥) → is_refused answer ≡ true
-numbered_refused (Refused n) h = refl
+numbered_refused (Refused refusal) h = refl
 numbered_refused Done h = absurd (h refl)
 numbered_refused (Status s) h = absurd (h refl)
 numbered_refused (Opened n p) h = absurd (h refl)
@@ -59,8 +61,8 @@ numbered_refused (Word w) h = absurd (h refl)
 numbered_refused (LastWord w) h = absurd (h refl)
 numbered_refused (Response octet0 octet1 octet2) h = absurd (h refl)
 
-pub refused_answer : (answer : Answer) (n : ℕ) → refusal_in answer ≡ suc n → answer ≡ Refused (suc n)
-refused_answer (Refused m) n e = ap Refused e
+pub refused_answer : (answer : Answer) (n : ℕ) → refusal_in answer ≡ suc n → answer ≡ Refused (named (suc n))
+refused_answer (Refused refusal) n e = ap Refused (sym (of_its_number refusal) ∙ ap named e)
 refused_answer Done n e = absurd (omega arith)
 refused_answer (Status s) n e = absurd (omega arith)
 refused_answer (Opened m p) n e = absurd (omega arith)
@@ -78,8 +80,9 @@ row_told : (m : Machine) (e : Event) → refusal_in (answer_to m e) ≡ first (r
 unfolding answer_to handled refusal_of
 row_told m e =
     let k = kind_of e.kind in
-    reported (λ (r : Result). refusal_in r.outcome.answer) (λ n. refused_with n m.drive m.sectors m.staging) (λ n. refl)
-    (first (rows k m.drive e m.sectors m.staging)) (done_by k m e) (unnumbered (done_by k m e).outcome.answer _ refl (accepts k m e))
+    reported_by_name (λ (r : Result). refusal_in r.outcome.answer) (λ refusal. result (told (Refused refusal) m.drive) m.sectors m.staging) (λ refusal. refl)
+    (first (rows k m.drive e m.sectors m.staging)) (λ n z. rw z (named_right k m.drive e m.sectors m.staging n z)) (done_by k m e)
+    (unnumbered (done_by k m e).outcome.answer _ refl (accepts k m e))
 
 -- with a state to judge and room for the answer, the call refuses as the drive does
 pub as_the_drive : (state : List ℕ) (e : Event) (sectors staging answer : List ℕ) → 21 ≤ length state → 13 ≤ length answer

@@ -1,6 +1,7 @@
 -- From what a kind did on the words to the whole rule, on a state that rows 11 and 10 let pass.
 -- Assumes nothing.
 use Rattle.std.proofs.Common.{◌≡◌, ℕ, true, false, List, sym, refl}
+use Rattle.refusals.specs.declared.refusal.Refusal.TheVariants.{NoSuchPort, Malformed}
 use Rattle.parts.specs.Kind.{Kind, Unknown, kind_of}
 use Rattle.parts.specs.declared.event.Event.{Event}
 use Rattle.drive.specs.State.{result}
@@ -29,11 +30,11 @@ pub stepped_in : (state : List ℕ) (e : Event) (sectors staging : List ℕ) (k 
 stepped_in state e sectors staging k f p z d = did_as_in _ _ (sym (handled_by_kind (drive_in state) e sectors staging k f.passable p z)) d
 
 pub refused_1 : (state : List ℕ) (e : Event) (sectors staging : List ℕ) → Fits state sectors staging → row1 e ≡ true
-    → DidIn state (handled (drive_in state) e sectors staging) (Refused 1) state sectors staging
+    → DidIn state (handled (drive_in state) e sectors staging) (Refused NoSuchPort) state sectors staging
 refused_1 state e sectors staging f p =
-    did_as_in _ _ (sym (refused_with_1 (drive_in state) e sectors staging f.passable p)) (did_in sectors staging (did_nothing (Refused 1) (fit f)))
+    did_as_in _ _ (sym (refused_with_1 (drive_in state) e sectors staging f.passable p)) (did_in sectors staging (did_nothing (Refused NoSuchPort) (fit f)))
 
 pub refused_8 : (state : List ℕ) (e : Event) (sectors staging : List ℕ) → Fits state sectors staging → row1 e ≡ false → kind_of e.kind ≡ Unknown
-    → DidIn state (handled (drive_in state) e sectors staging) (Refused 8) state sectors staging
+    → DidIn state (handled (drive_in state) e sectors staging) (Refused Malformed) state sectors staging
 refused_8 state e sectors staging f p z =
-    did_as_in _ _ (sym (refused_with_8 (drive_in state) e sectors staging f.passable p z)) (did_in sectors staging (did_nothing (Refused 8) (fit f)))
+    did_as_in _ _ (sym (refused_with_8 (drive_in state) e sectors staging f.passable p z)) (did_in sectors staging (did_nothing (Refused Malformed) (fit f)))

@@ -9,7 +9,10 @@ use Rattle.laws.proofs.Lists.{length_table}
 use Rattle.laws.specs.Octets.{AllOctets}
 use Rattle.laws.proofs.Octets.{octets_taken, octets_dropped, number_fits}
 use Rattle.laws.proofs.Pick.{not_f}
-use Rattle.laws.proofs.Rows.{accepted, none_given}
+use Rattle.laws.proofs.Rows.{none_given}
+use Rattle.std.specs.Prelude.{Result, Ok}
+use Rattle.refusals.specs.declared.refusal.Refusal.{Refusal}
+use Rattle.refusals.proofs.OnPaper.{paper_only}
 use Rattle.parts.specs.declared.event.Event.{Event}
 use Rattle.drive.specs.Run.{Machine, machine, answers, final}
 use Rattle.drive.specs.AnswerWords.{answer_words, words_of_answers}
@@ -23,10 +26,8 @@ use Rattle.events.specs.Event.{machine_in}
 use Rattle.events.specs.Run.{run_rows, RunOnWords}
 use Rattle.events.specs.Part.{part, part_of, tick_at, gap, gap_at, gaps_of, part_rows, part_refusal}
 use Rattle.events.specs.Stops.{Lending, PartCall, SameDrive, Counts, Joined, Difference, StopsOnRequest}
-use Rattle.events.specs.declared.part.Part.{Part}
-use Rattle.events.specs.declared.part.Part.TheVariants.{Ran, Refused}
 use Rattle.events.proofs.Goes.{unmoved, goes_along}
-use Rattle.events.proofs.Parts.{part_count, part_gaps, gone_round_lem}
+use Rattle.events.proofs.Parts.{part_count, part_gaps, gone_round_lem, part_ran}
 
 -- ---- lists
 
@@ -72,14 +73,10 @@ record Went (w : Lending) (records : List ℕ) (from limit n : ℕ) (w' : Lendin
 pub gap_count : (records : List ℕ) (from limit : ℕ) → length (part from limit (gaps_of records)) ≡ length (part_of records from limit)
 gap_count records from limit = ap length (part_gaps records from limit) ∙ length_table (gap_at records) from _ ∙ sym (part_count records from limit)
 
-went : {w w' : Lending} {records : List ℕ} {from limit n : ℕ} → PartCall w records from limit (Ran n) w' → Went w records from limit n w'
+went : {w w' : Lending} {records : List ℕ} {from limit n : ℕ} → PartCall w records from limit (Ok n) w' → Went w records from limit n w'
 went {w} {records = records} {from} {limit} {n} call =
     let events = part_of records from limit in
-    let rows = part_rows w.state records from limit w.answers w.gaps in
-    let a = accepted rows Refused (Ran n) (Ran (length events)) refl (λ k e. cc) call.answer in
-    let same : Ran n ≡ Ran (length events) = a.0 in
-    let count : n ≡ length events = cc in
-    let passed = a.1 in
+    let (count, passed) = part_ran call in
     record {
       long = ltb-false (length w.state) 21 passed.0;
       whole = eqb-true (length records % 8) 0 (not-false _ passed.1.1.1.0);
@@ -91,19 +88,19 @@ went {w} {records = records} {from} {limit} {n} call =
     }
 
 -- with room for all of the records it is not refused
-pub not_refused : {w w' : Lending} {records : List ℕ} {from limit : ℕ} {r : Part} → 21 ≤ length w.state → 13 * record_count records ≤ length w.answers
-    → record_count records ≤ length w.gaps → length records % 8 ≡ 0 → PartCall w records from limit r w' → r ≡ Ran (length (part_of records from limit))
+pub not_refused : {w w' : Lending} {records : List ℕ} {from limit : ℕ} {r : Result ℕ Refusal} → 21 ≤ length w.state → 13 * record_count records ≤ length w.answers
+    → record_count records ≤ length w.gaps → length records % 8 ≡ 0 → PartCall w records from limit r w' → r ≡ Ok (length (part_of records from limit))
 not_refused {w} {records = records} {from} {limit} long told gapped whole call =
     let count = length (part_of records from limit) in
     let few : count ≤ record_count records = rw (part_count records from limit) (omega (arith, min-le_right limit (record_count records - from))) in
     let free : part_refusal w.state records from limit w.answers w.gaps ≡ 0 =
     none_given (part_rows w.state records from limit w.answers w.gaps)
     (le-ltb (length w.state) 21 long, (le-ltb (length w.answers) (13 * count) (omega (arith, few)), (le-ltb (length w.gaps) count (omega (arith, few)), (not_f _ (eq-eqb (length records % 8) 0 whole), tt)))) in
-    call.answer ∙ rw free
+    paper_only (call.answer ∙ rw free)
 
 -- ---- what it counts
 
-counts : {w w' : Lending} {records : List ℕ} {from limit n : ℕ} → PartCall w records from limit (Ran n) w' → Counts w records from limit n
+counts : {w w' : Lending} {records : List ℕ} {from limit n : ℕ} → PartCall w records from limit (Ok n) w' → Counts w records from limit n
 counts {w} {records = records} {from} {limit} {n} call =
     let g = went call in
     let all = drop from (events_of records) in
@@ -125,7 +122,7 @@ pub record Stands (w : Lending) (events : List Event) (v : Lending) : Type 0 whe
   pub machine : machine_of v ≡ final (machine_of w) events
   pub again : (d : Drive) → state_after v.state d ≡ state_after w.state d
 
-pub stands : {u u' v : Lending} {records : List ℕ} {from limit n : ℕ} → PartCall u records from limit (Ran n) u' → SameDrive v u' → Stands u (part_of records from limit) v
+pub stands : {u u' v : Lending} {records : List ℕ} {from limit n : ℕ} → PartCall u records from limit (Ok n) u' → SameDrive v u' → Stands u (part_of records from limit) v
 stands {u} {records = records} {from} {limit} call same =
     let events = part_of records from limit in
     let g = goes_along u.state u.sectors u.staging events (went call).long in
@@ -136,8 +133,8 @@ stands {u} {records = records} {from} {limit} call same =
       again = λ d. ap (λ (l : List ℕ). state_after l d) state ∙ g.again d;
     }
 
-joined : {u u' v v' w w' : Lending} {records : List ℕ} {from a b n₁ n₂ n : ℕ} → PartCall u records from a (Ran n₁) u'
-    → SameDrive v u' → PartCall v records (from + n₁) b (Ran n₂) v' → SameDrive w u → PartCall w records from (a + b) (Ran n) w' → Joined n₁ u' n₂ v' n w'
+joined : {u u' v v' w w' : Lending} {records : List ℕ} {from a b n₁ n₂ n : ℕ} → PartCall u records from a (Ok n₁) u'
+    → SameDrive v u' → PartCall v records (from + n₁) b (Ok n₂) v' → SameDrive w u → PartCall w records from (a + b) (Ok n) w' → Joined n₁ u' n₂ v' n w'
 joined {u} {u'} {v} {v'} {w} {w'} {records} {from} {a} {b} {n₁} {n₂} {n} one on two anew both =
     let first = part_of records from a in
     let second = part_of records (from + n₁) b in
@@ -166,7 +163,7 @@ joined {u} {u'} {v} {v'} {w} {w'} {records} {from} {a} {b} {n₁} {n₂} {n} one
 
 -- ---- all of the records, and none
 
-whole : {w w' : Lending} {records : List ℕ} {limit n : ℕ} → PartCall w records 0 limit (Ran n) w' → record_count records ≤ limit
+whole : {w w' : Lending} {records : List ℕ} {limit n : ℕ} → PartCall w records 0 limit (Ok n) w' → record_count records ≤ limit
     → RunOnWords w.state records w.sectors w.staging w.answers 0 w'.state w'.sectors w'.staging w'.answers
     × (w'.answers ≡ written_over w.answers (words_of_answers (answers (machine_of w) (events_of records))))
     × (w'.gaps ≡ written_over w.gaps (gaps_of records))
@@ -190,7 +187,7 @@ whole {w} {w'} {records} {limit} {n} call h =
       call.gaps ∙ ap (written_over w.gaps) gaps,
     )
 
-nothing : {w w' : Lending} {records : List ℕ} {from n : ℕ} → PartCall w records from 0 (Ran n) w' → (n ≡ 0) × (w' ≡ w)
+nothing : {w w' : Lending} {records : List ℕ} {from n : ℕ} → PartCall w records from 0 (Ok n) w' → (n ≡ 0) × (w' ≡ w)
 unfolding final answers words_of_answers
 nothing {w} call =
     let g = went call in (

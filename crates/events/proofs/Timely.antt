@@ -6,6 +6,9 @@ use borrow.Author.Tests.{eqb-false, not-true, not-false}
 use Rattle.laws.specs.Rows.{first, ◌when◌}
 use Rattle.laws.proofs.Tests.{and_l, and_r, or_l, or_r}
 use Rattle.laws.specs.Pick.{pick}
+use Rattle.refusals.specs.Refusal.{number}
+use Rattle.refusals.specs.declared.refusal.Refusal.{Refusal}
+use Rattle.refusals.proofs.OnPaper.{number_is_not_0}
 use Rattle.parts.specs.Control.{control_of, is_write, is_read, takes_words, gives_words, is_data, words_to_come}
 use Rattle.parts.specs.Holding.{nobody}
 use Rattle.parts.specs.Tests.{is_taking, is_giving, is_open, is_broken_transfer}
@@ -104,31 +107,31 @@ pub number_as : (unselected : Bool) {n : ℕ} {formed formed' untimely untimely'
     → formed ≡ formed' → untimely ≡ untimely' → n ≡ first (8 when not formed' ∷ 2 when unselected ∷ 7 when untimely' ∷ [])
 number_as unselected e f t = rw (← f, ← t) e
 
-front : (malformed unselected untimely : Bool) → (first (8 when malformed ∷ 2 when unselected ∷ []) ≡ 0 → ⊥)
-    → first (8 when malformed ∷ 2 when unselected ∷ []) ≡ first (8 when malformed ∷ 2 when unselected ∷ 7 when untimely ∷ [])
+front : (malformed unselected untimely : Bool) (refusal : Refusal) → number refusal ≡ first (8 when malformed ∷ 2 when unselected ∷ [])
+    → number refusal ≡ first (8 when malformed ∷ 2 when unselected ∷ 7 when untimely ∷ [])
 unfolding pick
-front true unselected untimely h = refl
-front false true untimely h = refl
-front false false untimely h = absurd (h refl)
+front true unselected untimely refusal e = e
+front false true untimely refusal e = e
+front false false untimely refusal e = absurd (number_is_not_0 refusal e)
 
-behind : (malformed unselected untimely : Bool) → first (8 when malformed ∷ 2 when unselected ∷ []) ≡ 0
+behind : (malformed unselected untimely : Bool) → 0 ≡ first (8 when malformed ∷ 2 when unselected ∷ [])
     → pick untimely 7 0 ≡ first (8 when malformed ∷ 2 when unselected ∷ 7 when untimely ∷ [])
 unfolding pick
-behind true unselected untimely h = let e : ◌≡◌ {A = ℕ} 8 0 = h in absurd (omega arith)
-behind false true untimely h = let e : ◌≡◌ {A = ℕ} 2 0 = h in absurd (omega arith)
+behind true unselected untimely h = let e : ◌≡◌ {A = ℕ} 0 8 = h in absurd (omega arith)
+behind false true untimely h = let e : ◌≡◌ {A = ℕ} 0 2 = h in absurd (omega arith)
 behind false false untimely h = refl
 
 -- the number of `stranger` where it is one, and where it is none
-pub number_front : (unselected untimely : Bool) {n : ℕ} {formed formed' : Bool} → n ≡ first (8 when not formed ∷ 2 when unselected ∷ []) → formed ≡ formed'
-    → (n ≡ 0 → ⊥) → n ≡ first (8 when not formed' ∷ 2 when unselected ∷ 7 when untimely ∷ [])
-number_front unselected untimely {formed' = formed'} e f h = let g = rw f at e in g ∙ front (not formed') unselected untimely (λ z. h (g ∙ z))
+pub number_front : (refusal : Refusal) (unselected untimely : Bool) {formed formed' : Bool} → number refusal ≡ first (8 when not formed ∷ 2 when unselected ∷ []) → formed ≡ formed'
+    → number refusal ≡ first (8 when not formed' ∷ 2 when unselected ∷ 7 when untimely ∷ [])
+number_front refusal unselected untimely {formed' = formed'} e f = front (not formed') unselected untimely refusal (rw f at e)
 
-pub number_passed : (unselected untimely : Bool) {n : ℕ} {formed formed' : Bool} → n ≡ first (8 when not formed ∷ 2 when unselected ∷ []) → formed ≡ formed'
-    → n ≡ 0 → untimely ≡ false → 0 ≡ first (8 when not formed' ∷ 2 when unselected ∷ 7 when untimely ∷ [])
+pub number_passed : (unselected untimely : Bool) {formed formed' : Bool} → 0 ≡ first (8 when not formed ∷ 2 when unselected ∷ []) → formed ≡ formed'
+    → untimely ≡ false → 0 ≡ first (8 when not formed' ∷ 2 when unselected ∷ 7 when untimely ∷ [])
 unfolding pick
-number_passed unselected untimely {formed' = formed'} e f z u = let g = rw f at e in rw u (behind (not formed') unselected false (sym g ∙ z))
+number_passed unselected untimely {formed' = formed'} e f u = rw u (behind (not formed') unselected false (rw f at e))
 
-pub number_last : (unselected untimely : Bool) {n : ℕ} {formed formed' : Bool} → n ≡ first (8 when not formed ∷ 2 when unselected ∷ []) → formed ≡ formed'
-    → n ≡ 0 → untimely ≡ true → 7 ≡ first (8 when not formed' ∷ 2 when unselected ∷ 7 when untimely ∷ [])
+pub number_last : (unselected untimely : Bool) {formed formed' : Bool} → 0 ≡ first (8 when not formed ∷ 2 when unselected ∷ []) → formed ≡ formed'
+    → untimely ≡ true → 7 ≡ first (8 when not formed' ∷ 2 when unselected ∷ 7 when untimely ∷ [])
 unfolding pick
-number_last unselected untimely {formed' = formed'} e f z u = let g = rw f at e in rw u (behind (not formed') unselected true (sym g ∙ z))
+number_last unselected untimely {formed' = formed'} e f u = rw u (behind (not formed') unselected true (rw f at e))

@@ -4,6 +4,9 @@ use Rattle.std.proofs.Common.{◌≡◌, ℕ, zero, suc, ◌+◌, ◌*◌, Bool,
 use Rattle.laws.specs.Pick.{pick}
 use Rattle.laws.specs.Lists.{written_over}
 use Rattle.laws.specs.Rows.{unless_refused}
+use Rattle.refusals.specs.Refusal.{number}
+use Rattle.refusals.specs.declared.refusal.Refusal.{Refusal}
+use Rattle.refusals.proofs.OnPaper.{left_as_it_was, told_by_name}
 use Rattle.parts.specs.declared.setup.Place.{Place}
 use Rattle.events.specs.Turn.{Telling}
 use Rattle.drive.specs.Accepted.{is_refused}
@@ -16,9 +19,9 @@ use Rattle.drive.specs.declared.answer.Answer.TheVariants.{Refused, Done, Status
 abbrev IsDone : List ℕ → List ℕ → Type 0
 IsDone out done = done ≡ written_over out (answer_words Done)
 
-pub refused_over : (n : ℕ) (out done : List ℕ) → IsDone out done → set done 0 n ≡ written_over out (answer_words (Refused n))
+pub refused_over : (refusal : Refusal) (out done : List ℕ) → IsDone out done → set done 0 (number refusal) ≡ written_over out (answer_words (Refused refusal))
 unfolding answer_words paper
-refused_over n out done e = rw e
+refused_over refusal out done e = rw e
 
 pub status_over : (s : ℕ) (out done : List ℕ) → IsDone out done → set done 1 s ≡ written_over out (answer_words (Status s))
 unfolding answer_words paper
@@ -47,39 +50,30 @@ unfolding pick
 accepted_told true answer known out out' e a z w = rw e (record { number = refl; out = w })
 accepted_told false answer known out out' e a z w = rw e (record { number = sym z; out = rw a w })
 
-pub refusal_told : (telling : Bool) (answer : Answer) (n : ℕ) (out out' : List ℕ) → answer ≡ Refused n → telling ≡ true → out' ≡ written_over out (answer_words (Refused n))
+pub refusal_told : (telling : Bool) (answer : Answer) (refusal : Refusal) (out out' : List ℕ) → answer ≡ Refused refusal → telling ≡ true → out' ≡ written_over out (answer_words (Refused refusal))
     → Telling telling answer out 0 out'
 unfolding pick
-refusal_told telling answer n out out' e t w = rw (e, t) (record { number = refl; out = w })
+refusal_told telling answer refusal out out' e t w = rw (e, t) (record { number = refl; out = w })
 
-pub refusal_kept : (telling : Bool) (answer : Answer) (n : ℕ) (out : List ℕ) → answer ≡ Refused n → telling ≡ false → Telling telling answer out n out
+pub refusal_kept : (telling : Bool) (answer : Answer) (refusal : Refusal) (out : List ℕ) → answer ≡ Refused refusal → telling ≡ false → Telling telling answer out (number refusal) out
 unfolding pick
-refusal_kept telling answer n out e t = rw (e, t) (record { number = refl; out = refl })
-
--- a refusal has a number that is not 0: 0 stands for none
-abbrev pub Numbered : Answer → Type 0
-Numbered answer = is_refused answer ≡ true → refusal_in answer ≡ 0 → ⊥
+refusal_kept telling answer refusal out e t = rw (e, t) (record { number = refl; out = refl })
 
 -- by the number that is handed back, where a refusal has one
-pub told_out : (telling : Bool) (answer : Answer) {out out' : List ℕ} {n : ℕ} → Numbered answer → Telling telling answer out n out'
+pub told_out : (telling : Bool) (answer : Answer) {out out' : List ℕ} {n : ℕ} → Telling telling answer out n out'
     → out' ≡ unless_refused n out (written_over out (answer_words answer))
 unfolding pick
-told_out true answer h t = rw t.number t.out
-told_out false (Refused m) {out} h t = rw t.number (t.out ∙ kept m (h refl))
-  where
-    kept : (m : ℕ) → (m ≡ 0 → ⊥) → out ≡ unless_refused m out (written_over out (answer_words (Refused m)))
-    kept zero z = absurd (z refl)
-    kept (suc m) z = refl
-told_out false Done h t = rw t.number t.out
-told_out false (Status s) h t = rw t.number t.out
-told_out false (Opened n p) h t = rw t.number t.out
-told_out false (Word w) h t = rw t.number t.out
-told_out false (LastWord w) h t = rw t.number t.out
-told_out false (Response octet0 octet1 octet2) h t = rw t.number t.out
+told_out true answer t = rw t.number t.out
+told_out false (Refused refusal) t = rw t.number (t.out ∙ sym (left_as_it_was refusal _ refl))
+told_out false Done t = rw t.number t.out
+told_out false (Status s) t = rw t.number t.out
+told_out false (Opened n p) t = rw t.number t.out
+told_out false (Word w) t = rw t.number t.out
+told_out false (LastWord w) t = rw t.number t.out
+told_out false (Response octet0 octet1 octet2) t = rw t.number t.out
 
 -- ---- read back
 
-pub refused_in : (n : ℕ) (words : List ℕ) → (n ≡ 0 → ⊥) → Refused n ≡ answer_in n words
+pub refused_in : (refusal : Refusal) (words : List ℕ) → Refused refusal ≡ answer_in (number refusal) words
 unfolding answer_in
-refused_in zero words z = absurd (z refl)
-refused_in (suc n) words z = refl
+refused_in refusal words = told_by_name Refused refusal _ refl

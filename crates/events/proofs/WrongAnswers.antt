@@ -5,17 +5,12 @@ use Rattle.laws.proofs.Differ.{told_apart}
 use Rattle.drive.specs.Answer.{refusal_in}
 use Rattle.drive.specs.AnswerWords.{or_ffff}
 use Rattle.drive.specs.declared.drive.Drive.{Drive}
-use Rattle.events.specs.declared.part.Part.{Part}
-use Rattle.events.specs.declared.part.Part.TheVariants.{Ran, Refused}
 use Rattle.events.specs.WrongAnswers.{WrongAnswers}
 use Rattle.events.proofs.Computing.{computing_words}
-
-count_in : Part → ℕ
-count_in (Ran count) = count
-count_in (Refused n) = 0
+use Rattle.events.proofs.Parts.{part_ran}
 
 pub wrong_answers : WrongAnswers
-unfolding computing_words count_in
+unfolding computing_words
 wrong_answers =
     record {
       refuses_all = λ h. told_apart 6 0 refl (ap refusal_in h.answer);
@@ -46,8 +41,8 @@ wrong_answers =
       eight_for_no_record = λ h. told_apart 8 0 refl h.refusal;
       record_left_out = λ h. told_apart 2 0 refl (ap (λ words. get_or words 7 0) h.state);
       answers_twelve_apart = λ h. told_apart 0xFFFF 6 refl (ap (λ words. get_or words 13 0) h.out);
-      refused_not_counted = λ left h. told_apart 1 2 refl (ap count_in h.answer);
-      one_more_than_the_limit = λ left h. told_apart 2 1 refl (ap count_in h.answer);
+      refused_not_counted = λ left h. told_apart 1 2 refl (part_ran h).0;
+      one_more_than_the_limit = λ left h. told_apart 2 1 refl (part_ran h).0;
       one_record_late = λ h. told_apart 1 0 refl (ap (λ words. get_or words 7 0) h.state);
       gap_to_the_next = λ h. told_apart 4 0 refl (ap (λ words. get_or words 0 0) h.gaps);
       gap_forgotten = λ h. told_apart 0 4 refl (ap (λ words. get_or words 0 0) h.gaps);

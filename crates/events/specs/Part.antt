@@ -1,16 +1,16 @@
 -- `replay_part`, M-103: "a replay that takes at most a given number of events and reports how many events it ran", and the ticks between neighbours.
-use Rattle.std.specs.Prelude.{◌≡◌, ℕ, zero, suc, ◌+◌, ◌-◌, ◌*◌, ◌%◌, not, List, [], ◌∷◌, length, take, drop, ◌==◌, nat_lt}
-use Rattle.laws.specs.Rows.{Row, first, ◌when◌, unless_refused, Paper, refused_with, tells, refused_or}
+use Rattle.std.specs.Prelude.{◌≡◌, ℕ, zero, suc, ◌+◌, ◌-◌, ◌*◌, ◌%◌, not, List, [], ◌∷◌, length, take, drop, Result, ◌==◌, nat_lt}
+use Rattle.laws.specs.Rows.{Row, first, ◌when◌, unless_refused, refused_or}
 use Rattle.laws.specs.Octets.{number_of}
 use Rattle.laws.specs.Lists.{written_over, table_from}
+use Rattle.refusals.specs.Refusal.{on_paper, refusal_in}
+use Rattle.refusals.specs.declared.refusal.Refusal.{Refusal}
 use Rattle.parts.specs.declared.event.Event.{Event}
 use Rattle.drive.specs.Run.{answers, final}
 use Rattle.drive.specs.AnswerWords.{words_of_answers}
 use Rattle.drive.specs.Batch.{events_of, record_count}
 use Rattle.events.specs.State.{state_after}
 use Rattle.events.specs.Event.{machine_in}
-use Rattle.events.specs.declared.part.Part.{Part}
-use Rattle.events.specs.declared.part.Part.TheVariants.{Ran, Refused}
 
 -- "at most a given number": of a list those from an index on, counted from 0, and no more than the limit.
 abbrev pub part : {A : Type 0} → ℕ → ℕ → List A → List A
@@ -50,26 +50,9 @@ part_rows state records from limit answers gaps =
 abbrev pub part_refusal : List ℕ → List ℕ → ℕ → ℕ → List ℕ → List ℕ → ℕ
 part_refusal state records from limit answers gaps = first (part_rows state records from limit answers gaps)
 
--- The answer on paper: the number of the refusal, or how many events were run.
-abbrev pub paper : Part → Paper ℕ
-paper (Ran count) = tells count
-paper (Refused n) = refused_with n
-
--- The number that an answer refuses with, 0 where it refuses nothing.
-abbrev pub refusal_in : Part → ℕ
-refusal_in (Ran count) = 0
-refusal_in (Refused n) = n
-
--- "that number equals the count of records consumed by the definition, refused events counted too"
-abbrev pub part_answer : List ℕ → List ℕ → ℕ → ℕ → List ℕ → List ℕ → Part
-part_answer state records from limit answers gaps =
-    let n = part_refusal state records from limit answers gaps in
-    unless_refused n (Refused n) (Ran (length (part_of records from limit)))
-
--- The promise of `replay_part`.
-pub record PartOnWords (state₀ records : List ℕ) (from limit : ℕ) (sectors₀ staging₀ answers₀ gaps₀ : List ℕ) (r : Part) (state₁ sectors₁ staging₁ answers₁ gaps₁ : List ℕ) : Type 0 where
-  pub answer : r ≡ part_answer state₀ records from limit answers₀ gaps₀
-  pub on_paper : paper r ≡ refused_or (part_rows state₀ records from limit answers₀ gaps₀) (length (part_of records from limit))
+-- The promise of `replay_part`: "that number equals the count of records consumed by the definition, refused events counted too".
+pub record PartOnWords (state₀ records : List ℕ) (from limit : ℕ) (sectors₀ staging₀ answers₀ gaps₀ : List ℕ) (r : Result ℕ Refusal) (state₁ sectors₁ staging₁ answers₁ gaps₁ : List ℕ) : Type 0 where
+  pub answer : on_paper r ≡ refused_or (part_rows state₀ records from limit answers₀ gaps₀) (length (part_of records from limit))
   pub state : state₁ ≡ unless_refused (refusal_in r) state₀ (state_after state₀ (final (machine_in state₀ sectors₀ staging₀) (part_of records from limit)).drive)
   pub sectors : sectors₁ ≡ unless_refused (refusal_in r) sectors₀ (final (machine_in state₀ sectors₀ staging₀) (part_of records from limit)).sectors
   pub staging : staging₁ ≡ unless_refused (refusal_in r) staging₀ (final (machine_in state₀ sectors₀ staging₀) (part_of records from limit)).staging

@@ -1,15 +1,14 @@
 -- M-103's sentences on a replay that stops on request, said of every outcome that the promise of `replay_part` allows.
-use Rattle.std.specs.Prelude.{◌≡◌, ℕ, ◌+◌, ◌-◌, ◌*◌, ◌%◌, ◌<◌, ◌≤◌, min, List, ◌++◌, length, take, drop}
+use Rattle.std.specs.Prelude.{◌≡◌, ℕ, ◌+◌, ◌-◌, ◌*◌, ◌%◌, ◌<◌, ◌≤◌, min, List, ◌++◌, length, take, drop, Result, Ok}
 use Rattle.laws.specs.Lists.{written_over}
 use Rattle.laws.specs.Octets.{AllOctets}
+use Rattle.refusals.specs.declared.refusal.Refusal.{Refusal}
 use Rattle.drive.specs.Run.{answers}
 use Rattle.drive.specs.AnswerWords.{words_of_answers}
 use Rattle.drive.specs.Batch.{events_of, record_count}
 use Rattle.events.specs.Event.{machine_in}
 use Rattle.events.specs.Run.{RunOnWords}
 use Rattle.events.specs.Part.{part_of, tick_at, gap, gaps_of, PartOnWords}
-use Rattle.events.specs.declared.part.Part.{Part}
-use Rattle.events.specs.declared.part.Part.TheVariants.{Ran}
 
 -- What a call is handed to change, and what it leaves: state, sectors and staging; answers and gaps.
 pub record Lending : Type 0 where
@@ -20,7 +19,7 @@ pub record Lending : Type 0 where
   pub gaps : List ℕ
 
 -- A call on what is lent.
-abbrev pub PartCall : Lending → List ℕ → ℕ → ℕ → Part → Lending → Type 0
+abbrev pub PartCall : Lending → List ℕ → ℕ → ℕ → Result ℕ Refusal → Lending → Type 0
 PartCall w records from limit r w' =
     PartOnWords w.state records from limit w.sectors w.staging w.answers w.gaps r w'.state w'.sectors w'.staging w'.answers w'.gaps
 
@@ -55,19 +54,19 @@ pub record Difference (earlier later n : ℕ) : Type 0 where
   pub below : n < 65536
 
 pub record StopsOnRequest : Type 0 where
-  pub part_counts : {w w' : Lending} {records : List ℕ} {from limit n : ℕ} → PartCall w records from limit (Ran n) w' → Counts w records from limit n
+  pub part_counts : {w w' : Lending} {records : List ℕ} {from limit n : ℕ} → PartCall w records from limit (Ok n) w' → Counts w records from limit n
   pub parts_join : {u u' v v' w w' : Lending} {records : List ℕ} {from a b n₁ n₂ n : ℕ}
-      → PartCall u records from a (Ran n₁) u'
-      → SameDrive v u' → PartCall v records (from + n₁) b (Ran n₂) v'
-      → SameDrive w u → PartCall w records from (a + b) (Ran n) w'
+      → PartCall u records from a (Ok n₁) u'
+      → SameDrive v u' → PartCall v records (from + n₁) b (Ok n₂) v'
+      → SameDrive w u → PartCall w records from (a + b) (Ok n) w'
       → Joined n₁ u' n₂ v' n w'
   -- A replay of all the records is the run of them.
-  pub whole_part : {w w' : Lending} {records : List ℕ} {limit n : ℕ} → PartCall w records 0 limit (Ran n) w' → record_count records ≤ limit
+  pub whole_part : {w w' : Lending} {records : List ℕ} {limit n : ℕ} → PartCall w records 0 limit (Ok n) w' → record_count records ≤ limit
       → RunOnWords w.state records w.sectors w.staging w.answers 0 w'.state w'.sectors w'.staging w'.answers
       × (w'.answers ≡ written_over w.answers (words_of_answers (answers (machine_in w.state w.sectors w.staging) (events_of records))))
       × (w'.gaps ≡ written_over w.gaps (gaps_of records))
   -- "A limit of 0 runs nothing."
-  pub nothing_of_0 : {w w' : Lending} {records : List ℕ} {from n : ℕ} → PartCall w records from 0 (Ran n) w' → (n ≡ 0) × (w' ≡ w)
+  pub nothing_of_0 : {w w' : Lending} {records : List ℕ} {from n : ℕ} → PartCall w records from 0 (Ok n) w' → (n ≡ 0) × (w' ≡ w)
   -- "ticks are 16 bits"
   pub ticks_fit : (records : List ℕ) → AllOctets records → (i : ℕ) → tick_at records i < 65536
   -- "the gap is the later tick less the earlier one, going round", and no other number is.

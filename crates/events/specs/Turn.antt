@@ -3,6 +3,7 @@ use Rattle.std.specs.Prelude.{◌≡◌, ℕ, zero, suc, ◌*◌, ◌<◌, ◌�
 use Rattle.laws.specs.Pick.{pick}
 use Rattle.laws.specs.Rows.{unless_refused}
 use Rattle.laws.specs.Lists.{written_over}
+use Rattle.refusals.specs.declared.refusal.Refusal.{Refusal}
 use Rattle.parts.specs.declared.event.Event.{Event}
 use Rattle.drive.specs.Answer.{refusal_in}
 use Rattle.drive.specs.Refusal.{row11}
@@ -34,9 +35,9 @@ pub record Told (words : List ℕ) : Type 0 where
   pub status : (slice_index words 1 ≢ 0xFFFF) → slice_index words 1 < 256
 
 -- The words of so many refusals.
-unfoldable pub refusals : ℕ → ℕ → List ℕ
-refusals n zero = []
-refusals n (suc count) = refusals n count ++ answer_words (Refused n)
+unfoldable pub refusals : Refusal → ℕ → List ℕ
+refusals refusal zero = []
+refusals refusal (suc count) = refusals refusal count ++ answer_words (Refused refusal)
 
 -- An event on any words of a state.
 pub record Answered (e : Event) (state₀ sectors₀ staging₀ : List ℕ) (r : Answer) (state₁ sectors₁ staging₁ : List ℕ) : Type 0 where

@@ -1,6 +1,7 @@
 -- Wrong answers of the public calls: what a careless programmer would get, and no promise allows.
-use Rattle.std.specs.Prelude.{ℕ, ◌*◌, List, [], ◌∷◌, ◌++◌, take, drop, replicate, slice_set}
+use Rattle.std.specs.Prelude.{ℕ, ◌*◌, List, [], ◌∷◌, ◌++◌, take, drop, replicate, Ok, slice_set}
 use Rattle.laws.specs.Octets.{octets_of}
+use Rattle.refusals.specs.declared.refusal.Refusal.TheVariants.{NotOurAddress, Busy, TransferOpenOrNot}
 use Rattle.parts.specs.Pending.{alternate_port_priority_select, pending_of, nothing_pending}
 use Rattle.parts.specs.Tests.{transferring}
 use Rattle.parts.specs.declared.setup.Setup.{Setup}
@@ -21,7 +22,6 @@ use Rattle.events.specs.Power.{PoweredUpOnWords}
 use Rattle.events.specs.Event.{EventOnWords}
 use Rattle.events.specs.Run.{RunOnWords}
 use Rattle.events.specs.Stops.{Lending, PartCall}
-use Rattle.events.specs.declared.part.Part.TheVariants.{Ran}
 
 -- A sector's words: header, field 1 and field 2 of the bench drive.
 abbrev pub sector : ℕ → ℕ → ℕ → ℕ → List ℕ
@@ -97,7 +97,7 @@ lent_at_rest = lent_with (state_words (at_rest bench)) (replicate 26 0) (replica
 pub record WrongAnswers : Type 0 where
   -- ---- `handle`
   -- A drive that refuses all: here the selection of a free one.
-  pub refuses_all : Handles (at_rest bench) (sent 0 1 0x30 0) zeros zeros (Refused 6) (at_rest bench) zeros zeros → ⊥
+  pub refuses_all : Handles (at_rest bench) (sent 0 1 0x30 0) zeros zeros (Refused Busy) (at_rest bench) zeros zeros → ⊥
   -- A drive that does nothing: it grants the selection, and nobody is selected.
   pub does_nothing : Handles (at_rest bench) (sent 0 1 0x30 0) zeros zeros Done (at_rest bench) zeros zeros → ⊥
   -- 0 for the reserved control D0.
@@ -123,7 +123,7 @@ pub record WrongAnswers : Type 0 where
   pub clears_with_c : Handles (warned 0x80) (sent 0 8 0 1) zeros zeros (Status 0xC) (warned 0) zeros zeros → ⊥
   -- A request that is refused clears octet 2: a write is open.
   pub refused_yet_clears : Handles (with_transfer (faulty 0x80 0) (transferring 0x85 2)) (sent 0 8 0 1) zeros zeros
-      (Refused 7) (with_transfer (faulty 0 0) (transferring 0x85 2)) zeros zeros → ⊥
+      (Refused TransferOpenOrNot) (with_transfer (faulty 0 0) (transferring 0x85 2)) zeros zeros → ⊥
   -- A bad request adds its bit to the one that was ignored.
   pub bits_add_up : Handles (faulty 0x80 0) (sent 0 8 0 3) zeros zeros (Status 8) (faulty 0xC0 0) zeros zeros → ⊥
   -- The code that reads status clears at its opening.
@@ -145,7 +145,7 @@ pub record WrongAnswers : Type 0 where
   -- A state of 13 words is taken.
   pub state_of13_taken : Answers (take 13 (state_words (at_rest bench))) (sent 0 1 0x30 0) 0 (take 13 (state_words (selected_by 0 None))) (answer_words Done) → ⊥
   -- Answer words are written for a refused event.
-  pub refusal_answered : Answers (state_words (at_rest bench)) (sent 0 1 0x40 0) 4 (state_words (at_rest bench)) (answer_words (Refused 4)) → ⊥
+  pub refusal_answered : Answers (state_words (at_rest bench)) (sent 0 1 0x40 0) 4 (state_words (at_rest bench)) (answer_words (Refused NotOurAddress)) → ⊥
   -- A hold of 3 is taken for a strong one: the other port is told 6.
   pub hold_of3_taken : Answers (slice_set (state_words (selected_by 0 Strong)) 9 3) (sent 1 1 0x33 0) 6 (slice_set (state_words (selected_by 0 Strong)) 9 3) (replicate 13 0) → ⊥
   -- 10 for a state that is not sound, since the answer's slice is too short: 11 is tested first.
@@ -161,18 +161,18 @@ pub record WrongAnswers : Type 0 where
   pub record_left_out : Runs (selection 0) 1 0 (state_words (at_rest bench)) (answer_words Done) → ⊥
   -- Answers twelve words apart.
   pub answers_twelve_apart : Runs (selection 0 ++ selection 1) 2
-      0 (state_words (selected_by 0 None)) (take 12 (answer_words Done) ++ answer_words (Refused 6) ++ (0 ∷ [])) → ⊥
+      0 (state_words (selected_by 0 None)) (take 12 (answer_words Done) ++ answer_words (Refused Busy) ++ (0 ∷ [])) → ⊥
   -- ---- `replay_part`
   -- A count that leaves refused events out, whatever is told of them.
-  pub refused_not_counted : (left : Lending) → PartCall lent_at_rest (both_select 0 0) 0 2 (Ran 1) left → ⊥
+  pub refused_not_counted : (left : Lending) → PartCall lent_at_rest (both_select 0 0) 0 2 (Ok 1) left → ⊥
   -- A limit taken as one more.
-  pub one_more_than_the_limit : (left : Lending) → PartCall lent_at_rest (both_select 0 0) 0 1 (Ran 2) left → ⊥
+  pub one_more_than_the_limit : (left : Lending) → PartCall lent_at_rest (both_select 0 0) 0 1 (Ok 2) left → ⊥
   -- A part that begins one record late: port 1 is granted the drive.
-  pub one_record_late : PartCall lent_at_rest (both_select 0 0) 0 1 (Ran 1) (lent_with (state_words (selected_by 1 None)) (answer_words Done ++ replicate 13 0) (0 ∷ 0 ∷ [])) → ⊥
+  pub one_record_late : PartCall lent_at_rest (both_select 0 0) 0 1 (Ok 1) (lent_with (state_words (selected_by 1 None)) (answer_words Done ++ replicate 13 0) (0 ∷ 0 ∷ [])) → ⊥
   -- A gap of the wrong neighbour: each record has the gap to the one behind it.
-  pub gap_to_the_next : PartCall lent_at_rest (both_select 5 9) 0 2 (Ran 2) (lent_with (state_words (selected_by 0 None)) (answer_words Done ++ answer_words (Refused 6)) (4 ∷ 0 ∷ [])) → ⊥
+  pub gap_to_the_next : PartCall lent_at_rest (both_select 5 9) 0 2 (Ok 2) (lent_with (state_words (selected_by 0 None)) (answer_words Done ++ answer_words (Refused Busy)) (4 ∷ 0 ∷ [])) → ⊥
   -- The first gap of a part is 0, though the record before it was run by an earlier call.
   pub gap_forgotten : PartCall (lent_with (state_words (selected_by 0 None)) (replicate 26 0) (replicate 2 0)) (both_select 5 9) 1 1
-      (Ran 1) (lent_with (state_words (selected_by 0 None)) (answer_words (Refused 6) ++ replicate 13 0) (0 ∷ 0 ∷ [])) → ⊥
+      (Ok 1) (lent_with (state_words (selected_by 0 None)) (answer_words (Refused Busy) ++ replicate 13 0) (0 ∷ 0 ∷ [])) → ⊥
   -- A gap that stops at zero where the ticks went round: from FFFF to 1 it is 2.
-  pub gap_not_round : PartCall lent_at_rest (both_select 0xFFFF 1) 0 2 (Ran 2) (lent_with (state_words (selected_by 0 None)) (answer_words Done ++ answer_words (Refused 6)) (0 ∷ 0 ∷ [])) → ⊥
+  pub gap_not_round : PartCall lent_at_rest (both_select 0xFFFF 1) 0 2 (Ok 2) (lent_with (state_words (selected_by 0 None)) (answer_words Done ++ answer_words (Refused Busy)) (0 ∷ 0 ∷ [])) → ⊥

@@ -3,62 +3,64 @@ ghost use Rattle.std.specs.Prelude.{◌≡◌, ◌/◌, ◌%◌, ◌≤◌, leng
 ghost use Rattle.laws.specs.Lists.{written_over};
 ghost use Rattle.drive.specs.AnswerWords.{answer_words, accepted_in, answer_in};
 ghost use Rattle.drive.specs.declared.answer.Answer.TheVariants as answer;
+ghost use Rattle.refusals.specs.Refusal.{refusal_in};
 ghost use Rattle.events.specs.Turn.{Telling, Told};
 
 use crate::answer;
 use drive::Answer;
 use parts::Place;
+use refusals::Refusal;
 
 pub(crate) const ANSWER_WORDS: usize = 13;
 
 const ABSENT: u16 = 0xFFFF;
 
-// The words of the answer, and 0. A refusal that is not to tell writes nothing, and hands its number back.
-pub(crate) fn tell(answer: Answer, telling: bool, out: &mut [u16]) -> u8
+// The words of the answer. A refusal that is not to tell writes nothing, and is handed back.
+pub(crate) fn tell(answer: Answer, telling: bool, out: &mut [u16]) -> Result<(), Refusal>
     requires { 13 ≤ length out.old }
-    ensures { Telling telling answer out.old result out.new }
+    ensures { Telling telling answer out.old (refusal_in result) out.new }
 {
     match answer {
-        Answer::Refused(n) => {
+        Answer::Refused(refusal) => {
             if !telling {
-                return n;
+                return Err(refusal);
             }
-            put_refused(n, out);
-            0
+            put_refused(refusal, out);
+            Ok(())
         }
         Answer::Done => {
             put_done(out);
-            0
+            Ok(())
         }
         Answer::Status(status) => {
             put_status(status, out);
-            0
+            Ok(())
         }
         Answer::Opened(words, place) => {
             put_opened(words, place, out);
-            0
+            Ok(())
         }
         Answer::Word(word) => {
             put_word(word, out);
-            0
+            Ok(())
         }
         Answer::LastWord(word) => {
             put_last_word(word, out);
-            0
+            Ok(())
         }
         Answer::Response(octet0, octet1, octet2) => {
             put_response(octet0, octet1, octet2, out);
-            0
+            Ok(())
         }
     }
 }
 
-pub(crate) fn put_refused(n: u8, out: &mut [u16])
+pub(crate) fn put_refused(refusal: Refusal, out: &mut [u16])
     requires { 13 ≤ length out.old }
-    ensures { out.new ≡ written_over out.old (answer_words (answer.Refused n)) }
+    ensures { out.new ≡ written_over out.old (answer_words (answer.Refused refusal)) }
 {
     put_done(out);
-    out[0] = n as u16;
+    out[0] = u8::from(refusal) as u16;
 }
 
 fn put_status(status: u8, out: &mut [u16])
@@ -130,14 +132,14 @@ fn put_done(out: &mut [u16])
 }
 
 // The answer that a call's refusal and its words tell.
-pub(crate) fn answer_in(refusal: u8, words: &[u16]) -> Answer
+pub(crate) fn answer_in(refused: Result<(), Refusal>, words: &[u16]) -> Answer
     requires { Told words.now }
-    ensures { result ≡ answer_in refusal words.now }
+    ensures { result ≡ answer_in (refusal_in refused) words.now }
 {
-    if refusal != 0 {
-        return Answer::Refused(refusal);
+    match refused {
+        Ok(()) => accepted_in(words),
+        Err(refusal) => Answer::Refused(refusal),
     }
-    accepted_in(words)
 }
 
 fn accepted_in(words: &[u16]) -> Answer

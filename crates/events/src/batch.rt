@@ -4,13 +4,15 @@ ghost use Rattle.std.specs.Prelude.{◌≡◌, ◌*◌, ◌≤◌, length};
 ghost use Rattle.laws.specs.Lists.{written_over};
 ghost use Rattle.drive.specs.Batch.{event_of};
 ghost use Rattle.drive.specs.Able.{judgement};
+ghost use Rattle.refusals.specs.Refusal.{refusal_in};
 ghost use Rattle.events.specs.State.{drive_in};
 ghost use Rattle.events.specs.Turn.{refusals, Lent, Worked};
 
-use crate::{answer_words, judge, step};
+use crate::{answer_words, event, judge, step};
 use parts::Event;
+use refusals::Refusal;
 
-// So many events. The refusal where the one event of a quiet batch was refused, else 0.
+// So many events. The refusal where the one event of a quiet batch was refused.
 pub(crate) fn work(
     state: &mut [u16],
     telling: bool,
@@ -19,35 +21,32 @@ pub(crate) fn work(
     sectors: &mut [u16],
     staging: &mut [u16],
     out: &mut [u16],
-) -> u8
+) -> Result<(), Refusal>
     requires { Lent telling count state.old records.now out.old }
-    ensures { Worked telling count records.now state.old sectors.old staging.old out.old result state.new sectors.new staging.new out.new }
+    ensures { Worked telling count records.now state.old sectors.old staging.old out.old (refusal_in result) state.new sectors.new staging.new out.new }
 {
-    let judged = judge::judge(&state[..], &sectors[..], &staging[..]);
-    if judged == 0 {
-        return each(state, telling, count, records, sectors, staging, out);
+    match judge::judge(&state[..], &sectors[..], &staging[..]) {
+        Ok(()) => each(state, telling, count, records, sectors, staging, out),
+        Err(refusal) => {
+            if !telling {
+                return Err(refusal);
+            }
+            refuse_all(refusal, count, out);
+            Ok(())
+        }
     }
-    if !telling {
-        return judged;
-    }
-    refuse_all(judged, count, out);
-    0
 }
 
 // No event leads a state that rows 11 and 10 refuse out of them.
-fn refuse_all(judged: u8, count: usize, out: &mut [u16])
+fn refuse_all(refusal: Refusal, count: usize, out: &mut [u16])
     requires { 13 * count ≤ length out.old }
-    ensures { out.new ≡ written_over out.old (refusals judged count) }
+    ensures { out.new ≡ written_over out.old (refusals refusal count) }
 {
-    let mut i = 0;
-    while i < count {
-        let at = 13 * i;
-        i += 1;
-        answer_words::put_refused(judged, &mut out[at..]);
+    for i in 0..count {
+        answer_words::put_refused(refusal, &mut out[answer_words::ANSWER_WORDS * i..]);
     }
 }
 
-// There is one at least, and the last is known after it: a test less for a single event.
 fn each(
     state: &mut [u16],
     telling: bool,
@@ -56,26 +55,16 @@ fn each(
     sectors: &mut [u16],
     staging: &mut [u16],
     out: &mut [u16],
-) -> u8
+) -> Result<(), Refusal>
     requires { Lent telling count state.old records.now out.old × (0 ≡ judgement (drive_in state.old) sectors.old staging.old) }
-    ensures { Worked telling count records.now state.old sectors.old staging.old out.old result state.new sectors.new staging.new out.new }
+    ensures { Worked telling count records.now state.old sectors.old staging.old out.old (refusal_in result) state.new sectors.new staging.new out.new }
 {
-    let mut left = count;
-    let mut from = 0;
-    let mut at = 0;
-    loop {
-        let event = event_at(&records[from..]);
-        let n = step::step(state, event, telling, sectors, staging, &mut out[at..]);
-        if n != 0 {
-            return n;
-        }
-        left -= 1;
-        if left == 0 {
-            return 0;
-        }
-        from += 8;
-        at += 13;
+    for i in 0..count {
+        let event = event_at(&records[event::RECORD_OCTETS * i..]);
+        let told = &mut out[answer_words::ANSWER_WORDS * i..];
+        step::step(state, event, telling, sectors, staging, told)?;
     }
+    Ok(())
 }
 
 // The event of the record at the front of the octets.

@@ -12,8 +12,8 @@ pub fn handle(drive: Drive, event: Event, sectors: &mut [u16], staging: &mut [u1
     let mut words: [u16; 21] = [0; 21];
     let mut told: [u16; 13] = [0; 13];
     state::put_state(drive, &mut words);
-    let n = event::answer_event(&mut words, event, sectors, staging, &mut told);
-    let answer = answer_words::answer_in(n, &told);
+    let refused = event::answer_event(&mut words, event, sectors, staging, &mut told);
+    let answer = answer_words::answer_in(refused, &told);
     let after = state::drive_in(&words);
     Outcome {
         answer,

@@ -1,28 +1,30 @@
 // Rows 11 and 10: whether the words are those of a sound state, and whether the slices hold it. The tests that take longest come first, and each
 // ends the others: this is what a single event spends most of its time on.
 ghost use Rattle.std.specs.Prelude.{◌≡◌, ◌≤◌, length};
+ghost use Rattle.refusals.specs.Refusal.{refusal_in};
 ghost use Rattle.drive.specs.Refusal.{row11};
 ghost use Rattle.drive.specs.Able.{judgement};
 ghost use Rattle.events.specs.State.{drive_in};
 ghost use Rattle.events.specs.Unsound.{is_misheld, is_misopened, has_stray};
 
 use crate::{coming, layout, state};
+use refusals::Refusal;
 
 const LAST_HOLD: u16 = 2;
 
-// What rows 11 and 10 say of the state, 0 where both let it pass.
-pub(crate) fn judge(state: &[u16], sectors: &[u16], staging: &[u16]) -> u8
+// What rows 11 and 10 say of the state.
+pub(crate) fn judge(state: &[u16], sectors: &[u16], staging: &[u16]) -> Result<(), Refusal>
     requires { 21 ≤ length state.now }
-    ensures { result ≡ judgement (drive_in state.now) sectors.now staging.now }
+    ensures { refusal_in result ≡ judgement (drive_in state.now) sectors.now staging.now }
 {
     if is_unsound(state) {
-        return parts::UNSOUND_STATE;
+        return Err(Refusal::UnsoundState);
     }
     let setup = state::setup_in(state);
     if setup.lacks_room(sectors.len(), staging.len()) {
-        return parts::SLICE_TOO_SHORT;
+        return Err(Refusal::SliceTooShort);
     }
-    0
+    Ok(())
 }
 
 fn is_unsound(state: &[u16]) -> bool

@@ -13,6 +13,7 @@ ghost use Rattle.events.specs.Fit.{Fit, Did};
 use crate::{answer, layout, pending, place, request, state, timing};
 use drive::Answer;
 use parts::{Event, Place};
+use refusals::Refusal;
 
 pub(crate) fn on_select(state: &mut [u16], event: Event) -> Answer
     requires { Fit state.old }
@@ -26,15 +27,15 @@ pub(crate) fn on_select(state: &mut [u16], event: Event) -> Answer
     let misaddressed = parts::is_misaddressed(octet, s.address);
     let changes_mode = parts::changes_mode(octet);
     let busy = h.is_busy(port, octet);
-    let n = parts::select_refusal(
+    let refused = parts::select_refusal(
         parts::none_after_1(event),
         h.selected == port,
         misaddressed,
         changes_mode,
         busy,
     );
-    if n != 0 {
-        return Answer::Refused(n);
+    if let Err(refusal) = refused {
+        return Answer::Refused(refusal);
     }
     state::put_moved(d.select(port, octet), state);
     Answer::Done
@@ -45,9 +46,8 @@ pub(crate) fn on_deselect(state: &mut [u16], event: Event) -> Answer
     ensures { Did state.old (unless_own_row Kind.Deselect (drive_in state.old) event (told Answer.Done (deselected (drive_in state.old)))) result state.new }
 {
     let formed = parts::none_at_all(event);
-    let n = timing::refusal(&state[..], event.port, formed);
-    if n != 0 {
-        return Answer::Refused(n);
+    if let Err(refusal) = timing::refusal(&state[..], event.port, formed) {
+        return Answer::Refused(refusal);
     }
     let d = state::drive_in(&state[..]);
     state::put_moved(d.deselect(), state);
@@ -59,7 +59,7 @@ pub(crate) fn on_reset(state: &mut [u16], event: Event) -> Answer
     ensures { Did state.old (unless_own_row Kind.Reset (drive_in state.old) event (told Answer.Done (after_reset (drive_in state.old)))) result state.new }
 {
     if !parts::none_at_all(event) {
-        return Answer::Refused(parts::MALFORMED);
+        return Answer::Refused(Refusal::Malformed);
     }
     let d = state::drive_in(&state[..]);
     state::put_moved(d.reset(), state);
@@ -73,9 +73,8 @@ pub(crate) fn on_end(state: &mut [u16], event: Event) -> Answer
     let formed = parts::none_at_all(event);
     let selected = timing::is_selected(&state[..], event.port);
     let closed = !timing::is_one_open(&state[..]);
-    let n = parts::inside_refusal(formed, selected, closed);
-    if n != 0 {
-        return Answer::Refused(n);
+    if let Err(refusal) = parts::inside_refusal(formed, selected, closed) {
+        return Answer::Refused(refusal);
     }
     if parts::is_data(state[layout::CONTROL]) {
         place::end_transfer(state);
@@ -90,9 +89,8 @@ pub(crate) fn on_data_control(state: &mut [u16], event: Event) -> Answer
     ensures { Did state.old (unless_own_row (Kind.Use Work.DataControl) (drive_in state.old) event (data_control (drive_in state.old) event.port event.a0)) result state.new }
 {
     let formed = parts::none_after_1(event);
-    let n = timing::refusal(&state[..], event.port, formed);
-    if n != 0 {
-        return Answer::Refused(n);
+    if let Err(refusal) = timing::refusal(&state[..], event.port, formed) {
+        return Answer::Refused(refusal);
     }
     request::ask(state, event.port, event.a0 as u16)
 }
@@ -101,9 +99,8 @@ pub(crate) fn on_position(state: &mut [u16], event: Event) -> Answer
     requires { Fit state.old × (event.port ≤ 1) }
     ensures { Did state.old (unless_own_row (Kind.Use Work.Position) (drive_in state.old) event (positioned (drive_in state.old) event.port (place_of event))) result state.new }
 {
-    let n = timing::refusal(&state[..], event.port, true);
-    if n != 0 {
-        return Answer::Refused(n);
+    if let Err(refusal) = timing::refusal(&state[..], event.port, true) {
+        return Answer::Refused(refusal);
     }
     let place = Place {
         cylinder: parts::word_of(event),
@@ -118,9 +115,8 @@ pub(crate) fn on_target(state: &mut [u16], event: Event) -> Answer
     ensures { Did state.old (unless_own_row (Kind.Use Work.Target) (drive_in state.old) event (targeted (drive_in state.old) event.port (word_of event))) result state.new }
 {
     let formed = parts::none_after_2(event);
-    let n = timing::refusal(&state[..], event.port, formed);
-    if n != 0 {
-        return Answer::Refused(n);
+    if let Err(refusal) = timing::refusal(&state[..], event.port, formed) {
+        return Answer::Refused(refusal);
     }
     request::aim_at(state, event.port, parts::word_of(event))
 }
@@ -130,9 +126,8 @@ pub(crate) fn on_read_status(state: &mut [u16], event: Event) -> Answer
     ensures { Did state.old (unless_own_row (Kind.Use Work.ReadStatus) (drive_in state.old) event (status_read (drive_in state.old) event.port)) result state.new }
 {
     let formed = parts::none_at_all(event);
-    let n = timing::refusal(&state[..], event.port, formed);
-    if n != 0 {
-        return Answer::Refused(n);
+    if let Err(refusal) = timing::refusal(&state[..], event.port, formed) {
+        return Answer::Refused(refusal);
     }
     pending::tell_status(state, event.port)
 }

@@ -25,5 +25,5 @@ mod words;
 
 pub use by_value::handle;
 pub use event::{answer_event, run_records};
-pub use part::{Part, replay_part};
+pub use part::replay_part;
 pub use power::power_up_words;

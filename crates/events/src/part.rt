@@ -4,15 +4,9 @@ ghost use Rattle.laws.specs.Lists.{written_over, table_from};
 ghost use Rattle.events.specs.Part.{tick_at, gap_at, PartOnWords};
 
 use crate::{answer_words, batch, event, state};
+use refusals::Refusal;
 
-#[derive(Clone, Copy)]
-pub enum Part {
-    // How many events were run.
-    Ran(usize),
-    Refused(u8),
-}
-
-// At most `limit` events, from the record with the index `from` on; 13 words for each answer, and a gap for each event. 10 where a slice is too
+// How many events were run: at most `limit`, from the record with the index `from` on; 13 words for each answer, and a gap for each event. 10 where a slice is too
 // short for what will be run, 8 where the records are not whole.
 pub fn replay_part(
     state: &mut [u16],
@@ -23,7 +17,7 @@ pub fn replay_part(
     staging: &mut [u16],
     answers: &mut [u16],
     gaps: &mut [u16],
-) -> Part
+) -> Result<usize, Refusal>
     ensures { PartOnWords state.old records.now from limit sectors.old staging.old answers.old gaps.old result state.new sectors.new staging.new answers.new gaps.new }
 {
     let count = count_within(records.len() / event::RECORD_OCTETS, from, limit);
@@ -31,13 +25,13 @@ pub fn replay_part(
         | (answers.len() / answer_words::ANSWER_WORDS < count)
         | (gaps.len() < count)
     {
-        return Part::Refused(parts::SLICE_TOO_SHORT);
+        return Err(Refusal::SliceTooShort);
     }
     if records.len() % event::RECORD_OCTETS != 0 {
-        return Part::Refused(parts::MALFORMED);
+        return Err(Refusal::Malformed);
     }
     if count == 0 {
-        return Part::Ran(0);
+        return Ok(0);
     }
     let start = event::RECORD_OCTETS * from;
     put_gaps(records, from, count, gaps);
@@ -49,8 +43,8 @@ pub fn replay_part(
         sectors,
         staging,
         answers,
-    );
-    Part::Ran(count)
+    )?;
+    Ok(count)
 }
 
 // How many of so many records there are from one on, within the limit.

@@ -1,12 +1,14 @@
 // The event on a state that rows 11 and 10 let pass: a dispatch on the kind. Each arm tells its own answer, since one that is handed up before its
 // words are written is packed and taken apart again, some 20 instructions an event.
 ghost use Rattle.std.specs.Prelude.{◌≤◌, length};
+ghost use Rattle.refusals.specs.Refusal.{refusal_in};
 ghost use Rattle.events.specs.Fit.{Fits};
 ghost use Rattle.events.specs.Turn.{Turn};
 
 use crate::{answer_words, kinds, transfer};
 use drive::Answer;
 use parts::Event;
+use refusals::Refusal;
 
 const LAST_PORT: u8 = 1;
 
@@ -17,12 +19,12 @@ pub(crate) fn step(
     sectors: &mut [u16],
     staging: &mut [u16],
     out: &mut [u16],
-) -> u8
+) -> Result<(), Refusal>
     requires { Fits state.old sectors.old staging.old × (13 ≤ length out.old) }
-    ensures { Turn telling event state.old sectors.old staging.old out.old result state.new sectors.new staging.new out.new }
+    ensures { Turn telling event state.old sectors.old staging.old out.old (refusal_in result) state.new sectors.new staging.new out.new }
 {
     if LAST_PORT < event.port {
-        return answer_words::tell(Answer::Refused(parts::NO_SUCH_PORT), telling, out);
+        return answer_words::tell(Answer::Refused(Refusal::NoSuchPort), telling, out);
     }
     let kind = event.kind;
     match kind {
@@ -44,6 +46,6 @@ pub(crate) fn step(
         8 => answer_words::tell(kinds::on_target(state, event), telling, out),
         9 => answer_words::tell(kinds::on_read_status(state, event), telling, out),
         10 => answer_words::tell(kinds::on_reset(state, event), telling, out),
-        _ => answer_words::tell(Answer::Refused(parts::MALFORMED), telling, out),
+        _ => answer_words::tell(Answer::Refused(Refusal::Malformed), telling, out),
     }
 }

@@ -2,10 +2,12 @@
 ghost use Rattle.std.specs.Prelude.{◌≡◌, not, ◌||◌, [], ◌∷◌, ◌==◌};
 ghost use Rattle.laws.specs.Rows.{first, ◌when◌};
 ghost use Rattle.parts.specs.Tests.{is_taking, is_giving};
+ghost use Rattle.refusals.specs.Refusal.{refusal_in};
 ghost use Rattle.events.specs.State.{drive_in};
 ghost use Rattle.events.specs.Fit.{Fit};
 
 use crate::layout;
+use refusals::Refusal;
 
 // What is open, by the upper two bits of its control: bit 7 tells data from codes, bit 6 words to the host from words of the host. Control 0 is none.
 pub(crate) const COMMAND: u16 = 0;
@@ -16,35 +18,35 @@ pub(crate) const WRITE: u16 = 2;
 
 pub(crate) const READ: u16 = 3;
 
-// The refusal of an event that asks for its port selected and nothing open, else 0. A word is read where the tests before it let the event pass.
-pub(crate) fn refusal(state: &[u16], port: u8, formed: bool) -> u8
+// The refusal of an event that asks for its port selected and nothing open. A word is read where the tests before it let the event pass.
+pub(crate) fn refusal(state: &[u16], port: u8, formed: bool) -> Result<(), Refusal>
     requires { Fit state.now }
-    ensures { result ≡ first (8 when not formed ∷ 2 when not ((drive_in state.now).holding.selected == port) ∷ 7 when not ((drive_in state.now).transfer.control == 0) ∷ []) }
+    ensures { refusal_in result ≡ first (8 when not formed ∷ 2 when not ((drive_in state.now).holding.selected == port) ∷ 7 when not ((drive_in state.now).transfer.control == 0) ∷ []) }
 {
     if !formed {
-        return parts::MALFORMED;
+        return Err(Refusal::Malformed);
     }
     if !is_selected(state, port) {
-        return parts::NOT_SELECTED;
+        return Err(Refusal::NotSelected);
     }
     if state[layout::CONTROL] != 0 {
-        return parts::TRANSFER_OPEN_OR_NOT;
+        return Err(Refusal::TransferOpenOrNot);
     }
-    0
+    Ok(())
 }
 
-// The refusal of an event that asks for its port selected, else 0.
-pub(crate) fn stranger(state: &[u16], port: u8, formed: bool) -> u8
+// The refusal of an event that asks for its port selected.
+pub(crate) fn stranger(state: &[u16], port: u8, formed: bool) -> Result<(), Refusal>
     requires { Fit state.now }
-    ensures { result ≡ first (8 when not formed ∷ 2 when not ((drive_in state.now).holding.selected == port) ∷ []) }
+    ensures { refusal_in result ≡ first (8 when not formed ∷ 2 when not ((drive_in state.now).holding.selected == port) ∷ []) }
 {
     if !formed {
-        return parts::MALFORMED;
+        return Err(Refusal::Malformed);
     }
     if !is_selected(state, port) {
-        return parts::NOT_SELECTED;
+        return Err(Refusal::NotSelected);
     }
-    0
+    Ok(())
 }
 
 pub(crate) fn is_selected(state: &[u16], port: u8) -> bool

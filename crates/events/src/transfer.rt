@@ -14,6 +14,7 @@ ghost use Rattle.events.specs.Copy.{fielded, Within};
 use crate::{answer, coming, command, layout, place, sizes, state, timing, words};
 use drive::Answer;
 use parts::{Event, Setup};
+use refusals::Refusal;
 
 // ---- words from the host
 
@@ -26,9 +27,8 @@ pub(crate) fn on_word_from_host(
     requires { Fits state.old sectors.old staging.old × (event.port ≤ 1) }
     ensures { DidIn state.old (unless_own_row_in (Kind.Use Work.WordFromHost) (drive_in state.old) event sectors.old staging.old (word_from_host (drive_in state.old) event.port (word_of event) sectors.old staging.old)) result state.new sectors.new staging.new }
 {
-    let n = timing::stranger(&state[..], event.port, parts::none_after_2(event));
-    if n != 0 {
-        return Answer::Refused(n);
+    if let Err(refusal) = timing::stranger(&state[..], event.port, parts::none_after_2(event)) {
+        return Answer::Refused(refusal);
     }
     let control = state[layout::CONTROL];
     let word = parts::word_of(event);
@@ -36,7 +36,7 @@ pub(crate) fn on_word_from_host(
         return stage(state, control, word, sectors, staging);
     }
     if (control / 64 != timing::COMMAND) | (control == 0) {
-        return Answer::Refused(parts::TRANSFER_OPEN_OR_NOT);
+        return Answer::Refused(Refusal::TransferOpenOrNot);
     }
     command::send(state, event.port, word)
 }
@@ -158,16 +158,15 @@ pub(crate) fn on_take_word(
     requires { Fits state.old sectors.now staging.now × (event.port ≤ 1) }
     ensures { Did state.old (unless_own_row (Kind.Use Work.TakeWord) (drive_in state.old) event (word_to_host (drive_in state.old) event.port sectors.now)) result state.new }
 {
-    let n = timing::stranger(&state[..], event.port, parts::none_at_all(event));
-    if n != 0 {
-        return Answer::Refused(n);
+    if let Err(refusal) = timing::stranger(&state[..], event.port, parts::none_at_all(event)) {
+        return Answer::Refused(refusal);
     }
     let control = state[layout::CONTROL];
     if control / 64 == timing::READ {
         return take(state, sectors, staging);
     }
     if control / 64 != timing::RESPONSE {
-        return Answer::Refused(parts::TRANSFER_OPEN_OR_NOT);
+        return Answer::Refused(Refusal::TransferOpenOrNot);
     }
     command::respond(state, event.port)
 }

@@ -21,9 +21,7 @@ pub use event::{
 pub use holding::{Hold, Holding, NOBODY, granted_to, no_holding};
 pub use pending::{Fault, Pending, RESET_COMPLETE};
 pub use refusal::{
-    ALREADY_SELECTED, BUSY, MALFORMED, MODE_CANNOT_CHANGE, NO_SUCH_PORT, NOT_OUR_ADDRESS,
-    NOT_SELECTED, OUTSIDE_ITS_LIMITS, SLICE_TOO_SHORT, TRANSFER_OPEN_OR_NOT, UNSOUND_STATE,
-    inside_refusal, select_refusal,
+    MALFORMED, OUTSIDE_ITS_LIMITS, SLICE_TOO_SHORT, inside_refusal, select_refusal,
 };
 pub use setup::{NO_TARGET, Place, Setup, next_of};
 pub use transfer::{Parameters, Transfer, no_transfer};

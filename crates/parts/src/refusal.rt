@@ -1,21 +1,10 @@
-// The refusals: their numbers, and the rows of a kind in the order of their tests.
+// The rows of a kind, in the order of their tests.
 ghost use Rattle.std.specs.Prelude.{◌≡◌};
 ghost use Rattle.laws.specs.Rows.{first};
+ghost use Rattle.refusals.specs.Refusal.{refusal_in};
 ghost use Rattle.parts.specs.Tests.{inside_rows, select_rows};
 
-pub const NO_SUCH_PORT: u8 = 1;
-
-pub const NOT_SELECTED: u8 = 2;
-
-pub const ALREADY_SELECTED: u8 = 3;
-
-pub const NOT_OUR_ADDRESS: u8 = 4;
-
-pub const MODE_CANNOT_CHANGE: u8 = 5;
-
-pub const BUSY: u8 = 6;
-
-pub const TRANSFER_OPEN_OR_NOT: u8 = 7;
+use refusals::Refusal;
 
 pub const MALFORMED: u8 = 8;
 
@@ -23,22 +12,20 @@ pub const OUTSIDE_ITS_LIMITS: u8 = 9;
 
 pub const SLICE_TOO_SHORT: u8 = 10;
 
-pub const UNSOUND_STATE: u8 = 11;
-
 // Kinds 2 to 9: 8, then 2, then 7.
-pub fn inside_refusal(formed: bool, selected: bool, untimely: bool) -> u8
-    ensures { result ≡ first (inside_rows formed selected untimely) }
+pub fn inside_refusal(formed: bool, selected: bool, untimely: bool) -> Result<(), Refusal>
+    ensures { refusal_in result ≡ first (inside_rows formed selected untimely) }
 {
     if !formed {
-        return MALFORMED;
+        return Err(Refusal::Malformed);
     }
     if !selected {
-        return NOT_SELECTED;
+        return Err(Refusal::NotSelected);
     }
     if untimely {
-        return TRANSFER_OPEN_OR_NOT;
+        return Err(Refusal::TransferOpenOrNot);
     }
-    0
+    Ok(())
 }
 
 // Select: 8, then 3, 4, 5, 6.
@@ -48,23 +35,23 @@ pub fn select_refusal(
     misaddressed: bool,
     changes_mode: bool,
     busy: bool,
-) -> u8
-    ensures { result ≡ first (select_rows formed selected misaddressed changes_mode busy) }
+) -> Result<(), Refusal>
+    ensures { refusal_in result ≡ first (select_rows formed selected misaddressed changes_mode busy) }
 {
     if !formed {
-        return MALFORMED;
+        return Err(Refusal::Malformed);
     }
     if selected {
-        return ALREADY_SELECTED;
+        return Err(Refusal::AlreadySelected);
     }
     if misaddressed {
-        return NOT_OUR_ADDRESS;
+        return Err(Refusal::NotOurAddress);
     }
     if changes_mode {
-        return MODE_CANNOT_CHANGE;
+        return Err(Refusal::ModeCannotChange);
     }
     if busy {
-        return BUSY;
+        return Err(Refusal::Busy);
     }
-    0
+    Ok(())
 }

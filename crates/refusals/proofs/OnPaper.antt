@@ -5,7 +5,8 @@ use mathlib.Core.Path.{◌≡◌, refl, ap, sym, ◌∙◌}
 use mathlib.Core.List.{List}
 use mathlib.Core.Logic.{◌↔◌}
 use native.Mathlib.Omega.{arith}
-use Rattle.std.specs.Prelude.{Result, Ok, Err}
+use Rattle.std.specs.Prelude.{Result, Ok, Err, IsErr, IsErrAnd}
+use Rattle.std.proofs.lemmas.Result.{err_from_is_err_and}
 use Rattle.std.proofs.Math.Option.{Option, some, none}
 use Rattle.laws.specs.Rows.{Row, first, Given, unless_refused, Paper, refused_with, tells, refused_or}
 use Rattle.laws.proofs.Rows.{first_is_exact, EachNumber, first_among}
@@ -50,7 +51,7 @@ pub number_of_first : (rows : List Row) → EachNumber (λ n. number (named n) �
 number_of_first rows each n e = first_among (λ n. number (named n) ≡ n) rows each n e
 
 -- no refusal has the number 0
-number_is_not_0 : (r : Refusal) → number r ≡ 0 → ⊥
+pub number_is_not_0 : (r : Refusal) → number r ≡ 0 → ⊥
 number_is_not_0 r e = by_name r e
   where
     by_name : (r : Refusal) → number r ≡ 0 → ⊥
@@ -149,3 +150,8 @@ pub reported_by_name : {A : Type 0} (report : A → ℕ) (refused : Refusal → 
     → (n : ℕ) → ((k : ℕ) → n ≡ suc k → number (named n) ≡ n) → (accepted : A) → report accepted ≡ 0 → report (unless_refused n (refused (named n)) accepted) ≡ n
 reported_by_name report refused told zero named_right accepted e = e
 reported_by_name report refused told (suc n) named_right accepted e = told (named (suc n)) ∙ named_right n refl
+
+-- ---- the exit of a `?`: the error is handed on as it is
+
+pub passed_on : {A E : Type 0} {r : Result A E} {error : E} → IsErr r × IsErrAnd r (λ carried. carried ≡ error) → r ≡ Err error
+passed_on {r = r} e = let p = err_from_is_err_and r e.1 in p.1 ∙ ap Err p.2

@@ -4,9 +4,9 @@ use Rattle.drive.specs.AnswerWords.{answer_in}
 use Rattle.events.proofs.ToldWords.{refused_in}
 use Rattle.events.proofs.answer_words.answer_in.Goals as goal
 
-pub returns-then-refusal-ne0 : goal.returns-then-refusal-ne0
-returns-then-refusal-ne0 c = refused_in _ _ c.if-refusal-ne0.true
-
-pub returns : goal.returns
+pub returns-in-Ok : goal.returns-in-Ok
 unfolding answer_in
-returns c = rw c.if-refusal-ne0.false c.accepted_in.ensures
+returns-in-Ok c = rw c.in-Ok.is c.accepted_in.ensures
+
+pub returns-in-Err : goal.returns-in-Err
+returns-in-Err c = rw c.in-Err.is (refused_in _ _)

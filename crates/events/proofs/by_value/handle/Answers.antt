@@ -18,11 +18,11 @@ same c = let o = octets c in ap drive_in c.put_state.ensures ∙ read_again _ _ 
 pub answer_in-answer-requires : goal.answer_in-answer-requires
 answer_in-answer-requires c =
     let made = (goal.at.answer_in-answer-requires c).After-put_state in
-    told_fit _ (omega arith) (omega arith) (octets_made _ _ (same made) (octets made)) c.answer_event-n.ensures
+    told_fit _ (omega arith) (omega arith) (octets_made _ _ (same made) (octets made)) c.answer_event-refused.ensures
 
 pub returns : goal.returns
 unfolding state_words moving_words
 returns c =
     let made = (goal.at.returns c).After-put_state in
     let long : 21 ≤ length c.put_state.new.state = rw c.put_state.ensures (omega arith) in
-    handled_by _ long (omega arith) (same made) (octets_made _ _ (same made) (octets made)) c.answer_event-n.ensures c.answer_in-answer.ensures c.drive_in-after.ensures
+    handled_by _ long (omega arith) (same made) (octets_made _ _ (same made) (octets made)) c.answer_event-refused.ensures c.answer_in-answer.ensures c.drive_in-after.ensures

@@ -6,9 +6,9 @@ use Rattle.events.proofs.Timely.{number_as, timely_told}
 use Rattle.parts.specs.Kind.{Deselect}
 use Rattle.events.proofs.kinds.on_deselect.Goals as goal
 
-pub returns-then-n-ne0 : goal.returns-then-n-ne0
-returns-then-n-ne0 c =
-    did_refused Deselect _ _ _ _ c.requires (number_as _ c.refusal-n.ensures c.none_at_all-formed.ensures (timely_told c.requires).one) c.if-n-ne0.true
+pub returns-in-Err : goal.returns-in-Err
+returns-in-Err c =
+    did_refused Deselect _ _ _ _ c.requires (number_as _ c.in-Err.ensures c.none_at_all-formed.ensures (timely_told c.requires).one)
 
 pub put_moved-requires : goal.put_moved-requires
 put_moved-requires c =
@@ -16,4 +16,4 @@ put_moved-requires c =
 
 pub returns : goal.returns
 returns c =
-    did_accepted Deselect _ _ _ _ (number_as _ c.refusal-n.ensures c.none_at_all-formed.ensures (timely_told c.requires).one) c.if-n-ne0.false (record { answer = refl; state = c.put_moved.ensures ∙ rw (c.deselect.ensures, c.drive_in-d.ensures) })
+    did_accepted Deselect _ _ _ (number_as _ c.in_default.ensures c.none_at_all-formed.ensures (timely_told c.requires).one) (record { answer = refl; state = c.put_moved.ensures ∙ rw (c.deselect.ensures, c.drive_in-d.ensures) })

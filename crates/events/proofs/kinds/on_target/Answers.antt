@@ -5,10 +5,10 @@ use Rattle.events.proofs.Timely.{number_as, timely_told}
 use Rattle.parts.specs.Kind.{Use, Target}
 use Rattle.events.proofs.kinds.on_target.Goals as goal
 
-pub returns-then-n-ne0 : goal.returns-then-n-ne0
-returns-then-n-ne0 c =
-    did_refused (Use Target) _ _ _ _ c.requires.0 (number_as _ c.refusal-n.ensures c.none_after_2-formed.ensures (timely_told c.requires.0).one) c.if-n-ne0.true
+pub returns-in-Err : goal.returns-in-Err
+returns-in-Err c =
+    did_refused (Use Target) _ _ _ _ c.requires.0 (number_as _ c.in-Err.ensures c.none_after_2-formed.ensures (timely_told c.requires.0).one)
 
 pub returns : goal.returns
 returns c =
-    did_accepted (Use Target) _ _ _ _ (number_as _ c.refusal-n.ensures c.none_after_2-formed.ensures (timely_told c.requires.0).one) c.if-n-ne0.false (rw c.word_of.ensures at c.aim_at.ensures)
+    did_accepted (Use Target) _ _ _ (number_as _ c.in_default.ensures c.none_after_2-formed.ensures (timely_told c.requires.0).one) (rw c.word_of.ensures at c.aim_at.ensures)

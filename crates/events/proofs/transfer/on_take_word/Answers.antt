@@ -1,6 +1,7 @@
 -- `on_take_word` meets its contract.
 -- Assumes nothing.
 use Rattle.std.proofs.Common.{not, refl, ap, arith}
+use Rattle.refusals.specs.declared.refusal.Refusal.TheVariants.{TransferOpenOrNot}
 use Rattle.parts.specs.Kind.{TakeWord, Use}
 use Rattle.drive.proofs.Own.{able_to_read}
 use Rattle.events.specs.State.{drive_in}
@@ -9,9 +10,9 @@ use Rattle.events.proofs.Exchanges.{did_read, did_respond}
 use Rattle.events.proofs.Timely.{number_front, number_passed, number_last, timely_told, read_told, response_told, none_told}
 use Rattle.events.proofs.transfer.on_take_word.Goals as goal
 
-pub returns-then-n-ne0 : goal.returns-then-n-ne0
-returns-then-n-ne0 c =
-    did_refused (Use TakeWord) _ _ _ _ (fit c.requires.0) (number_front _ _ c.stranger-n.ensures c.none_at_all.ensures c.if-n-ne0.true) c.if-n-ne0.true
+pub returns-in-Err : goal.returns-in-Err
+returns-in-Err c =
+    did_refused (Use TakeWord) _ _ _ _ (fit c.requires.0) (number_front _ _ _ c.in-Err.ensures c.none_at_all.ensures)
 
 pub take-requires : goal.take-requires
 unfolding drive_in
@@ -23,13 +24,13 @@ pub returns-then-control-eq-READ : goal.returns-then-control-eq-READ
 unfolding drive_in
 returns-then-control-eq-READ c =
     let told = read_told (timely_told (fit c.requires.0)) c.if-control-eq-READ.true in
-    did_accepted (Use TakeWord) _ _ _ 0 (number_passed _ _ c.stranger-n.ensures c.none_at_all.ensures c.if-n-ne0.false (ap not told.gives)) refl (did_read _ _ told.high c.take.ensures)
+    did_accepted (Use TakeWord) _ _ _ (number_passed _ _ c.in_default.ensures c.none_at_all.ensures (ap not told.gives)) (did_read _ _ told.high c.take.ensures)
 
 pub returns-then-control-ne-RESPONSE : goal.returns-then-control-ne-RESPONSE
 unfolding drive_in
 returns-then-control-ne-RESPONSE c =
     let none = none_told (timely_told (fit c.requires.0)) c.if-control-eq-READ.false c.if-control-ne-RESPONSE.true in
-    did_refused (Use TakeWord) _ _ _ 7 (fit c.requires.0) (number_last _ _ c.stranger-n.ensures c.none_at_all.ensures c.if-n-ne0.false (ap not none)) (λ e. omega (arith, e))
+    did_refused (Use TakeWord) _ _ _ TransferOpenOrNot (fit c.requires.0) (number_last _ _ c.in_default.ensures c.none_at_all.ensures (ap not none))
 
 pub respond-requires : goal.respond-requires
 unfolding drive_in
@@ -41,4 +42,4 @@ pub returns : goal.returns
 unfolding drive_in
 returns c =
     let told = response_told (timely_told (fit c.requires.0)) c.if-control-ne-RESPONSE.false in
-    did_accepted (Use TakeWord) _ _ _ 0 (number_passed _ _ c.stranger-n.ensures c.none_at_all.ensures c.if-n-ne0.false (ap not told.gives)) refl (did_respond _ _ told.low c.respond.ensures)
+    did_accepted (Use TakeWord) _ _ _ (number_passed _ _ c.in_default.ensures c.none_at_all.ensures (ap not told.gives)) (did_respond _ _ told.low c.respond.ensures)
