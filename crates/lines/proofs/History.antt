@@ -8,9 +8,10 @@ use borrow.Author.Tests.{eqb-true}
 use lib.Dec.{eqb, ltb}
 use Rattle.laws.specs.Pick.{pick}
 use Rattle.laws.proofs.Pick.{pick_map, pick_not}
-use Rattle.lines.specs.Moves.{entry_of}
+use Rattle.lines.specs.Moves.{entry_of, said_by}
 use Rattle.lines.specs.Follower.{is_reached, ◌with-history◌, idle, lost, told, lacks_history, remembers, undefined_at, while_lost, moved_by, moved, step_of}
 use Rattle.lines.specs.Traces.{answers, Way, came_to, astray, Watched, came_from, has_history, saw_undefined, saw_move, saw_setting, watch, watched_answers, HistoryKept}
+use Rattle.lines.specs.declared.moves.Move.{Move}
 use Rattle.lines.specs.declared.follower.Follower.{Follower}
 use Rattle.lines.specs.declared.follower.Followed.{Followed}
 use Rattle.lines.specs.declared.follower.Answer.TheVariants.{Undefined, Controllers, Drives}
@@ -28,7 +29,7 @@ follower_on (came_to setting earlier) = setting with-history marked setting earl
 follower_on astray = lost
 
 abbrev followed : Watched → Followed
-followed w = told w.answer (follower_on w.way)
+followed w = record { answer = w.answer; follower = follower_on w.way }
 
 -- ---- the two rules, by the mark and by the way
 
@@ -77,22 +78,20 @@ undefined_is new = by_zero (eqb new 0)
     by_zero true = refl
     by_zero false = refl
 
-move_is : (entry old : ℕ) (earlier : List ℕ) (new : ℕ) → moved_by entry (old with-history marked old earlier) new ≡ followed (saw_move entry old earlier new)
+move_is : (move : Move) (old : ℕ) (earlier : List ℕ) (new : ℕ) → moved_by move (old with-history marked old earlier) new ≡ followed (saw_move move old earlier new)
 unfolding moved_by saw_move
-move_is entry old earlier new =
-    pick_map followed (eqb entry 0) refl
-    (pick_map followed (eqb entry 1)
-    (rw (lacks_is old earlier new, pick_not) (pick_map followed (has_history old earlier new) (ap (told Controllers) remembered) (undefined_is new)))
-    (pick_map followed (eqb entry 2) (ap (told Drives) remembered) (undefined_is new)))
-  where
-    remembered : remembers (old with-history marked old earlier) new ≡ new with-history marked new (old ∷ earlier)
-    remembered = remembers_is old earlier new
+move_is Move.Same old earlier new = refl
+move_is Move.Controllers old earlier new =
+    rw (lacks_is old earlier new, pick_not)
+    (pick_map followed (has_history old earlier new) (ap (told Controllers) (remembers_is old earlier new)) (undefined_is new))
+move_is Move.Drives old earlier new = ap (told Drives) (remembers_is old earlier new)
+move_is Move.Undefined old earlier new = undefined_is new
 
 -- ---- a trace
 
 taken_is : (way : Way) (new : ℕ) → pick (follower_on way).lost (while_lost new) (moved (follower_on way) new) ≡ followed (saw_setting way new)
 unfolding pick while_lost marked
-taken_is (came_to old earlier) new = move_is (entry_of old new) old earlier new
+taken_is (came_to old earlier) new = move_is (said_by (entry_of old new)) old earlier new
 taken_is astray new = pick_map followed (eqb new 0) refl refl
 
 watch_is : (way : Way) (new : ℕ) → is_reached (follower_on way) ≡ true → step_of (follower_on way) new ≡ followed (watch way new)

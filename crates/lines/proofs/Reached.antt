@@ -11,12 +11,13 @@ use Rattle.laws.specs.Pick.{pick}
 use Rattle.laws.specs.Lists.{one_of}
 use Rattle.laws.proofs.Tests.{and_l, and_r}
 use Rattle.laws.proofs.Lists.{every_one_of, every, every_below_lem, every_below, Each, each_one_of}
-use Rattle.lines.specs.Moves.{entry_of}
-use Rattle.lines.specs.Follower.{is_reached, seen_settings, settings_with_history, ◌with-history◌, moved, moved_by, lacks_history, remembers, undefined_at, idle, lost, told, while_lost, step_of}
+use Rattle.lines.specs.Moves.{entry_of, said_by}
+use Rattle.lines.specs.Follower.{is_reached, seen_settings, settings_with_history, ◌with-history◌, moved, moved_by, lacks_history, remembers, undefined_at, idle, lost, told, refused, while_lost, step_of}
 use Rattle.lines.specs.Traces.{after, Reached, ReachedExactly}
 use Rattle.lines.proofs.Step.{step_reached, unreached_refused}
 use Rattle.lines.specs.declared.follower.Follower.{Follower}
-use Rattle.lines.specs.declared.follower.Answer.TheVariants.{Idle, Lost, Refused}
+use Rattle.lines.specs.declared.follower.Answer.TheVariants.{Idle, Lost}
+use Rattle.refusals.specs.Refusal.{named}
 
 below_32 : (history lost : Bool) (setting : ℕ) → is_reached (record { setting = setting; history = history; lost = lost }) ≡ true → ltb setting 32 ≡ true
 unfolding is_reached pick
@@ -39,7 +40,7 @@ from_each history settings computed setting new e h =
 
 -- one computed test: each of the settings, with the history that it may have, at each new setting
 move_stays : (history : Bool) (setting new : ℕ) → is_reached (setting with-history history) ≡ true → new < 32 → stays_inside history setting new ≡ true
-unfolding is_reached pick entry_of moved_by lacks_history remembers undefined_at
+unfolding is_reached pick entry_of said_by moved_by lacks_history remembers undefined_at
 move_stays true = from_each true settings_with_history refl
 move_stays false = from_each false seen_settings refl
 
@@ -58,7 +59,7 @@ pub step_stays : (f : Follower) (new : ℕ) → is_reached f ≡ true → is_rea
 unfolding pick
 step_stays f new e = rw (step_reached f new e) (by_setting (ltb 31 new) refl)
   where
-    by_setting : (over : Bool) → ltb 31 new ≡ over → is_reached (pick over (told (Refused 8) f) (pick f.lost (while_lost new) (moved f new))).follower ≡ true
+    by_setting : (over : Bool) → ltb 31 new ≡ over → is_reached (pick over (refused (named 8) f) (pick f.lost (while_lost new) (moved f new))).follower ≡ true
     by_setting true o = e
     by_setting false o = let h = ltb-false 31 new o in taken_stays f.history f.lost f.setting new e (omega arith)
 
@@ -87,7 +88,7 @@ to_transfer = 16 ∷ 24 ∷ 25 ∷ 27 ∷ 26 ∷ 24 ∷ 28 ∷ []
 
 -- a trace to each setting in turn, in the order of the list
 unmarked_reached : Each (λ setting. Reached (setting with-history false)) seen_settings
-unfolding after step_of is_reached pick entry_of moved_by lacks_history remembers undefined_at while_lost to_transfer
+unfolding after step_of is_reached pick entry_of said_by moved_by lacks_history remembers undefined_at while_lost to_transfer
 unmarked_reached = (
   by [] refl,
   (
@@ -130,11 +131,11 @@ unmarked_reached = (
 )
 
 marked_reached : Each (λ setting. Reached (setting with-history true)) settings_with_history
-unfolding after step_of is_reached pick entry_of moved_by lacks_history remembers undefined_at while_lost
+unfolding after step_of is_reached pick entry_of said_by moved_by lacks_history remembers undefined_at while_lost
 marked_reached = (by (16 ∷ []) refl, (by (16 ∷ 24 ∷ 25 ∷ 27 ∷ 26 ∷ 24 ∷ []) refl, (by (16 ∷ 24 ∷ 25 ∷ 27 ∷ 26 ∷ []) refl, tt)))
 
 lost_reached : Reached lost
-unfolding after step_of is_reached pick entry_of moved_by lacks_history remembers undefined_at while_lost
+unfolding after step_of is_reached pick entry_of said_by moved_by lacks_history remembers undefined_at while_lost
 lost_reached = by (2 ∷ []) refl
 
 trace_of : (history gone : Bool) (setting : ℕ) → is_reached (record { setting = setting; history = history; lost = gone }) ≡ true

@@ -14,7 +14,8 @@ use Rattle.lines.specs.Follower.{step_of}
 use Rattle.lines.specs.Traces.{after, answers}
 use Rattle.lines.specs.Reading.{octet_of, Read, Leaves, step_by_step, TraceRead}
 use Rattle.lines.specs.declared.follower.Follower.{Follower}
-use Rattle.lines.specs.declared.reading.Traced.TheVariants.{Last, Refused}
+use Rattle.refusals.specs.declared.refusal.Refusal.TheVariants.{SliceTooShort}
+use Rattle.std.specs.Prelude.{Ok, Err}
 
 -- ---- two pieces
 
@@ -103,11 +104,11 @@ all_left f trace room₀ at last room k r = let whole : take at trace ≡ trace 
 
 -- what a call promises of it
 pub told_of : (read : Read) (trace room₀ : List ℕ) (last : Follower) (room : List ℕ) → length trace ≤ length room₀ → Leaves read room₀ last room
-    → TraceRead read trace room₀ (Last last) room
+    → TraceRead read trace room₀ (Ok last) room
 unfolding pick
 told_of read trace room₀ last room h l =
-    let passed = le-ltb (length room₀) (length trace) h in record { answer = rw (passed, l.0); on_paper = rw (passed, l.0); answers = rw (passed, l.1) }
+    let passed = le-ltb (length room₀) (length trace) h in record { answer = rw (passed, l.0); answers = rw (passed, l.1) }
 
-pub no_room : (read : Read) (trace room : List ℕ) → length room < length trace → TraceRead read trace room (Refused 10) room
+pub no_room : (read : Read) (trace room : List ℕ) → length room < length trace → TraceRead read trace room (Err SliceTooShort) room
 unfolding pick
-no_room read trace room h = let short = lt-ltb (length room) (length trace) h in record { answer = rw short; on_paper = rw short; answers = rw short }
+no_room read trace room h = let short = lt-ltb (length room) (length trace) h in record { answer = rw short; answers = rw short }

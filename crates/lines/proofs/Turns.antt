@@ -11,16 +11,18 @@ use lib.ListN.{length, get_or}
 use Rattle.laws.specs.Pick.{pick}
 use Rattle.laws.proofs.Pick.{cases}
 use Rattle.laws.proofs.Tests.{and_l, and_r}
-use Rattle.lines.specs.Moves.{Pair, is_listed, controllers_moves, drives_moves, entry_of}
-use Rattle.lines.specs.Follower.{told, lacks_history, remembers, while_lost, moved_by, moved, is_reached, step_of}
+use Rattle.lines.specs.Moves.{Pair, is_listed, controllers_moves, drives_moves, entry_of, said_by}
+use Rattle.lines.specs.Follower.{told, refused, lacks_history, remembers, undefined_at, while_lost, moved_by, moved, is_reached, step_of}
 use Rattle.lines.specs.Traces.{after, answers}
 use Rattle.lines.specs.Reading.{Read, step_by_step}
 use Rattle.lines.specs.Turns.{is_controllers, is_drives, nobodys_move, takes, controller_takes, drive_takes, comes, ◌then◌, controllers_turn, drives_turn, read_plainly}
 use Rattle.lines.specs.Plain.{PlainDefinitionIsTheStep, PlainIsTheTable}
+use Rattle.lines.specs.declared.moves.Move.{Move}
 use Rattle.lines.specs.declared.follower.Follower.{Follower}
 use Rattle.lines.specs.declared.follower.Followed.{Followed}
 use Rattle.lines.specs.declared.follower.Answer.{Answer}
-use Rattle.lines.specs.declared.follower.Answer.TheVariants.{Controllers, Drives, Refused}
+use Rattle.lines.specs.declared.follower.Answer.TheVariants.{Same, Controllers, Drives}
+use Rattle.refusals.specs.Refusal.{named}
 use Rattle.lines.proofs.Step.{step_reached, unreached_refused}
 
 -- ---- listed moves
@@ -57,7 +59,7 @@ apart mine other computed old new l = not-true _ (listed_move (λ old new. not (
 -- ---- a setting
 
 takes_is : (side : Answer) (own : Bool) (f : Follower) (new : ℕ)
-    → (is_reached f ≡ true → pick own (told side (remembers f new)) (nobodys_move f new) ≡ pick (ltb 31 new) (told (Refused 8) f) (pick f.lost (while_lost new) (moved f new)))
+    → (is_reached f ≡ true → pick own (told side (remembers f new)) (nobodys_move f new) ≡ pick (ltb 31 new) (refused (named 8) f) (pick f.lost (while_lost new) (moved f new)))
     → takes side own f new ≡ step_of f new
 unfolding takes pick
 takes_is side own f new m = by_state (is_reached f) refl
@@ -67,13 +69,24 @@ takes_is side own f new m = by_state (is_reached f) refl
     by_state false e = rw (unreached_refused f new e, e)
 
 -- by what the lists say of the pair
-abbrev by_entry : Followed → Followed → Followed → Followed → ℕ → Followed
-by_entry same controllers drives neither entry = pick (eqb entry 0) same (pick (eqb entry 1) controllers (pick (eqb entry 2) drives neither))
+abbrev by_move : Followed → Followed → Followed → Followed → Move → Followed
+by_move same controllers drives neither Move.Same = same
+by_move same controllers drives neither Move.Controllers = controllers
+by_move same controllers drives neither Move.Drives = drives
+by_move same controllers drives neither Move.Undefined = neither
+
+by_move_is : (move : Move) (f : Follower) (new : ℕ)
+    → moved_by move f new ≡ by_move (told Same f) (pick (lacks_history f new) (undefined_at new) (told Controllers (remembers f new))) (told Drives (remembers f new)) (undefined_at new) move
+unfolding moved_by
+by_move_is Move.Same f new = refl
+by_move_is Move.Controllers f new = refl
+by_move_is Move.Drives f new = refl
+by_move_is Move.Undefined f new = refl
 
 controllers_said : (over gone listed lacks same : Bool) (r w s c d u : Followed) → (listed ≡ true → over ≡ false) → (listed ≡ true → same ≡ false)
     → pick (not gone && (listed && not lacks)) c (pick over r (pick gone w (pick same s u)))
-    ≡ pick over r (pick gone w (by_entry s (pick lacks u c) d u (pick same 0 (pick listed 1 (pick false 2 3)))))
-unfolding pick
+    ≡ pick over r (pick gone w (by_move s (pick lacks u c) d u (said_by (pick same 0 (pick listed 1 (pick false 2 3))))))
+unfolding pick said_by
 controllers_said true gone true lacks same r w s c d u low moves = absurd (true≢false (low refl))
 controllers_said true true false lacks same r w s c d u low moves = refl
 controllers_said true false false lacks same r w s c d u low moves = refl
@@ -87,8 +100,8 @@ controllers_said false false false lacks false r w s c d u low moves = refl
 drives_said : (drives over gone listed lacks same : Bool) (r w s c d u : Followed) → (not gone && (listed && not lacks)) ≡ false
     → (drives ≡ true → over ≡ false) → (drives ≡ true → gone ≡ false) → (drives ≡ true → listed ≡ false) → (drives ≡ true → same ≡ false)
     → pick drives d (pick over r (pick gone w (pick same s u)))
-    ≡ pick over r (pick gone w (by_entry s (pick lacks u c) d u (pick same 0 (pick listed 1 (pick drives 2 3)))))
-unfolding pick
+    ≡ pick over r (pick gone w (by_move s (pick lacks u c) d u (said_by (pick same 0 (pick listed 1 (pick drives 2 3))))))
+unfolding pick said_by
 drives_said true true gone listed lacks same r w s c d u other low here one moves = absurd (true≢false (low refl))
 drives_said true false true listed lacks same r w s c d u other low here one moves = absurd (true≢false (here refl))
 drives_said true false false true lacks same r w s c d u other low here one moves = absurd (true≢false (one refl))
@@ -116,7 +129,7 @@ pub controller_takes_lem : (f : Follower) (new : ℕ) → is_drives f new ≡ fa
 unfolding entry_of moved_by nobodys_move every_move
 controller_takes_lem f new none =
     takes_is Controllers (is_controllers f new) f new
-    (λ e. rw none
+    (λ e. rw (none, by_move_is)
     (controllers_said (ltb 31 new) f.lost (is_listed controllers_moves f.setting new) (lacks_history f new) (eqb f.setting new) _ _ _ _ (told Drives (remembers f new)) _
     (within controllers_moves refl f.setting new) (changes controllers_moves refl f.setting new)))
 
@@ -124,8 +137,8 @@ pub drive_takes_lem : (f : Follower) (new : ℕ) → is_controllers f new ≡ fa
 unfolding entry_of moved_by nobodys_move every_move
 drive_takes_lem f new none =
     takes_is Drives (is_drives f new) f new
-    (λ e. drives_said (is_drives f new) (ltb 31 new) f.lost (is_listed controllers_moves f.setting new) (lacks_history f new) (eqb f.setting new) _ _ _ (told Controllers (remembers f new)) _ _
-    none (within drives_moves refl f.setting new) (not_lost f.history f.lost f.setting new e) (apart drives_moves controllers_moves refl f.setting new) (changes drives_moves refl f.setting new))
+    (λ e. rw by_move_is (drives_said (is_drives f new) (ltb 31 new) f.lost (is_listed controllers_moves f.setting new) (lacks_history f new) (eqb f.setting new) _ _ _ (told Controllers (remembers f new)) _ _
+    none (within drives_moves refl f.setting new) (not_lost f.history f.lost f.setting new e) (apart drives_moves controllers_moves refl f.setting new) (changes drives_moves refl f.setting new)))
 
 -- ---- one turn of the two has it
 

@@ -1,10 +1,12 @@
 -- `specs/WrongAnswers` proved: each differs from the right answer, which antt computes.
 -- Assumes nothing.
-use mathlib.Core.Path.{refl, ap}
+use mathlib.Core.Path.{◌≡◌, refl, ap}
 use mathlib.Core.Bool.{true≢false, false≢true}
 use Rattle.laws.specs.Pick.{pick}
 use Rattle.laws.proofs.Differ.{differ, differ_at, never}
-use Rattle.lines.specs.Moves.{entry_of, said_by, move_of}
+use Rattle.lines.specs.Moves.{entry_of, said_by, move_rows}
+use Rattle.lines.specs.declared.moves.Move.{Move}
+use Rattle.refusals.proofs.OnPaper.{value_given}
 use Rattle.lines.specs.Follower.{is_reached, lacks_history, remembers, undefined_at, while_lost, moved_by, step_of}
 use Rattle.lines.specs.Traces.{after, answers}
 use Rattle.lines.specs.Reading.{octet_of, step_by_step}
@@ -14,7 +16,7 @@ use Rattle.lines.specs.declared.follower.Follower.{Follower}
 use Rattle.lines.proofs.Turns.{plain_is_the_table}
 
 wrong_by_the_table : WrongReadings step_by_step
-unfolding pick entry_of is_reached lacks_history remembers undefined_at while_lost moved_by step_of after answers octet_of
+unfolding pick entry_of said_by is_reached lacks_history remembers undefined_at while_lost moved_by step_of after answers octet_of
 wrong_by_the_table =
     record {
       drives_move_as_the_controllers = λ h. differ_at 0 refl h.answers;
@@ -36,15 +38,15 @@ wrong_plainly =
     }
 
 pub wrong_answers : WrongAnswers
-unfolding pick entry_of said_by move_of is_reached lacks_history undefined_at while_lost moved_by step_of octet_of
+unfolding pick entry_of said_by is_reached lacks_history undefined_at while_lost moved_by step_of octet_of
 wrong_answers =
     record {
       sync_out_2 = λ h. differ refl h.answer;
       select_out_8 = λ h. differ refl h.answer;
       master_out_the_drives = λ h. differ refl h.on_paper;
       sync_in_the_controllers = λ h. differ refl h.on_paper;
-      transfer_the_drives = λ h. never (cc);
-      setting_32_answered = λ h. never (cc);
+      transfer_the_drives = λ h. let e : Move.Drives ≡ Move.Controllers = (value_given (move_rows 24 28) h.answer).1 in never (cc);
+      setting_32_answered = λ h. differ refl (value_given (move_rows 0 32) {value = said_by (entry_of 0 32)} h.answer).0;
       starts_lost = λ h. true≢false (ap (λ (f : Follower). f.lost) h.follower);
       starts_at_select = λ h. differ refl (ap (λ (f : Follower). f.setting) h.follower);
       select_left_without_history = λ h. never (cc);

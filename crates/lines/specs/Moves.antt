@@ -1,12 +1,14 @@
 -- "Listed moves": the list, the table's entry for a pair of settings, and what the call says of a pair.
-use Rattle.std.specs.Prelude.{ℕ, ◌+◌, ◌*◌, ◌/◌, ◌%◌, ◌<◌, ◌≡◌, Bool, false, ◌&&◌, ◌||◌, List, [], ◌∷◌, map, eqb, ltb, get_or}
+use Rattle.std.specs.Prelude.{ℕ, ◌+◌, ◌*◌, ◌/◌, ◌%◌, ◌<◌, ◌≡◌, Bool, false, ◌&&◌, ◌||◌, List, [], ◌∷◌, Result, map, eqb, ltb, get_or}
 use Rattle.laws.specs.Pick.{pick}
-use Rattle.laws.specs.Rows.{Row, first, ◌when◌, unless_refused, Paper, refused_with, tells, refused_or}
+use Rattle.laws.specs.Rows.{Row, ◌when◌, refused_or}
 use Rattle.laws.specs.Lists.{table_from, count_of}
 use Rattle.lines.specs.Line.{all_lines, moved_owners}
 use Rattle.lines.specs.declared.line.Side.TheVariants.{Controller, Drive}
 use Rattle.lines.specs.declared.moves.Move.{Move}
-use Rattle.lines.specs.declared.moves.Move.TheVariants.{Same, Controllers, Drives, Undefined, Refused}
+use Rattle.lines.specs.declared.moves.Move.TheVariants.{Same, Controllers, Drives, Undefined}
+use Rattle.refusals.specs.Refusal.{on_paper}
+use Rattle.refusals.specs.declared.refusal.Refusal.{Refusal}
 
 infix 70 ◌⟶◌
 pub record Pair : Type 0 where
@@ -45,29 +47,9 @@ said_by entry = pick (eqb entry 0) Same (pick (eqb entry 1) Controllers (pick (e
 abbrev pub move_rows : ℕ → ℕ → List Row
 move_rows old new = 8 when (ltb 31 old || ltb 31 new) ∷ []
 
-unfoldable pub move_of : ℕ → ℕ → Move
-move_of old new = unless_refused (first (move_rows old new)) (Refused (first (move_rows old new))) (said_by (entry_of old new))
-
--- The number of a refused answer, 0 for the others.
-abbrev pub refusal_in : Move → ℕ
-refusal_in Same = 0
-refusal_in Controllers = 0
-refusal_in Drives = 0
-refusal_in Undefined = 0
-refusal_in (Refused n) = n
-
--- The answer on paper: the number of the refusal, or the table's entry.
-abbrev pub paper : Move → Paper ℕ
-paper Same = tells 0
-paper Controllers = tells 1
-paper Drives = tells 2
-paper Undefined = tells 3
-paper (Refused n) = refused_with n
-
 -- The promise of `move_of`.
-pub record MoveSaid (old new : ℕ) (r : Move) : Type 0 where
-  pub answer : r ≡ move_of old new
-  pub on_paper : paper r ≡ refused_or (move_rows old new) (entry_of old new)
+pub record MoveSaid (old new : ℕ) (r : Result Move Refusal) : Type 0 where
+  pub answer : on_paper r ≡ refused_or (move_rows old new) (said_by (entry_of old new))
 
 -- The table: "It is proved equal to the list, once over all pairs" and "same (32 pairs), controller's (14), drive's (7), undefined (971)". Said of
 -- `moves_table`, which is built from the list. The code's constant is this list of 1,024 numbers: whoever hands the constant on proves that it is.

@@ -1,31 +1,34 @@
 -- A whole trace at once, an octet for each answer: the promise of `follow` and of `read_plainly`, which differ in what they read it by.
-use Rattle.std.specs.Prelude.{ℕ, ◌≡◌, List, [], ◌∷◌, map, ltb, length}
-use Rattle.laws.specs.Rows.{Row, first, ◌when◌, unless_refused, Paper, refused_with, tells, refused_or}
+use Rattle.std.specs.Prelude.{ℕ, ◌≡◌, List, [], ◌∷◌, Result, Ok, Err, map, ltb, length}
+use Rattle.laws.specs.Rows.{Row, first, ◌when◌, unless_refused, refused_or}
 use Rattle.laws.specs.Lists.{written_over}
 use Rattle.lines.specs.Traces.{after, answers}
 use Rattle.lines.specs.declared.follower.Follower.{Follower}
 use Rattle.lines.specs.declared.follower.Answer.{Answer}
-use Rattle.lines.specs.declared.follower.Answer.TheVariants.{Same, Controllers, Drives, Undefined, Lost, Idle, Refused}
-use Rattle.lines.specs.declared.reading.Traced.{Traced}
-use Rattle.lines.specs.declared.reading.Traced.TheVariants as traced
+use Rattle.lines.specs.declared.follower.Answer.TheVariants.{Same, Controllers, Drives, Undefined, Lost, Idle}
+use Rattle.refusals.specs.Refusal.{number, on_paper}
+use Rattle.refusals.specs.declared.refusal.Refusal.{Refusal}
 
 -- The answers are from 16 on, a refusal is its number.
-unfoldable pub octet_of : Answer → ℕ
-octet_of Same = 16
-octet_of Controllers = 17
-octet_of Drives = 18
-octet_of Undefined = 19
-octet_of Lost = 20
-octet_of Idle = 21
-octet_of (Refused n) = n
+abbrev pub octet_said : Answer → ℕ
+octet_said Same = 16
+octet_said Controllers = 17
+octet_said Drives = 18
+octet_said Undefined = 19
+octet_said Lost = 20
+octet_said Idle = 21
 
--- The promise of `Answer::octet`.
-pub record OctetSaid (said : Answer) (r : ℕ) : Type 0 where
+unfoldable pub octet_of : Result Answer Refusal → ℕ
+octet_of (Ok said) = octet_said said
+octet_of (Err refusal) = number refusal
+
+-- The promise of `Followed::octet`.
+pub record OctetSaid (said : Result Answer Refusal) (r : ℕ) : Type 0 where
   pub answer : r ≡ octet_of said
 
 -- What is read of a trace: "the same list of answers and the same last state".
 pub record Read : Type 0 where
-  pub answers : List Answer
+  pub answers : List (Result Answer Refusal)
   pub last : Follower
 
 -- The room that is lent for the answers: their octets in front, and what was behind them.
@@ -44,18 +47,7 @@ step_by_step f trace = record { answers = answers f trace; last = after f trace 
 abbrev pub read_rows : List ℕ → List ℕ → List Row
 read_rows trace room = 10 when ltb (length room) (length trace) ∷ []
 
--- The answer on paper: the number of the refusal, or the follower at the end of the trace.
-abbrev pub paper : Traced → Paper Follower
-paper (traced.Last f) = tells f
-paper (traced.Refused n) = refused_with n
-
--- The number that an answer refuses with, 0 where it refuses nothing.
-abbrev pub refusal_in : Traced → ℕ
-refusal_in (traced.Last f) = 0
-refusal_in (traced.Refused n) = n
-
 -- The promise of `follow` and of `read_plainly`: a refusal changes nothing.
-pub record TraceRead (read : Read) (trace answers₀ : List ℕ) (r : Traced) (answers₁ : List ℕ) : Type 0 where
-  pub answer : r ≡ unless_refused (first (read_rows trace answers₀)) (traced.Refused (first (read_rows trace answers₀))) (traced.Last read.last)
-  pub on_paper : paper r ≡ refused_or (read_rows trace answers₀) read.last
+pub record TraceRead (read : Read) (trace answers₀ : List ℕ) (r : Result Follower Refusal) (answers₁ : List ℕ) : Type 0 where
+  pub answer : on_paper r ≡ refused_or (read_rows trace answers₀) read.last
   pub answers : answers₁ ≡ unless_refused (first (read_rows trace answers₀)) answers₀ (answers_in answers₀ read)

@@ -1,14 +1,15 @@
 -- M-104: "a second follower without it, where the controller's turn hands over to the drive's turn and back, each taking the moves that are its own and
 -- passing on what remains of the trace." It goes by the two lines of moves.
-use Rattle.std.specs.Prelude.{ℕ, Bool, false, not, ◌&&◌, List, [], ◌∷◌, eqb, ltb}
+use Rattle.std.specs.Prelude.{ℕ, ◌<◌, ◌≤◌, Bool, false, not, ◌&&◌, List, [], ◌∷◌, eqb, ltb, length}
 use Rattle.laws.specs.Pick.{pick}
 use Rattle.lines.specs.Moves.{is_listed, controllers_moves, drives_moves}
-use Rattle.lines.specs.Follower.{told, lacks_history, remembers, undefined_at, while_lost, is_reached}
+use Rattle.lines.specs.Follower.{told, refused, lacks_history, remembers, undefined_at, while_lost, is_reached}
 use Rattle.lines.specs.Reading.{Read}
 use Rattle.lines.specs.declared.follower.Follower.{Follower}
 use Rattle.lines.specs.declared.follower.Followed.{Followed}
 use Rattle.lines.specs.declared.follower.Answer.{Answer}
-use Rattle.lines.specs.declared.follower.Answer.TheVariants.{Same, Controllers, Drives, Refused}
+use Rattle.lines.specs.declared.follower.Answer.TheVariants.{Same, Controllers, Drives}
+use Rattle.refusals.specs.Refusal.{named}
 
 infix 10 ◌then◌
 -- A move of the controller's: listed, "with its history", and none while the follower is lost.
@@ -23,14 +24,14 @@ is_drives f new = is_listed drives_moves f.setting new
 -- nothing", "Any other move is undefined".
 unfoldable pub nobodys_move : Follower → ℕ → Followed
 nobodys_move f new =
-    pick (ltb 31 new) (told (Refused 8) f)
+    pick (ltb 31 new) (refused (named 8) f)
     (pick f.lost (while_lost new)
     (pick (eqb f.setting new) (told Same f) (undefined_at new)))
 
 -- A setting in the turn of a side, where `own` tells whether it is a move of its own: "a follower state that no trace from the start can reach is refused
 -- (11), tested first."
 unfoldable pub takes : Answer → Bool → Follower → ℕ → Followed
-takes side own f new = pick (not (is_reached f)) (told (Refused 11) f) (pick own (told side (remembers f new)) (nobodys_move f new))
+takes side own f new = pick (not (is_reached f)) (refused (named 11) f) (pick own (told side (remembers f new)) (nobodys_move f new))
 
 abbrev pub controller_takes : Follower → ℕ → Followed
 controller_takes f new = takes Controllers (is_controllers f new) f new
@@ -59,6 +60,10 @@ unfoldable mutual
   pub drives_turn : Follower → List ℕ → Read
   drives_turn f [] = nothing_left f
   drives_turn f (new ∷ rest) = drive_takes f new then λ f'. pick (comes is_controllers f' rest) (controllers_turn f' rest) (drives_turn f' rest)
+
+-- What a call of a turn takes: a setting at least, at most so many, and room for their answers.
+abbrev pub IsStretch : List ℕ → List ℕ → Type 0
+IsStretch rest room = (0 < length rest) × (length rest ≤ 16) × (length rest ≤ length room)
 
 -- The controller has the first turn, unless a move of the drive comes.
 unfoldable pub read_plainly : Follower → List ℕ → Read

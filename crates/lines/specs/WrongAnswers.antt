@@ -1,5 +1,5 @@
 -- Wrong answers, two or more for each call: what a careless programmer would get, and no promise allows.
-use Rattle.std.specs.Prelude.{ℕ, true, false, List, [], ◌∷◌}
+use Rattle.std.specs.Prelude.{ℕ, true, false, List, [], ◌∷◌, Ok, Err}
 use Rattle.lines.specs.Line.{WeightSaid, OwnerSaid}
 use Rattle.lines.specs.Moves.{MoveSaid}
 use Rattle.lines.specs.Follower.{IDLE, SELECT, SLAVACK, MASTEND, BUSACK, XFRRDY, ◌with-history◌, idle, lost, told, Started, Stepped, ReachedSaid}
@@ -10,23 +10,23 @@ use Rattle.lines.specs.declared.line.Side.{Side}
 use Rattle.lines.specs.declared.moves.Move.{Move}
 use Rattle.lines.specs.declared.follower.Follower.{Follower}
 use Rattle.lines.specs.declared.follower.Answer.{Answer}
-use Rattle.lines.specs.declared.reading.Traced.{Traced}
+use Rattle.refusals.specs.Refusal.{named}
 
 -- Of a reader of traces, by whatever it reads.
 pub record WrongReadings (read : Follower → List ℕ → Read) : Type 0 where
   -- 16→24 is the drive's.
   pub drives_move_as_the_controllers :
-      let trace : List ℕ = SLAVACK ∷ [] in TraceRead (read (SELECT with-history true) trace) trace (0 ∷ []) (Traced.Last (SLAVACK with-history false)) (17 ∷ []) → ⊥
+      let trace : List ℕ = SLAVACK ∷ [] in TraceRead (read (SELECT with-history true) trace) trace (0 ∷ []) (Ok (SLAVACK with-history false)) (17 ∷ []) → ⊥
   -- 26→24 is the drive's and keeps the history that the controller's 24→28 needs.
   pub history_forgotten_at_a_hand_over :
       let trace : List ℕ = MASTEND ∷ SLAVACK ∷ XFRRDY ∷ [] in
-      TraceRead (read (BUSACK with-history false) trace) trace (0 ∷ 0 ∷ 0 ∷ []) (Traced.Last lost) (17 ∷ 18 ∷ 19 ∷ []) → ⊥
+      TraceRead (read (BUSACK with-history false) trace) trace (0 ∷ 0 ∷ 0 ∷ []) (Ok lost) (17 ∷ 18 ∷ 19 ∷ []) → ⊥
   -- Lost, it is lost until 0.
-  pub lost_stretch_ended_by_1 : let trace : List ℕ = SELECT ∷ 1 ∷ [] in TraceRead (read lost trace) trace (0 ∷ 0 ∷ []) (Traced.Last idle) (20 ∷ 21 ∷ []) → ⊥
+  pub lost_stretch_ended_by_1 : let trace : List ℕ = SELECT ∷ 1 ∷ [] in TraceRead (read lost trace) trace (0 ∷ 0 ∷ []) (Ok idle) (20 ∷ 21 ∷ []) → ⊥
   -- Behind a setting over 31 the trace goes on.
-  pub trace_ended_by_32 : let trace : List ℕ = 32 ∷ SELECT ∷ [] in TraceRead (read idle trace) trace (0 ∷ 0 ∷ []) (Traced.Last idle) (8 ∷ 0 ∷ []) → ⊥
+  pub trace_ended_by_32 : let trace : List ℕ = 32 ∷ SELECT ∷ [] in TraceRead (read idle trace) trace (0 ∷ 0 ∷ []) (Ok idle) (8 ∷ 0 ∷ []) → ⊥
   -- An octet behind the answers stays.
-  pub octet_behind_cleared : let trace : List ℕ = IDLE ∷ [] in TraceRead (read idle trace) trace (0 ∷ 7 ∷ []) (Traced.Last idle) (16 ∷ 0 ∷ []) → ⊥
+  pub octet_behind_cleared : let trace : List ℕ = IDLE ∷ [] in TraceRead (read idle trace) trace (0 ∷ 7 ∷ []) (Ok idle) (16 ∷ 0 ∷ []) → ⊥
 
 pub record WrongAnswers : Type 0 where
   -- ---- weight
@@ -41,9 +41,9 @@ pub record WrongAnswers : Type 0 where
   pub sync_in_the_controllers : OwnerSaid SyncIn Side.Controller → ⊥
   -- ---- move_of
   -- 24→28 is the controller's.
-  pub transfer_the_drives : MoveSaid SLAVACK XFRRDY Move.Drives → ⊥
+  pub transfer_the_drives : MoveSaid SLAVACK XFRRDY (Ok Move.Drives) → ⊥
   -- A setting over 31 is refused, not undefined.
-  pub setting_32_answered : MoveSaid IDLE 32 Move.Undefined → ⊥
+  pub setting_32_answered : MoveSaid IDLE 32 (Ok Move.Undefined) → ⊥
   -- ---- Follower::start
   -- The follower does not start lost.
   pub starts_lost : Started lost → ⊥
@@ -61,11 +61,11 @@ pub record WrongAnswers : Type 0 where
   pub deselect_with_history_reached : ReachedSaid (8 with-history true) true → ⊥
   -- A trace of one setting leads to lost.
   pub lost_unreached : ReachedSaid lost false → ⊥
-  -- ---- Answer::octet
+  -- ---- Followed::octet
   -- 17 is the controller's, 18 the drive's.
-  pub controllers_18 : OctetSaid Answer.Controllers 18 → ⊥
+  pub controllers_18 : OctetSaid (Ok Answer.Controllers) 18 → ⊥
   -- A refusal keeps its number.
-  pub refusal_0 : OctetSaid (Answer.Refused 8) 0 → ⊥
+  pub refusal_0 : OctetSaid (Err (named 8)) 0 → ⊥
   -- ---- follow, read_plainly
   pub by_the_table : WrongReadings step_by_step
   pub plainly : WrongReadings read_plainly

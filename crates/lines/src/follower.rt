@@ -1,12 +1,13 @@
 // The follower of one port's lines, by value: a step for each setting that is seen.
 ghost use Rattle.std.specs.Prelude.{◌<◌, ◌≡◌};
-ghost use Rattle.lines.specs.Moves.{moves_table};
-ghost use Rattle.lines.specs.Follower.{lacks_history, remembers, undefined_at, while_lost, moved, Started, Stepped, ReachedSaid};
-ghost use Rattle.lines.specs.Reading.{OctetSaid};
+ghost use Rattle.lines.specs.Follower.{told, lacks_history, refused, remembers, undefined_at, while_lost, moved, Started, Stepped, ReachedSaid};
+ghost use Rattle.lines.specs.Reading.{octet_said, OctetSaid};
 
+use crate::moves::Move;
 use crate::{line, table};
+use refusals::Refusal;
 
-#[derive(Clone, Copy)]
+#[derive(Clone, Copy, Debug, PartialEq, Eq)]
 pub struct Follower {
     pub setting: u8,
     // At SELECT, MASTEND and SLAVACK: the history that a later move needs is there.
@@ -14,7 +15,7 @@ pub struct Follower {
     pub lost: bool,
 }
 
-#[derive(Clone, Copy)]
+#[derive(Clone, Copy, Debug, PartialEq, Eq)]
 pub enum Answer {
     Same,
     Controllers,
@@ -22,28 +23,38 @@ pub enum Answer {
     Undefined,
     Lost,
     Idle,
-    Refused(u8),
 }
 
-#[derive(Clone, Copy)]
+#[derive(Clone, Copy, Debug, PartialEq, Eq)]
 pub struct Followed {
-    pub answer: Answer,
+    pub answer: Result<Answer, Refusal>,
     pub follower: Follower,
 }
 
-impl Answer {
-    // The answer as an octet: from 16 on, or the number of the refusal.
-    pub fn octet(self) -> u8
-        ensures { OctetSaid self result }
-    {
-        match self {
+// From 16 on: below are the numbers of the refusals.
+impl From<Answer> for u8 {
+    ghost from_gives = { λ answer n. n ≡ octet_said answer };
+
+    fn from(answer: Answer) -> u8 {
+        match answer {
             Answer::Same => 16,
             Answer::Controllers => 17,
             Answer::Drives => 18,
             Answer::Undefined => 19,
             Answer::Lost => 20,
             Answer::Idle => 21,
-            Answer::Refused(n) => n,
+        }
+    }
+}
+
+impl Followed {
+    // The answer as an octet, or the number of the refusal.
+    pub fn octet(self) -> u8
+        ensures { OctetSaid self.answer result }
+    {
+        match self.answer {
+            Ok(answer) => u8::from(answer),
+            Err(refusal) => u8::from(refusal),
         }
     }
 }
@@ -64,29 +75,16 @@ impl Follower {
     pub fn step(self, setting: u8) -> Followed
         ensures { Stepped self setting result }
     {
-        self.step_by(&table::MOVES, setting)
-    }
-
-    pub(crate) fn step_by(self, moves: &[u8], setting: u8) -> Followed
-        requires { moves.now ≡ moves_table }
-        ensures { Stepped self setting result }
-    {
         if !self.is_reached() {
-            return Followed {
-                answer: Answer::Refused(line::STATE_NEVER_REACHED),
-                follower: self,
-            };
+            return self.refused(Refusal::UnsoundState);
         }
         if line::LAST_SETTING < setting {
-            return Followed {
-                answer: Answer::Refused(line::OVER_LAST_SETTING),
-                follower: self,
-            };
+            return self.refused(Refusal::Malformed);
         }
         if self.lost {
             return while_lost(setting);
         }
-        self.moved(moves, setting)
+        self.moved(setting)
     }
 
     // Does a trace from the start lead to this state?
@@ -116,32 +114,21 @@ impl Follower {
             | (s == line::XFRRES)
     }
 
-    fn moved(self, moves: &[u8], setting: u8) -> Followed
-        requires { (moves.now ≡ moves_table) × (self.setting < 32) × (setting < 32) }
+    fn moved(self, setting: u8) -> Followed
+        requires { (self.setting < 32) × (setting < 32) }
         ensures { result ≡ moved self setting }
     {
-        if setting == self.setting {
-            return Followed {
-                answer: Answer::Same,
-                follower: self,
-            };
-        }
-        let said = table::entry(moves, self.setting, setting);
-        match said {
-            1 => {
+        match table::entry(self.setting, setting) {
+            Move::Same => self.told(Answer::Same),
+            Move::Controllers => {
                 if self.lacks_history(setting) {
-                    return undefined_at(setting);
-                }
-                Followed {
-                    answer: Answer::Controllers,
-                    follower: self.at(setting),
+                    undefined_at(setting)
+                } else {
+                    self.at(setting).told(Answer::Controllers)
                 }
             }
-            2 => Followed {
-                answer: Answer::Drives,
-                follower: self.at(setting),
-            },
-            _ => undefined_at(setting),
+            Move::Drives => self.at(setting).told(Answer::Drives),
+            Move::Undefined => undefined_at(setting),
         }
     }
 
@@ -151,8 +138,7 @@ impl Follower {
         if self.history {
             return false;
         }
-        let old = self.setting;
-        match old {
+        match self.setting {
             line::SELECT => setting == line::IDLE,
             line::SLAVACK => setting == line::XFRRDY,
             _ => false,
@@ -174,41 +160,48 @@ impl Follower {
             lost: false,
         }
     }
+
+    pub(crate) fn told(self, answer: Answer) -> Followed
+        ensures { result ≡ told answer self }
+    {
+        Followed {
+            answer: Ok(answer),
+            follower: self,
+        }
+    }
+
+    pub(crate) fn refused(self, refusal: Refusal) -> Followed
+        ensures { result ≡ refused refusal self }
+    {
+        Followed {
+            answer: Err(refusal),
+            follower: self,
+        }
+    }
 }
 
 // IDLE where the setting is 0, else lost.
 pub(crate) fn undefined_at(setting: u8) -> Followed
     ensures { result ≡ undefined_at setting }
 {
-    Followed {
-        answer: Answer::Undefined,
-        follower: Follower {
-            setting: line::IDLE,
-            history: false,
-            lost: setting != line::IDLE,
-        },
-    }
+    let follower = Follower {
+        setting: line::IDLE,
+        history: false,
+        lost: setting != line::IDLE,
+    };
+    follower.told(Answer::Undefined)
 }
 
 pub(crate) fn while_lost(setting: u8) -> Followed
     ensures { result ≡ while_lost setting }
 {
     if setting == line::IDLE {
-        return Followed {
-            answer: Answer::Idle,
-            follower: Follower {
-                setting: line::IDLE,
-                history: false,
-                lost: false,
-            },
-        };
+        return Follower::start().told(Answer::Idle);
     }
-    Followed {
-        answer: Answer::Lost,
-        follower: Follower {
-            setting: line::IDLE,
-            history: false,
-            lost: true,
-        },
-    }
+    let lost = Follower {
+        setting: line::IDLE,
+        history: false,
+        lost: true,
+    };
+    lost.told(Answer::Lost)
 }

@@ -15,4 +15,4 @@ pub use line::{
 };
 pub use moves::{Move, move_of};
 pub use plain::{read_plainly, step_plainly};
-pub use reading::{Traced, follow};
+pub use reading::follow;

@@ -44,20 +44,13 @@ fn named_settings() -> [u8; 14]
 // The largest setting: all five lines up.
 pub(crate) const LAST_SETTING: u8 = 31;
 
-// The refusals of this crate.
-pub(crate) const OVER_LAST_SETTING: u8 = 8;
-
-pub(crate) const ANSWERS_TOO_SHORT: u8 = 10;
-
-pub(crate) const STATE_NEVER_REACHED: u8 = 11;
-
-#[derive(Clone, Copy)]
+#[derive(Clone, Copy, Debug, PartialEq, Eq)]
 pub enum Side {
     Controller,
     Drive,
 }
 
-#[derive(Clone, Copy)]
+#[derive(Clone, Copy, Debug, PartialEq, Eq)]
 pub enum Line {
     SelectOut,
     SlaveIn,

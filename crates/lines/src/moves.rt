@@ -3,31 +3,28 @@ ghost use Rattle.std.specs.Prelude.{◌≡◌};
 ghost use Rattle.lines.specs.Moves.{said_by, MoveSaid};
 
 use crate::{line, table};
+use refusals::Refusal;
 
-#[derive(Clone, Copy)]
+#[derive(Clone, Copy, Debug, PartialEq, Eq)]
 pub enum Move {
     Same,
     Controllers,
     Drives,
     Undefined,
-    Refused(u8),
 }
 
 // What the move from one setting to another is. A setting over 31 is refused (8).
-pub fn move_of(old: u8, new: u8) -> Move
+pub fn move_of(old: u8, new: u8) -> Result<Move, Refusal>
     ensures { MoveSaid old new result }
 {
-    if line::LAST_SETTING < old {
-        return Move::Refused(line::OVER_LAST_SETTING);
+    if (line::LAST_SETTING < old) | (line::LAST_SETTING < new) {
+        return Err(Refusal::Malformed);
     }
-    if line::LAST_SETTING < new {
-        return Move::Refused(line::OVER_LAST_SETTING);
-    }
-    said_by(table::entry(&table::MOVES, old, new))
+    Ok(table::entry(old, new))
 }
 
-// What an entry of the table says.
-fn said_by(entry: u8) -> Move
+// What an entry of the table says. No `From<u8>`: an octet that is no entry says nothing.
+pub(crate) fn said_by(entry: u8) -> Move
     ensures { result ≡ said_by entry }
 {
     match entry {

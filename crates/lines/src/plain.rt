@@ -1,42 +1,38 @@
 // A whole trace of settings without the table: the controller's turn hands over to the drive's turn and back.
-ghost use Rattle.std.specs.Prelude.{◌+◌, ◌<◌, ◌≤◌, ◌≡◌, not, ◌&&◌, length};
-ghost use Rattle.lines.specs.Moves.{is_listed, controllers_moves, drives_moves};
-ghost use Rattle.lines.specs.Follower.{◌with-history◌, told, lacks_history, remembers, Stepped};
-ghost use Rattle.lines.specs.declared.follower.Answer.TheVariants.{Refused};
+ghost use Rattle.std.specs.Prelude.{◌+◌, ◌<◌, ◌≤◌, ◌≡◌, length};
+ghost use Rattle.lines.specs.Follower.{Stepped};
 ghost use Rattle.lines.specs.Reading.{Leaves, step_by_step, TraceRead};
-ghost use Rattle.lines.specs.Turns.{nobodys_move, controller_takes, drive_takes, controllers_turn, drives_turn, read_plainly};
+ghost use Rattle.lines.specs.Turns.{is_controllers, is_drives, nobodys_move, takes, controller_takes, drive_takes, IsStretch, controllers_turn, drives_turn, read_plainly};
 
 use crate::follower::{Answer, Followed, Follower, undefined_at, while_lost};
 use crate::line;
-use crate::reading::Traced;
+use refusals::Refusal;
 
 // A turn calls the next one before it is done, and each takes stack of its own: a trace is cut into stretches of so many settings.
 const STRETCH: usize = 16;
 
 // What `follow` does: 10 where the slice for the answers is shorter than the trace, and then nothing changes.
-pub fn read_plainly(follower: Follower, trace: &[u8], answers: &mut [u8]) -> Traced
+pub fn read_plainly(
+    follower: Follower,
+    trace: &[u8],
+    answers: &mut [u8],
+) -> Result<Follower, Refusal>
     ensures { TraceRead (read_plainly follower trace.now) trace.now answers.old result answers.new }
 {
     if answers.len() < trace.len() {
-        return Traced::Refused(line::ANSWERS_TOO_SHORT);
+        return Err(Refusal::SliceTooShort);
     }
-    Traced::Last(read_stretches(follower, trace, answers))
+    Ok(read_stretches(follower, trace, answers))
 }
 
-// One setting, by what the turns go by: what `Follower::step` does by the table. Written out, it is compiled without a call.
+// One setting, by what the turns go by: what `Follower::step` does by the table.
 pub fn step_plainly(follower: Follower, setting: u8) -> Followed
     ensures { Stepped follower setting result }
 {
-    if !follower.is_reached() {
-        return never_reached(follower);
+    if is_drives(follower, setting) {
+        return drive_takes(follower, setting);
     }
-    if is_drives(follower.setting, setting) {
-        return moved(follower, setting, Answer::Drives);
-    }
-    if !follower.lost & is_controllers(follower.setting, follower.history, setting) {
-        return moved(follower, setting, Answer::Controllers);
-    }
-    nobodys_move(follower, setting)
+    controller_takes(follower, setting)
 }
 
 fn read_stretches(follower: Follower, trace: &[u8], answers: &mut [u8]) -> Follower
@@ -44,31 +40,19 @@ fn read_stretches(follower: Follower, trace: &[u8], answers: &mut [u8]) -> Follo
     ensures { Leaves (step_by_step follower trace.now) answers.old result answers.new }
 {
     let mut last = follower;
-    let mut at = 0;
-    while at < trace.len() {
-        let end = end_of_stretch(at, trace.len());
+    for at in (0..trace.len()).step_by(STRETCH) {
+        let end = trace.len().min(at + STRETCH);
         last = read_stretch(last, &trace[at..end], &mut answers[at..]);
-        at = end;
     }
     last
 }
 
-fn end_of_stretch(at: usize, length: usize) -> usize
-    requires { at < length }
-    ensures { (at < result) × (result ≤ length) × (result ≤ at + 16) }
-{
-    if length - at < STRETCH {
-        return length;
-    }
-    at + STRETCH
-}
-
 // The controller has the first turn, unless a move of the drive comes.
 fn read_stretch(follower: Follower, stretch: &[u8], answers: &mut [u8]) -> Follower
-    requires { (0 < length stretch.now) × (length stretch.now ≤ 16) × (length stretch.now ≤ length answers.old) }
+    requires { IsStretch stretch.now answers.old }
     ensures { Leaves (step_by_step follower stretch.now) answers.old result answers.new }
 {
-    if is_drives(follower.setting, stretch[0]) {
+    if is_drives(follower, stretch[0]) {
         return drives_turn(follower, stretch, answers);
     }
     controllers_turn(follower, stretch, answers)
@@ -76,19 +60,18 @@ fn read_stretch(follower: Follower, stretch: &[u8], answers: &mut [u8]) -> Follo
 
 #[cycle(controllers_turn_drives_turn)]
 fn controllers_turn(follower: Follower, rest: &[u8], answers: &mut [u8]) -> Follower
-    requires { (0 < length rest.now) × (length rest.now ≤ 16) × (length rest.now ≤ length answers.old) }
+    requires { IsStretch rest.now answers.old }
     ensures { Leaves (controllers_turn follower rest.now) answers.old result answers.new }
 {
     let taken = controller_takes(follower, rest[0]);
-    let answer = taken.answer;
     let next = taken.follower;
-    answers[0] = answer.octet();
+    answers[0] = taken.octet();
     if rest.len() < 2 {
         return next;
     }
     let left = &rest[1..];
     let places = &mut answers[1..];
-    if is_drives(next.setting, left[0]) {
+    if is_drives(next, left[0]) {
         return drives_turn(next, left, places);
     }
     controllers_turn(next, left, places)
@@ -96,19 +79,18 @@ fn controllers_turn(follower: Follower, rest: &[u8], answers: &mut [u8]) -> Foll
 
 #[cycle(controllers_turn_drives_turn)]
 fn drives_turn(follower: Follower, rest: &[u8], answers: &mut [u8]) -> Follower
-    requires { (0 < length rest.now) × (length rest.now ≤ 16) × (length rest.now ≤ length answers.old) }
+    requires { IsStretch rest.now answers.old }
     ensures { Leaves (drives_turn follower rest.now) answers.old result answers.new }
 {
     let taken = drive_takes(follower, rest[0]);
-    let answer = taken.answer;
     let next = taken.follower;
-    answers[0] = answer.octet();
+    answers[0] = taken.octet();
     if rest.len() < 2 {
         return next;
     }
     let left = &rest[1..];
     let places = &mut answers[1..];
-    if !next.lost & is_controllers(next.setting, next.history, left[0]) {
+    if is_controllers(next, left[0]) {
         return controllers_turn(next, left, places);
     }
     drives_turn(next, left, places)
@@ -117,32 +99,37 @@ fn drives_turn(follower: Follower, rest: &[u8], answers: &mut [u8]) -> Follower
 fn controller_takes(follower: Follower, new: u8) -> Followed
     ensures { result ≡ controller_takes follower new }
 {
-    if !follower.is_reached() {
-        return never_reached(follower);
-    }
-    if !follower.lost & is_controllers(follower.setting, follower.history, new) {
-        return moved(follower, new, Answer::Controllers);
-    }
-    nobodys_move(follower, new)
+    takes(Answer::Controllers, is_controllers(follower, new), follower, new)
 }
 
 fn drive_takes(follower: Follower, new: u8) -> Followed
     ensures { result ≡ drive_takes follower new }
 {
+    takes(Answer::Drives, is_drives(follower, new), follower, new)
+}
+
+// A setting in the turn of a side: is it a move of its own?
+fn takes(side: Answer, own: bool, follower: Follower, new: u8) -> Followed
+    ensures { result ≡ takes side own follower new }
+{
     if !follower.is_reached() {
-        return never_reached(follower);
+        return follower.refused(Refusal::UnsoundState);
     }
-    if is_drives(follower.setting, new) {
-        return moved(follower, new, Answer::Drives);
+    if own {
+        return follower.at(new).told(side);
     }
     nobodys_move(follower, new)
 }
 
 // "controller: 0→4, 4→0, 0→1, 1→0, 0→16, 16→0, 24→25, 27→26, 24→28, 30→31, 29→28, 30→26, 20→16, 24→8", and "Two moves also need history."
-fn is_controllers(old: u8, history: bool, new: u8) -> bool
-    ensures { result ≡ (is_listed controllers_moves old new && not (lacks_history (old with-history history) new)) }
+fn is_controllers(follower: Follower, new: u8) -> bool
+    ensures { result ≡ is_controllers follower new }
 {
-    match old {
+    if follower.lost {
+        return false;
+    }
+    let history = follower.history;
+    match follower.setting {
         0 => (new == 4) | (new == 1) | (new == 16),
         4 => new == 0,
         1 => new == 0,
@@ -157,10 +144,10 @@ fn is_controllers(old: u8, history: bool, new: u8) -> bool
 }
 
 // "drive: 16→24, 25→27, 26→24, 28→20, 28→30, 31→29, 8→0"
-fn is_drives(old: u8, new: u8) -> bool
-    ensures { result ≡ is_listed drives_moves old new }
+fn is_drives(follower: Follower, new: u8) -> bool
+    ensures { result ≡ is_drives follower new }
 {
-    match old {
+    match follower.setting {
         16 => new == 24,
         25 => new == 27,
         26 => new == 24,
@@ -171,41 +158,17 @@ fn is_drives(old: u8, new: u8) -> bool
     }
 }
 
-fn never_reached(follower: Follower) -> Followed
-    ensures { result ≡ told (Refused 11) follower }
-{
-    Followed {
-        answer: Answer::Refused(line::STATE_NEVER_REACHED),
-        follower,
-    }
-}
-
-fn moved(follower: Follower, new: u8, side: Answer) -> Followed
-    ensures { result ≡ told side (remembers follower new) }
-{
-    Followed {
-        answer: side,
-        follower: follower.at(new),
-    }
-}
-
 fn nobodys_move(follower: Follower, new: u8) -> Followed
     ensures { result ≡ nobodys_move follower new }
 {
     if line::LAST_SETTING < new {
-        return Followed {
-            answer: Answer::Refused(line::OVER_LAST_SETTING),
-            follower,
-        };
+        return follower.refused(Refusal::Malformed);
     }
     if follower.lost {
         return while_lost(new);
     }
     if follower.setting == new {
-        return Followed {
-            answer: Answer::Same,
-            follower,
-        };
+        return follower.told(Answer::Same);
     }
     undefined_at(new)
 }

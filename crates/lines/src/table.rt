@@ -1,18 +1,20 @@
 // The table of all 1,024 pairs of settings, indexed by 32 times old plus new.
 ghost use Rattle.std.specs.Prelude.{◌<◌, ◌≡◌};
-ghost use Rattle.lines.specs.Moves.{entry_of, moves_table};
+ghost use Rattle.lines.specs.Moves.{entry_of, said_by};
 
-// Whoever asks often lends the table: the compiler builds it anew wherever it is named.
-pub(crate) fn entry(moves: &[u8], old: u8, new: u8) -> u8
-    requires { (moves.now ≡ moves_table) × (old < 32) × (new < 32) }
-    ensures { result ≡ entry_of old new }
+use crate::moves;
+use crate::moves::Move;
+
+pub(crate) fn entry(old: u8, new: u8) -> Move
+    requires { (old < 32) × (new < 32) }
+    ensures { result ≡ said_by (entry_of old new) }
 {
-    let at = 32 * (old as usize) + new as usize;
-    moves[at]
+    moves::said_by(MOVES[32 * usize::from(old) + usize::from(new)])
 }
 
 // An entry says of its pair: 0 same, 1 controller's, 2 drive's, 3 undefined. The listed moves are named beside theirs.
-pub(crate) const MOVES: [u8; 1024] = [
+// Numbers, as `TableIsTheList` counts them in `moves_table`.
+static MOVES: [u8; 1024] = [
     // from setting 0
     0, 1, // 0→1
     3, 3, 1, // 0→4

@@ -129,6 +129,16 @@ pub exactly_on_paper : {A : Type 0} (rows : List Row) (value : A) (answer : Resu
     → (n : ℕ) → refusal_in answer ≡ suc n ↔ Given (suc n) rows
 exactly_on_paper rows value answer e n = rw (number_given rows value answer e) (first_is_exact n rows)
 
+-- what an answer says that is computed as a value: the refusal that its number names, or what is given where no row holds
+pub seen_by_name : {A B : Type 0} (seen : A → Result B Refusal) (refused : Refusal → A) (new : A) (value : B) (rows : List Row)
+    → EachNumber (λ n. number (named n) ≡ n) rows → ((refusal : Refusal) → seen (refused refusal) ≡ Err refusal) → seen new ≡ Ok value
+    → on_paper (seen (unless_refused (first rows) (refused (named (first rows))) new)) ≡ refused_or rows value
+seen_by_name {A} {B} seen refused new value rows each told given = by_refusal (first rows) refl
+  where
+    by_refusal : (n : ℕ) → first rows ≡ n → on_paper (seen (unless_refused n (refused (named n)) new)) ≡ unless_refused n (refused_with n) (tells value)
+    by_refusal zero f = ap on_paper given
+    by_refusal (suc n) f = ap on_paper (told (named (suc n))) ∙ ap refused_with (number_of_first rows each n f)
+
 -- two answers that are one on paper are one
 pub paper_only : {A : Type 0} {r s : Result A Refusal} → on_paper r ≡ on_paper s → r ≡ s
 paper_only {r = Ok x} {s = Ok y} e = ap Ok (same_value x e)

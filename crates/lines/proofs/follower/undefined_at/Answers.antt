@@ -1,6 +1,6 @@
 -- `undefined_at` meets its contract: the follower is lost unless the setting is 0.
 -- Assumes nothing.
-use mathlib.Core.Path.{◌≡◌, refl, ap}
+use mathlib.Core.Path.{◌≡◌, refl, ap, ◌∙◌}
 use mathlib.Core.Bool.{Bool, true, false, not}
 use Rattle.laws.specs.Pick.{pick}
 use Rattle.lines.specs.declared.follower.Follower.{Follower}
@@ -15,4 +15,4 @@ lost_unless false = refl
 
 pub returns : goal.returns
 unfolding undefined_at
-returns c = ap (told Undefined) (lost_unless _)
+returns c = c.told.ensures ∙ ap (told Undefined) (lost_unless _)

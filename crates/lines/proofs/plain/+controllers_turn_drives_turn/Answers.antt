@@ -1,9 +1,8 @@
 -- The cycle of calls {controllers_turn, drives_turn}: either turn takes a setting, and leaves the rest to the turn that has it.
 -- Assumes nothing.
-use Rattle.std.proofs.Common.{ℕ, ◌-◌, ◌≡◌, Bool, List, not, ◌&&◌, length, take, drop, length-drop, sym, ap, ◌∙◌}
+use Rattle.std.proofs.Common.{ℕ, ◌-◌, ◌≡◌, List, length, take, drop, length-drop, sym, ap, ◌∙◌}
 use Rattle.laws.specs.Pick.{pick}
 use Rattle.laws.proofs.Runs.{rest_whole}
-use Rattle.lines.specs.Follower.{lacks_history}
 use Rattle.lines.proofs.TurnByTurn.{controllers, drives, remains, turn_ended, turn_goes_on}
 use Rattle.lines.proofs.plain.+controllers_turn_drives_turn.Goals as goal
 
@@ -44,22 +43,22 @@ pub drives_turn-controllers_turn-requires : goal.drives_turn-controllers_turn-re
 drives_turn-controllers_turn-requires t c =
     remains c.args.answers.now c.octet.result c.decreases c.if-rest-lt2.false c.requires.1 c.requires.2 (one_fewer c.args.rest.now) (one_fewer _)
 
-pub drives_turn-returns-then-next-is_controllers : goal.drives_turn-returns-then-next-is_controllers
-unfolding pick lacks_history
-drives_turn-returns-then-next-is_controllers t c =
+pub drives_turn-returns-then-is_controllers : goal.drives_turn-returns-then-is_controllers
+unfolding pick
+drives_turn-returns-then-is_controllers t c =
     let rest = c.args.rest.now in
     let taken = c.drive_takes-taken.result in
-    turn_goes_on drives c.args.follower rest (take (length rest - 1) (drop 1 rest)) c.args.answers.now taken c.octet.result (not taken.follower.lost && c.is_controllers.result) c.controllers_turn.result c.controllers_turn.new.answers
-    c.if-rest-lt2.false c.requires.2 (rest_whole rest 1) c.drive_takes-taken.ensures c.octet.ensures.answer (ap (λ (own : Bool). not taken.follower.lost && own) c.is_controllers.ensures) (rw c.if-next-is_controllers.true c.controllers_turn.ensures)
+    turn_goes_on drives c.args.follower rest (take (length rest - 1) (drop 1 rest)) c.args.answers.now taken c.octet.result c.is_controllers.result c.controllers_turn.result c.controllers_turn.new.answers
+    c.if-rest-lt2.false c.requires.2 (rest_whole rest 1) c.drive_takes-taken.ensures c.octet.ensures.answer c.is_controllers.ensures (rw c.if-is_controllers.true c.controllers_turn.ensures)
 
 pub drives_turn-drives_turn-requires : goal.drives_turn-drives_turn-requires
 drives_turn-drives_turn-requires t c =
     remains c.args.answers.now c.octet.result c.decreases c.if-rest-lt2.false c.requires.1 c.requires.2 (one_fewer c.args.rest.now) (one_fewer _)
 
 pub drives_turn-returns : goal.drives_turn-returns
-unfolding pick lacks_history
+unfolding pick
 drives_turn-returns t c =
     let rest = c.args.rest.now in
     let taken = c.drive_takes-taken.result in
-    turn_goes_on drives c.args.follower rest (take (length rest - 1) (drop 1 rest)) c.args.answers.now taken c.octet.result (not taken.follower.lost && c.is_controllers.result) c.drives_turn.result c.drives_turn.new.answers
-    c.if-rest-lt2.false c.requires.2 (rest_whole rest 1) c.drive_takes-taken.ensures c.octet.ensures.answer (ap (λ (own : Bool). not taken.follower.lost && own) c.is_controllers.ensures) (rw c.if-next-is_controllers.false c.drives_turn.ensures)
+    turn_goes_on drives c.args.follower rest (take (length rest - 1) (drop 1 rest)) c.args.answers.now taken c.octet.result c.is_controllers.result c.drives_turn.result c.drives_turn.new.answers
+    c.if-rest-lt2.false c.requires.2 (rest_whole rest 1) c.drive_takes-taken.ensures c.octet.ensures.answer c.is_controllers.ensures (rw c.if-is_controllers.false c.drives_turn.ensures)

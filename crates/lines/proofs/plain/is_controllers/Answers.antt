@@ -36,39 +36,39 @@ at_24 new history = by-28 (eqb new 28) refl
 
 pub returns-in-0 : goal.returns-in-0
 unfolding lacks_history
-returns-in-0 c = rw c.in-0.is (simp (or-false, or_assoc) (no_need (eqb c.args.new 4 || (eqb c.args.new 1 || eqb c.args.new 16)) c.args.history))
+returns-in-0 c = rw (c.if-follower.false, c.in-0.is) (simp (or-false, or_assoc) (no_need (eqb c.args.new 4 || (eqb c.args.new 1 || eqb c.args.new 16)) c.args.follower.history))
 
 pub returns-in-4 : goal.returns-in-4
 unfolding lacks_history
-returns-in-4 c = rw c.in-4.is (simp or-false (no_need (eqb c.args.new 0) c.args.history))
+returns-in-4 c = rw (c.if-follower.false, c.in-4.is) (simp or-false (no_need (eqb c.args.new 0) c.args.follower.history))
 
 pub returns-in-1 : goal.returns-in-1
 unfolding lacks_history
-returns-in-1 c = rw c.in-1.is (simp or-false (no_need (eqb c.args.new 0) c.args.history))
+returns-in-1 c = rw (c.if-follower.false, c.in-1.is) (simp or-false (no_need (eqb c.args.new 0) c.args.follower.history))
 
 pub returns-in-16 : goal.returns-in-16
 unfolding lacks_history
-returns-in-16 c = rw c.in-16.is (simp or-false (at_16 (eqb c.args.new 0) c.args.history))
+returns-in-16 c = rw (c.if-follower.false, c.in-16.is) (simp or-false (at_16 (eqb c.args.new 0) c.args.follower.history))
 
 pub returns-in-24 : goal.returns-in-24
 unfolding lacks_history
-returns-in-24 c = rw c.in-24.is (simp (or-false, or_assoc) (at_24 c.args.new c.args.history))
+returns-in-24 c = rw (c.if-follower.false, c.in-24.is) (simp (or-false, or_assoc) (at_24 c.args.new c.args.follower.history))
 
 pub returns-in-27 : goal.returns-in-27
 unfolding lacks_history
-returns-in-27 c = rw c.in-27.is (simp or-false (no_need (eqb c.args.new 26) c.args.history))
+returns-in-27 c = rw (c.if-follower.false, c.in-27.is) (simp or-false (no_need (eqb c.args.new 26) c.args.follower.history))
 
 pub returns-in-30 : goal.returns-in-30
 unfolding lacks_history
-returns-in-30 c = rw c.in-30.is (simp or-false (no_need (eqb c.args.new 31 || eqb c.args.new 26) c.args.history))
+returns-in-30 c = rw (c.if-follower.false, c.in-30.is) (simp or-false (no_need (eqb c.args.new 31 || eqb c.args.new 26) c.args.follower.history))
 
 pub returns-in-29 : goal.returns-in-29
 unfolding lacks_history
-returns-in-29 c = rw c.in-29.is (simp or-false (no_need (eqb c.args.new 28) c.args.history))
+returns-in-29 c = rw (c.if-follower.false, c.in-29.is) (simp or-false (no_need (eqb c.args.new 28) c.args.follower.history))
 
 pub returns-in-20 : goal.returns-in-20
 unfolding lacks_history
-returns-in-20 c = rw c.in-20.is (simp or-false (no_need (eqb c.args.new 16) c.args.history))
+returns-in-20 c = rw (c.if-follower.false, c.in-20.is) (simp or-false (no_need (eqb c.args.new 16) c.args.follower.history))
 
 pub returns-in_default : goal.returns-in_default
-returns-in_default c = rw (ne_eqb _ _ c.in_default.in_default-own.rest.0.0.0.0.0.0.0.0.1, ne_eqb _ _ c.in_default.in_default-own.rest.0.0.0.0.0.0.0.1, ne_eqb _ _ c.in_default.in_default-own.rest.0.0.0.0.0.0.1, ne_eqb _ _ c.in_default.in_default-own.rest.0.0.0.0.0.1, ne_eqb _ _ c.in_default.in_default-own.rest.0.0.0.0.1, ne_eqb _ _ c.in_default.in_default-own.rest.0.0.0.1, ne_eqb _ _ c.in_default.in_default-own.rest.0.0.1, ne_eqb _ _ c.in_default.in_default-own.rest.0.1, ne_eqb _ _ c.in_default.in_default-own.rest.1)
+returns-in_default c = rw (c.if-follower.false, ne_eqb _ _ c.in_default.in_default-own.rest.0.0.0.0.0.0.0.0.1, ne_eqb _ _ c.in_default.in_default-own.rest.0.0.0.0.0.0.0.1, ne_eqb _ _ c.in_default.in_default-own.rest.0.0.0.0.0.0.1, ne_eqb _ _ c.in_default.in_default-own.rest.0.0.0.0.0.1, ne_eqb _ _ c.in_default.in_default-own.rest.0.0.0.0.1, ne_eqb _ _ c.in_default.in_default-own.rest.0.0.0.1, ne_eqb _ _ c.in_default.in_default-own.rest.0.0.1, ne_eqb _ _ c.in_default.in_default-own.rest.0.1, ne_eqb _ _ c.in_default.in_default-own.rest.1)

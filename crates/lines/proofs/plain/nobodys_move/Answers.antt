@@ -1,6 +1,5 @@
 -- `nobodys_move` meets its contract.
 -- Assumes nothing.
-use mathlib.Core.Path.{refl}
 use borrow.Author.Tests.{lt-ltb, le-ltb, eq-eqb, ne_eqb}
 use Rattle.laws.proofs.Pick.{pick_t, pick_f}
 use Rattle.lines.specs.Turns.{nobodys_move}
@@ -8,7 +7,7 @@ use Rattle.lines.proofs.plain.nobodys_move.Goals as goal
 
 pub returns-then-new-gt-LAST_SETTING : goal.returns-then-new-gt-LAST_SETTING
 unfolding nobodys_move
-returns-then-new-gt-LAST_SETTING c = pick_t _ _ _ _ _ (lt-ltb _ _ c.if-new-gt-LAST_SETTING.true) refl
+returns-then-new-gt-LAST_SETTING c = pick_t _ _ _ _ _ (lt-ltb _ _ c.if-new-gt-LAST_SETTING.true) c.refused.ensures
 
 pub returns-then-follower : goal.returns-then-follower
 unfolding nobodys_move
@@ -18,7 +17,7 @@ pub returns-then-follower-new : goal.returns-then-follower-new
 unfolding nobodys_move
 returns-then-follower-new c =
     pick_f _ _ _ _ _ (le-ltb _ _ c.if-new-gt-LAST_SETTING.false)
-    (pick_f _ _ _ _ _ c.if-follower.false (pick_t _ _ _ _ _ (eq-eqb _ _ c.if-follower-new.true) refl))
+    (pick_f _ _ _ _ _ c.if-follower.false (pick_t _ _ _ _ _ (eq-eqb _ _ c.if-follower-new.true) c.told.ensures))
 
 pub returns : goal.returns
 unfolding nobodys_move

@@ -1,7 +1,6 @@
 -- `read_stretches` meets its contract: stretch behind stretch, the whole trace.
 -- Assumes nothing.
-use Prim.Native.Nat.{◌-◌}
-use lib.ListN.{length}
+use Rattle.std.proofs.Common.{◌-◌, length}
 use Rattle.lines.proofs.ReadSoFar.{ReadTo}
 use Rattle.lines.proofs.plain.read_stretches.Given as goal
 

@@ -1,39 +1,31 @@
--- `Follower::moved` meets its contract: a repeated setting is the same; else the table's entry decides, and for the controller's moves the history.
+-- `Follower::moved` meets its contract: the table decides, and for the controller's moves the history.
 -- Assumes nothing.
-use mathlib.Core.Path.{sym, ap}
-use borrow.Author.Tests.{eq-eqb, ne_eqb}
-use Rattle.laws.specs.Pick.{pick}
-use Rattle.lines.specs.Moves.{entry_of}
-use Rattle.lines.specs.Follower.{moved_by, told}
+use Rattle.std.proofs.Common.{sym, ap, ◌∙◌}
+use Rattle.laws.proofs.Pick.{pick_t, pick_f}
+use Rattle.lines.specs.Follower.{told, moved_by}
 use Rattle.lines.specs.declared.follower.Answer.TheVariants.{Controllers, Drives}
-use Rattle.lines.proofs.Listed.{not_same}
 use Rattle.lines.proofs.follower.Follower.moved.Goals as goal
 
-pub returns-then-setting-self : goal.returns-then-setting-self
-unfolding moved_by entry_of pick
-returns-then-setting-self c =
-    rw (eq-eqb c.args.self.setting c.args.setting (sym c.if-setting-self.true))
+pub returns-in-Same : goal.returns-in-Same
+unfolding moved_by
+returns-in-Same c = rw (← c.in-Same.ensures) c.told.ensures
 
 pub returns-then-lacks_history : goal.returns-then-lacks_history
-unfolding moved_by pick
+unfolding moved_by
 returns-then-lacks_history c =
-    rw (← c.entry-said.ensures, c.in-1.is, ← c.lacks_history.ensures, c.if-lacks_history.true)
-    c.undefined_at.ensures
+    rw (← c.in-Controllers.ensures)
+    (pick_t _ _ _ _ _ (sym c.lacks_history.ensures ∙ c.if-lacks_history.true) c.undefined_at.ensures)
 
 pub returns-else-lacks_history : goal.returns-else-lacks_history
-unfolding moved_by pick
+unfolding moved_by
 returns-else-lacks_history c =
-    rw (← c.entry-said.ensures, c.in-1.is, ← c.lacks_history.ensures, c.if-lacks_history.false)
-    (ap (told Controllers) c.at.ensures)
+    rw (← c.in-Controllers.ensures)
+    (pick_f _ _ _ _ _ (sym c.lacks_history.ensures ∙ c.if-lacks_history.false) (c.told-else-lacks_history.ensures ∙ ap (told Controllers) c.at.ensures))
 
-pub returns-in-2 : goal.returns-in-2
-unfolding moved_by pick
-returns-in-2 c = rw (← c.entry-said.ensures, c.in-2.is) (ap (told Drives) c.at-in-2.ensures)
+pub returns-in-Drives : goal.returns-in-Drives
+unfolding moved_by
+returns-in-Drives c = rw (← c.in-Drives.ensures) (c.told-in-Drives.ensures ∙ ap (told Drives) c.at-in-Drives.ensures)
 
-pub returns-in_default : goal.returns-in_default
-unfolding moved_by pick
-returns-in_default c =
-    let none = c.in_default.in_default-own.rest in
-    let args = c.args in
-    let moved = not_same args.self.setting args.setting (ne_eqb _ _ (λ e. c.if-setting-self.false (sym e))) in
-    rw (moved, ← c.entry-said.ensures, ne_eqb _ _ none.0.1, ne_eqb _ _ none.1) c.undefined_at-in_default.ensures
+pub returns-in-Undefined : goal.returns-in-Undefined
+unfolding moved_by
+returns-in-Undefined c = rw (← c.in-Undefined.ensures) c.undefined_at-in-Undefined.ensures

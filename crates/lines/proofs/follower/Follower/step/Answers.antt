@@ -1,13 +1,32 @@
--- `Follower::step` meets its contract: the constant is the table of the listed moves, entry for entry, which antt computes.
+-- `Follower::step` meets its contract.
 -- Assumes nothing.
-use mathlib.Core.Path.{refl}
+use Rattle.std.proofs.Common.{sym, ◌∙◌, rules}
+use borrow.Author.Tests.{lt-ltb, le-ltb}
 use Rattle.laws.specs.Pick.{pick}
-use Rattle.lines.specs.Moves.{entry_of, moves_table}
+use Rattle.lines.proofs.Step.{unreached_refused, step_reached, stepped}
+use Rattle.lines.proofs.Reached.{reached_below_32}
 use Rattle.lines.proofs.follower.Follower.step.Goals as goal
 
-pub step_by-requires : goal.step_by-requires
-unfolding moves_table entry_of pick
-step_by-requires c = refl
+pub returns-then-not-is_reached : goal.returns-then-not-is_reached
+returns-then-not-is_reached c = stepped (c.refused.ensures ∙ sym (unreached_refused _ _ (sym c.is_reached.ensures.answer ∙ c.if-not-is_reached.true)))
+
+pub returns-then-setting-gt-LAST_SETTING : goal.returns-then-setting-gt-LAST_SETTING
+unfolding pick
+returns-then-setting-gt-LAST_SETTING c =
+    let reached = sym c.is_reached.ensures.answer ∙ c.if-not-is_reached.false in
+    stepped (c.refused-then-setting-gt-LAST_SETTING.ensures ∙ sym (step_reached _ _ reached ∙ rw (lt-ltb _ _ c.if-setting-gt-LAST_SETTING.true)))
+
+pub returns-then-self : goal.returns-then-self
+unfolding pick
+returns-then-self c =
+    let reached = sym c.is_reached.ensures.answer ∙ c.if-not-is_reached.false in
+    stepped (c.while_lost.ensures ∙ sym (step_reached _ _ reached ∙ rw (le-ltb _ _ c.if-setting-gt-LAST_SETTING.false, c.if-self.true)))
+
+pub moved-requires : goal.moved-requires
+moved-requires c = (reached_below_32 _ (sym c.is_reached.ensures.answer ∙ c.if-not-is_reached.false), search rules)
 
 pub returns : goal.returns
-returns c = c.step_by.ensures
+unfolding pick
+returns c =
+    let reached = sym c.is_reached.ensures.answer ∙ c.if-not-is_reached.false in
+    stepped (c.moved.ensures ∙ sym (step_reached _ _ reached ∙ rw (le-ltb _ _ c.if-setting-gt-LAST_SETTING.false, c.if-self.false)))
