@@ -99,15 +99,14 @@ read_one f trace room₀ at last room h r =
 -- ---- the whole
 
 pub all_left : (f : Follower) (trace room₀ : List ℕ) (at : ℕ) (last : Follower) (room : List ℕ) → length trace ≤ at → ReadTo f trace room₀ at last room
-    → Leaves (step_by_step f trace) room₀ last room
-all_left f trace room₀ at last room k r = let whole : take at trace ≡ trace = take_all at trace k in rw (← whole) (r.reached, r.written)
-
--- what a call promises of it
-pub told_of : (read : Read) (trace room₀ : List ℕ) (last : Follower) (room : List ℕ) → length trace ≤ length room₀ → Leaves read room₀ last room
-    → TraceRead read trace room₀ (Ok last) room
+    → TraceRead (step_by_step f trace) trace room₀ (Ok last) room
 unfolding pick
-told_of read trace room₀ last room h l =
-    let passed = le-ltb (length room₀) (length trace) h in record { answer = rw (passed, l.0); answers = rw (passed, l.1) }
+all_left f trace room₀ at last room k r =
+    let whole : take at trace ≡ trace = take_all at trace k in
+    let reached : last ≡ after f trace = rw (← whole) r.reached in
+    let written : room ≡ written_over room₀ (octets f trace) = rw (← whole) r.written in
+    let passed = le-ltb (length room₀) (length trace) r.enough in
+    record { answer = rw (passed, reached); answers = rw (passed, written) }
 
 pub no_room : (read : Read) (trace room : List ℕ) → length room < length trace → TraceRead read trace room (Err SliceTooShort) room
 unfolding pick

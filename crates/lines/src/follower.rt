@@ -17,7 +17,7 @@ pub struct Follower {
 
 #[derive(Clone, Copy, Debug, PartialEq, Eq)]
 pub enum Answer {
-    Same,
+    Same = 16,
     Controllers,
     Drives,
     Undefined,
@@ -36,14 +36,7 @@ impl From<Answer> for u8 {
     ghost from_gives = { λ answer n. n ≡ octet_said answer };
 
     fn from(answer: Answer) -> u8 {
-        match answer {
-            Answer::Same => 16,
-            Answer::Controllers => 17,
-            Answer::Drives => 18,
-            Answer::Undefined => 19,
-            Answer::Lost => 20,
-            Answer::Idle => 21,
-        }
+        answer as u8
     }
 }
 
@@ -91,27 +84,32 @@ impl Follower {
     pub fn is_reached(self) -> bool
         ensures { ReachedSaid self result }
     {
-        let s = self.setting;
         if self.lost {
-            return (s == line::IDLE) & !self.history;
+            return (self.setting == line::IDLE) & !self.history;
         }
         if self.history {
-            return (s == line::SELECT) | (s == line::SLAVACK) | (s == line::MASTEND);
+            return matches!(
+                self.setting,
+                line::SELECT | line::SLAVACK | line::MASTEND
+            );
         }
-        (s == line::IDLE)
-            | (s == line::MAINT)
-            | (s == line::REQUEST)
-            | (s == line::DESEL)
-            | (s == line::SELECT)
-            | (s == line::SLAVEND)
-            | (s == line::SLAVACK)
-            | (s == line::BUSCTL)
-            | (s == line::MASTEND)
-            | (s == line::BUSACK)
-            | (s == line::XFRRDY)
-            | (s == line::XFREND)
-            | (s == line::XFRST)
-            | (s == line::XFRRES)
+        matches!(
+            self.setting,
+            line::IDLE
+                | line::MAINT
+                | line::REQUEST
+                | line::DESEL
+                | line::SELECT
+                | line::SLAVEND
+                | line::SLAVACK
+                | line::BUSCTL
+                | line::MASTEND
+                | line::BUSACK
+                | line::XFRRDY
+                | line::XFREND
+                | line::XFRST
+                | line::XFRRES
+        )
     }
 
     fn moved(self, setting: u8) -> Followed

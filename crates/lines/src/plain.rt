@@ -22,7 +22,12 @@ pub fn read_plainly(
     if answers.len() < trace.len() {
         return Err(Refusal::SliceTooShort);
     }
-    Ok(read_stretches(follower, trace, answers))
+    let mut last = follower;
+    for at in (0..trace.len()).step_by(STRETCH) {
+        let end = trace.len().min(at + STRETCH);
+        last = read_stretch(last, &trace[at..end], &mut answers[at..]);
+    }
+    Ok(last)
 }
 
 // One setting, by what the turns go by: what `Follower::step` does by the table.
@@ -33,18 +38,6 @@ pub fn step_plainly(follower: Follower, setting: u8) -> Followed
         return drive_takes(follower, setting);
     }
     controller_takes(follower, setting)
-}
-
-fn read_stretches(follower: Follower, trace: &[u8], answers: &mut [u8]) -> Follower
-    requires { length trace.now ≤ length answers.old }
-    ensures { Leaves (step_by_step follower trace.now) answers.old result answers.new }
-{
-    let mut last = follower;
-    for at in (0..trace.len()).step_by(STRETCH) {
-        let end = trace.len().min(at + STRETCH);
-        last = read_stretch(last, &trace[at..end], &mut answers[at..]);
-    }
-    last
 }
 
 // The controller has the first turn, unless a move of the drive comes.

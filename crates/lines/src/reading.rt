@@ -1,6 +1,6 @@
 // A whole trace of settings by the table: so many steps, and an octet for each answer.
-ghost use Rattle.std.specs.Prelude.{◌≤◌, ◌≡◌, length};
-ghost use Rattle.lines.specs.Reading.{Leaves, step_by_step, TraceRead};
+ghost use Rattle.std.specs.Prelude.{◌≡◌};
+ghost use Rattle.lines.specs.Reading.{step_by_step, TraceRead};
 
 use crate::follower::Follower;
 use refusals::Refusal;
@@ -12,18 +12,11 @@ pub fn follow(follower: Follower, trace: &[u8], answers: &mut [u8]) -> Result<Fo
     if answers.len() < trace.len() {
         return Err(Refusal::SliceTooShort);
     }
-    Ok(steps(follower, trace, answers))
-}
-
-fn steps(follower: Follower, trace: &[u8], answers: &mut [u8]) -> Follower
-    requires { length trace.now ≤ length answers.old }
-    ensures { Leaves (step_by_step follower trace.now) answers.old result answers.new }
-{
     let mut last = follower;
     for (i, setting) in trace.iter().enumerate() {
         let followed = last.step(*setting);
         answers[i] = followed.octet();
         last = followed.follower;
     }
-    last
+    Ok(last)
 }
