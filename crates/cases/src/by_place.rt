@@ -1,7 +1,7 @@
 // Arguments by place: calls whose arguments of one type differ, so that two of them changed over give another answer.
 use crate::tally::Tally;
 use drive::{Answer, Drive, Powered};
-use lines::Follower;
+use lines::{Followed, Follower};
 use parts::{Event, Setup};
 
 pub(crate) fn run(tally: Tally) -> Tally {
@@ -92,11 +92,14 @@ fn is_granted(drive: Drive) -> bool {
 
 // From IDLE to SELECT, which is then remembered.
 fn follows() -> bool {
-    let followed = Follower::start().step(16);
-    let answer = followed.answer;
-    let follower = followed.follower;
-    if let lines::Answer::Controllers = answer {
-        return (follower.setting == 16) & follower.history & !follower.lost;
-    }
-    false
+    let selected = Follower {
+        setting: 16,
+        history: true,
+        lost: false,
+    };
+    let followed = Followed {
+        answer: Ok(lines::Answer::Controllers),
+        follower: selected,
+    };
+    Follower::start().step(16) == followed
 }

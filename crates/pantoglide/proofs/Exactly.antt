@@ -29,7 +29,7 @@ use Rattle.defects.specs.Sectors.{read_tests, write_rows}
 use Rattle.defects.specs.Exactly.{GivenAt}
 use Rattle.defects.proofs.ExactOffence.{exact_offence}
 use Rattle.pantoglide.specs.Exactly.{Exactly}
-use Rattle.pantoglide.proofs.Lines.{Ends, answered, refused, step_ends}
+use Rattle.pantoglide.proofs.Lines.{from_sixteen}
 
 -- the number that a call answers is its refusal, if no refusal is over 11 and an answer is from 16 on
 told_by_lem : (refusal answer : ℕ) → refusal ≤ 11 → (refusal ≡ 0 → 16 ≤ answer) → refusal_in (unless_refused refusal refusal answer) ≡ refusal
@@ -37,16 +37,12 @@ unfolding pick
 told_by_lem zero answer h k = rw (le-ltb answer 16 (k refl))
 told_by_lem (suc n) answer h k = rw (lt-ltb (suc n) 16 (omega arith))
 
-from_sixteen : {refusal number : ℕ} → Ends refusal number → refusal ≡ 0 → 16 ≤ number
-from_sixteen (answered e h) z = h
-from_sixteen (refused e p q) z = absurd (omega arith)
-
 line_refusal_lem : {follower : List ℕ} {setting r : ℕ} {follower' : List ℕ} → LineFollowed follower setting r follower' → refusal_in r ≡ line_refusal follower setting
 line_refusal_lem {follower} {setting} w =
     let f = follower_in (get_or follower 0 0) in
     rw w.answer
     (told_by_lem (line_refusal follower setting) (octet_of (step_of f setting).answer) (first_up_to 11 (line_rows follower setting) refl)
-    (λ z. from_sixteen (step_ends f setting) (rows_rest (ltb (length follower) 1) 9 _ z)))
+    (λ z. from_sixteen f setting (rows_rest (ltb (length follower) 1) 9 _ z)))
 
 -- a number that is not 0 is that of an offence that was found
 found_at : (tests : List Test) {n offset : ℕ} → (first_of tests).number ≡ suc n → (first_of tests).offset ≡ offset → first_of tests ≡ offence_at (suc n) offset

@@ -22,7 +22,7 @@ use Rattle.lines.specs.declared.follower.Follower.{Follower}
 use Rattle.lines.specs.declared.follower.Followed.{Followed}
 use Rattle.pantoglide.specs.Line.{setting_in, follower_in, follower_octet, LineFollowed}
 use Rattle.pantoglide.specs.Lines.{lines_rows, octet_left, LinesRead, LinesAreSingles}
-use Rattle.pantoglide.proofs.Lines.{Ends, answered, refused, step_ends, with_octet}
+use Rattle.pantoglide.proofs.Lines.{numbered, with_octet}
 use Rattle.pantoglide.proofs.LinesFollow.{lines_follow}
 
 -- ---- an octet that a trace reaches is written back as it was
@@ -95,14 +95,7 @@ module _ {octets : List ℕ} {setting r : ℕ} {octets₁ trace room octets₂ r
   followed = lines_follow.next there w
 
   number : r ≡ octet_of (step_of before setting).answer
-  number = by_end_lem (step_ends before setting)
-    where
-      told : r ≡ unless_refused (first (step_rows before setting)) (first (step_rows before setting)) (octet_of (step_of before setting).answer)
-      told = rw (with_octet octets (step_rows before setting) there) at w.answer
-
-      by_end_lem : Ends (first (step_rows before setting)) (octet_of (step_of before setting).answer) → r ≡ octet_of (step_of before setting).answer
-      by_end_lem (answered z k) = rw z at told
-      by_end_lem (refused s p q) = told ∙ sym (refused_as _ _ (λ m. m) _ s (λ z. omega arith))
+  number = (rw (with_octet octets (step_rows before setting) there) at w.answer) ∙ numbered before setting
 
   put : octets₁ ≡ unless_refused (first (step_rows before setting)) octets (set octets 0 (follower_octet next))
   put = rw (with_octet octets (step_rows before setting) there) at w.follower

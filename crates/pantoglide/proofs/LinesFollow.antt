@@ -12,12 +12,12 @@ use lib.Seq.{get_or-set_same}
 use Rattle.laws.specs.Pick.{pick}
 use Rattle.laws.specs.Rows.{first, unless_refused}
 use Rattle.laws.proofs.Rows.{all_passed}
-use Rattle.lines.specs.Follower.{told, is_reached, step_rows, step_of}
+use Rattle.lines.specs.Follower.{refused, is_reached, while_lost, moved, step_rows, step_of}
 use Rattle.lines.proofs.Reached.{reached_below_32, step_stays}
 use Rattle.lines.specs.declared.follower.Follower.{Follower}
-use Rattle.lines.specs.declared.follower.Answer.TheVariants.{Refused}
+use Rattle.refusals.specs.Refusal.{named}
 use Rattle.pantoglide.specs.Line.{setting_in, follower_in, follower_octet, LineFollowed, LinesFollow}
-use Rattle.pantoglide.proofs.Lines.{taken, with_octet}
+use Rattle.pantoglide.proofs.Lines.{with_octet}
 
 -- ---- an octet, read back
 
@@ -47,7 +47,7 @@ module _ {octets : List ℕ} {setting r : ℕ} {octets' : List ℕ} (there : 1 �
 
   refused_stays : (n : ℕ) → first (step_rows before setting) ≡ suc n → next ≡ before
   unfolding step_of
-  refused_stays n z = ap (λ (m : ℕ). (unless_refused m (told (Refused m) before) (taken before setting)).follower) z
+  refused_stays n z = ap (λ (m : ℕ). (unless_refused m (refused (named m) before) (pick before.lost (while_lost setting) (moved before setting))).follower) z
 
   followed_by : (n : ℕ) → first (step_rows before setting) ≡ n → octets' ≡ unless_refused n octets (set octets 0 (follower_octet next)) → follower_in (get_or octets' 0 0) ≡ next
   followed_by zero z e =

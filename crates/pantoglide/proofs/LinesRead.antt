@@ -5,12 +5,14 @@ use mathlib.Core.Path.{◌≡◌, refl, sym, ap, ◌∙◌}
 use mathlib.Core.List.{List}
 use borrow.Author.Tests.{lt-ltb}
 use lib.ListN.{length, get_or}
+use Rattle.std.specs.Prelude.{Result, Ok, Err, MatchResult}
 use Rattle.laws.specs.Pick.{pick}
 use Rattle.laws.specs.Rows.{first}
-use Rattle.laws.proofs.Rows.{reported, none_given, accepted, declined}
-use Rattle.lines.specs.Reading.{Read, read_rows, refusal_in, TraceRead}
+use Rattle.refusals.specs.Refusal.{number}
+use Rattle.refusals.specs.declared.refusal.Refusal.{Refusal}
+use Rattle.refusals.proofs.OnPaper.{value_given, refusal_given, left_as_it_was}
+use Rattle.lines.specs.Reading.{Read, read_rows, TraceRead}
 use Rattle.lines.specs.declared.follower.Follower.{Follower}
-use Rattle.lines.specs.declared.reading.Traced.TheVariants.{Last, Refused}
 use Rattle.pantoglide.specs.Line.{follower_in}
 use Rattle.pantoglide.specs.Lines.{octet_left, LinesRead}
 use Rattle.pantoglide.proofs.Lines.{with_octet}
@@ -23,26 +25,30 @@ module _ (read : Follower → List ℕ → Read) (follower trace answers : List 
   abbrev whole : Read
   whole = read (follower_in (get_or follower 0 0)) trace
 
-  pub trace_followed : {last : Follower} {answers' : List ℕ} → TraceRead whole trace answers (Last last) answers'
+  trace_followed : {last : Follower} {answers' : List ℕ} → TraceRead whole trace answers (Ok last) answers'
       → LinesRead read follower trace answers 0 (octet_left follower last) answers'
   trace_followed {last} t =
       let rows = read_rows trace answers in
-      let a = accepted rows Refused (Last last) (Last whole.last) refl (λ n e. cc) t.answer in
-      let none = none_given rows a.1 in
-      let same : Last last ≡ Last whole.last = a.0 in
-      let reached : last ≡ whole.last = cc in
+      let given = value_given rows t.answer in
       record {
-        refusal = sym (with_octet follower rows there ∙ none);
-        follower = ap (octet_left follower) reached;
-        answers = rw none at t.answers;
+        refusal = sym (with_octet follower rows there ∙ given.0);
+        follower = ap (octet_left follower) given.1;
+        answers = rw given.0 at t.answers;
       }
 
-  pub trace_refused_lem : {n : ℕ} {answers' : List ℕ} → TraceRead whole trace answers (Refused n) answers' → LinesRead read follower trace answers n follower answers'
-  trace_refused_lem {n} t =
+  trace_refused_lem : {refusal : Refusal} {answers' : List ℕ} → TraceRead whole trace answers (Err refusal) answers'
+      → LinesRead read follower trace answers (number refusal) follower answers'
+  trace_refused_lem {refusal} t =
       let rows = read_rows trace answers in
-      let number : n ≡ first rows = ap refusal_in t.answer ∙ reported refusal_in Refused (λ m. refl) (first rows) (Last whole.last) refl in
+      let given = refusal_given rows refusal whole.last t.answer in
       record {
-        refusal = number ∙ sym (with_octet follower rows there);
-        follower = rw number (sym (declined rows Refused (Refused n) (Last whole.last) follower _ (λ e. cc) t.answer));
-        answers = rw number t.answers;
+        refusal = sym (with_octet follower rows there ∙ given);
+        follower = sym (left_as_it_was refusal _ refl);
+        answers = rw given at t.answers;
       }
+
+  pub trace_told : (r : Result Follower Refusal) {n : ℕ} {follower' answers' : List ℕ} → TraceRead whole trace answers r answers'
+      → MatchResult r (λ last. (n ≡ 0) × (follower' ≡ octet_left follower last)) (λ refusal. (n ≡ number refusal) × (follower' ≡ follower))
+      → LinesRead read follower trace answers n follower' answers'
+  trace_told (Ok last) t (z, e) = rw (z, e) (trace_followed t)
+  trace_told (Err refusal) t (z, e) = rw (z, e) (trace_refused_lem t)

@@ -3,7 +3,7 @@
 use mathlib.Core.Path.{refl, ap}
 use lib.ListN.{get_or}
 use Rattle.laws.proofs.Differ.{told_apart, differ_at}
-use Rattle.lines.specs.Moves.{entry_of}
+use Rattle.lines.specs.Moves.{entry_of, said_by}
 use Rattle.lines.specs.Follower.{lacks_history, remembers, moved_by, is_reached, step_of}
 use Rattle.lines.specs.Reading.{octet_of, step_by_step}
 use Rattle.lines.specs.Turns.{read_plainly}
@@ -32,7 +32,7 @@ wrong_plain_lines =
     }
 
 pub wrong_answers : WrongAnswers
-unfolding computing_words computing_maps entry_of lacks_history remembers moved_by is_reached step_of setting_in follower_in follower_octet octet_of
+unfolding computing_words computing_maps entry_of said_by lacks_history remembers moved_by is_reached step_of setting_in follower_in follower_octet octet_of
 wrong_answers =
     record {
       cylinders_for_heads = λ h. told_apart 2 1 refl (ap (λ words. get_or words 0 0) h.state);

@@ -1,12 +1,9 @@
 // The line follower as one octet.
-ghost use Rattle.std.specs.Prelude.{◌≤◌, ◌≡◌};
-ghost use Rattle.laws.specs.Pick.{pick};
+ghost use Rattle.std.specs.Prelude.{◌≡◌};
 ghost use Rattle.pantoglide.specs.Line.{setting_in, follower_in, follower_octet, LineFollowed};
 
 use lines::Follower;
-
-// The least number that is an answer and no refusal.
-const SAME: u8 = 16;
+use refusals::Refusal;
 
 // A setting that no trace reaches.
 const NO_SETTING: u8 = 32;
@@ -18,26 +15,24 @@ const LOST: u8 = 64;
 pub fn pg_line(follower: &mut [u8], setting: u8) -> u8
     ensures { LineFollowed follower.old setting result follower.new }
 {
-    if follower.len() < 1 {
-        return parts::SLICE_TOO_SHORT;
+    if follower.is_empty() {
+        return u8::from(Refusal::SliceTooShort);
     }
     let followed = lines::step_plainly(follower_in(follower[0]), setting);
-    let answer = followed.answer;
-    let next = followed.follower;
-    let number = answer.octet();
-    if SAME <= number {
-        follower[0] = follower_octet(next);
+    if followed.answer.is_ok() {
+        follower[0] = follower_octet(followed.follower);
     }
-    number
+    followed.octet()
 }
 
+// The follower and its octet: functions, since `From` would have to stand in `lines`, which knows nothing of octets for C.
 pub(crate) fn follower_in(octet: u8) -> Follower
     ensures { result ≡ follower_in octet }
 {
     Follower {
         setting: setting_in(octet),
-        history: octet / 32 % 2 == 1,
-        lost: octet / 64 % 2 == 1,
+        history: octet / HISTORY % 2 == 1,
+        lost: octet / LOST % 2 == 1,
     }
 }
 
@@ -53,13 +48,5 @@ fn setting_in(octet: u8) -> u8
 pub(crate) fn follower_octet(follower: Follower) -> u8
     ensures { result ≡ follower_octet follower }
 {
-    let history = mark(follower.history, HISTORY);
-    let lost = mark(follower.lost, LOST);
-    follower.setting % 32 + history + lost
-}
-
-fn mark(on: bool, bit: u8) -> u8
-    ensures { (result ≡ pick on bit 0) × (result ≤ bit) }
-{
-    if on { bit } else { 0 }
+    follower.setting % 32 + u8::from(follower.history) * HISTORY + u8::from(follower.lost) * LOST
 }

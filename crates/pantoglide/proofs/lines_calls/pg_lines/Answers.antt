@@ -1,17 +1,14 @@
 -- `pg_lines` meets its contract.
 -- Assumes nothing.
 use Rattle.lines.specs.Reading.{step_by_step}
-use Rattle.pantoglide.proofs.LinesRead.{no_octet, trace_followed, trace_refused_lem}
+use Rattle.pantoglide.proofs.Lines.{none_there, one_there}
+use Rattle.pantoglide.proofs.LinesRead.{no_octet, trace_told}
 use Rattle.pantoglide.proofs.lines_calls.pg_lines.Goals as goal
 
-pub returns-then-follower-lt1 : goal.returns-then-follower-lt1
-returns-then-follower-lt1 c = no_octet _ _ _ _ c.if-follower-lt1.true
+pub returns-then-is_empty : goal.returns-then-is_empty
+returns-then-is_empty c = rw c.from.ensures (no_octet _ _ _ _ (none_there _ c.is_empty.ensures c.if-is_empty.true))
 
-pub returns-in-Refused : goal.returns-in-Refused
-returns-in-Refused c =
-    trace_refused_lem step_by_step _ _ _ c.if-follower-lt1.false (rw (c.in-Refused.is, c.follower_in.ensures) at c.follow.ensures)
-
-pub returns-in-Last : goal.returns-in-Last
-returns-in-Last c =
-    let followed = trace_followed step_by_step _ _ _ c.if-follower-lt1.false (rw (c.in-Last.is, c.follower_in.ensures) at c.follow.ensures) in
-    rw c.put_last.ensures followed
+pub returns : goal.returns
+returns c =
+    let there = one_there c.args.follower.now c.is_empty.ensures c.if-is_empty.false in
+    trace_told step_by_step _ _ _ there c.follow-read.result (rw c.follower_in.ensures at c.follow-read.ensures) c.put_last.ensures
