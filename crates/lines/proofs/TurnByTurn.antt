@@ -5,7 +5,7 @@ use mathlib.Core.Path.{◌≡◌, refl, ap, ◌∙◌}
 use mathlib.Core.Bool.{Bool}
 use mathlib.Core.List.{List, [], ◌∷◌, ◌++◌, map}
 use native.Mathlib.Omega.{arith}
-use lib.ListN.{length, get_or, take, drop, set, length-set}
+use lib.ListN.{length, get_or, take, drop, set}
 use Rattle.laws.specs.Pick.{pick}
 use Rattle.laws.specs.Lists.{written_over, written_at}
 use Rattle.laws.proofs.Lists.{stored}
@@ -18,11 +18,6 @@ use Rattle.lines.specs.declared.follower.Followed.{Followed}
 -- an octet in front, and a part behind it
 behind_the_first : (room part : List ℕ) (x : ℕ) → 1 ≤ length room → written_at (set room 0 x) 1 part ≡ written_over room (x ∷ part)
 behind_the_first room part x h = ap (λ (l : List ℕ). written_at l 1 part) (stored room (x ∷ []) h) ∙ written_next room (x ∷ []) part
-
--- what a call below is asked: less remains, a setting at least, and there is room for it
-pub remains : (room : List ℕ) (x : ℕ) {count left places t : ℕ} → count ≡ t → 2 ≤ count → count ≤ 16 → count ≤ length room → count - 1 ≡ left → length (set room 0 x) - 1 ≡ places
-    → (left < t) × ((0 < left) × (left ≤ 16) × (left ≤ places))
-remains room x e h few k l p = (omega arith, (omega arith, omega arith, omega (arith, length-set room 0 x)))
 
 -- ---- a side: how it takes a setting, its turn and the other's, and the other's moves, at which it hands over
 

@@ -7,6 +7,7 @@ use crate::moves::Move;
 use crate::{line, table};
 use refusals::Refusal;
 
+// Flags beside the setting: `ReachedSaid` speaks of every combination, as `pg_line` takes any octet for a follower.
 #[derive(Clone, Copy, Debug, PartialEq, Eq)]
 pub struct Follower {
     pub setting: u8,
@@ -42,6 +43,7 @@ impl From<Answer> for u8 {
 
 impl Followed {
     // The answer as an octet, or the number of the refusal.
+    #[tactic(auto, unfolding(crate::specs::Reading::octet_of))]
     pub fn octet(self) -> u8
         ensures { OctetSaid self.answer result }
     {
@@ -81,6 +83,7 @@ impl Follower {
     }
 
     // Does a trace from the start lead to this state?
+    #[tactic(auto, using(std::proofs::lemmas::Bool::Decides::nat_tests), unfolding(crate::specs::Follower::is_reached, laws::specs::Pick::pick))]
     pub fn is_reached(self) -> bool
         ensures { ReachedSaid self result }
     {
@@ -88,10 +91,7 @@ impl Follower {
             return (self.setting == line::IDLE) & !self.history;
         }
         if self.history {
-            return matches!(
-                self.setting,
-                line::SELECT | line::SLAVACK | line::MASTEND
-            );
+            return matches!(self.setting, line::SELECT | line::SLAVACK | line::MASTEND);
         }
         matches!(
             self.setting,
@@ -112,6 +112,7 @@ impl Follower {
         )
     }
 
+    #[tactic(auto, unfolding(crate::specs::Follower::moved_by, laws::specs::Pick::pick))]
     fn moved(self, setting: u8) -> Followed
         requires { (self.setting < 32) × (setting < 32) }
         ensures { result ≡ moved self setting }
@@ -130,6 +131,7 @@ impl Follower {
         }
     }
 
+    #[tactic(auto, unfolding(crate::specs::Follower::lacks_history))]
     fn lacks_history(self, setting: u8) -> bool
         ensures { result ≡ lacks_history self setting }
     {
@@ -143,6 +145,7 @@ impl Follower {
         }
     }
 
+    #[tactic(auto, unfolding(crate::specs::Follower::remembers))]
     pub(crate) fn at(self, setting: u8) -> Follower
         ensures { result ≡ remembers self setting }
     {
@@ -179,6 +182,7 @@ impl Follower {
 }
 
 // IDLE where the setting is 0, else lost.
+#[tactic(auto, unfolding(crate::specs::Follower::undefined_at, laws::specs::Pick::pick))]
 pub(crate) fn undefined_at(setting: u8) -> Followed
     ensures { result ≡ undefined_at setting }
 {
@@ -190,6 +194,7 @@ pub(crate) fn undefined_at(setting: u8) -> Followed
     follower.told(Answer::Undefined)
 }
 
+#[tactic(auto, unfolding(crate::specs::Follower::while_lost, laws::specs::Pick::pick))]
 pub(crate) fn while_lost(setting: u8) -> Followed
     ensures { result ≡ while_lost setting }
 {

@@ -2,7 +2,7 @@
 ghost use Rattle.std.specs.Prelude.{◌≡◌};
 ghost use Rattle.lines.specs.Line.{named_settings, WeightSaid, OwnerSaid};
 
-// The settings that have a name.
+// The settings that have a name. Numbers, as `Stepped` speaks of every octet as a setting.
 pub const IDLE: u8 = 0;
 
 pub const MAINT: u8 = 1;
@@ -59,7 +59,7 @@ pub enum Line {
     SyncOut,
 }
 
-// What the line adds to a setting while it is up.
+// What the line adds to a setting while it is up. Neither this nor `owner` is a `From`: the line has both, and is neither.
 pub fn weight(line: Line) -> u8
     ensures { WeightSaid line result }
 {

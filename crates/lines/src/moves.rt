@@ -14,6 +14,7 @@ pub enum Move {
 }
 
 // What the move from one setting to another is. A setting over 31 is refused (8).
+#[tactic(auto, unfolding(laws::specs::Pick::pick))]
 pub fn move_of(old: u8, new: u8) -> Result<Move, Refusal>
     ensures { MoveSaid old new result }
 {
@@ -24,6 +25,7 @@ pub fn move_of(old: u8, new: u8) -> Result<Move, Refusal>
 }
 
 // What an entry of the table says. No `From<u8>`: an octet that is no entry says nothing.
+#[tactic(auto, unfolding(crate::specs::Moves::said_by, laws::specs::Pick::pick))]
 pub(crate) fn said_by(entry: u8) -> Move
     ensures { result ≡ said_by entry }
 {

@@ -51,6 +51,7 @@ fn read_stretch(follower: Follower, stretch: &[u8], answers: &mut [u8]) -> Follo
     controllers_turn(follower, stretch, answers)
 }
 
+// A turn for each side, as `PlainDefinitionIsTheStep` has them: it hands over to the other by a call.
 #[cycle(controllers_turn_drives_turn)]
 fn controllers_turn(follower: Follower, rest: &[u8], answers: &mut [u8]) -> Follower
     requires { IsStretch rest.now answers.old }
@@ -89,19 +90,28 @@ fn drives_turn(follower: Follower, rest: &[u8], answers: &mut [u8]) -> Follower
     drives_turn(next, left, places)
 }
 
+#[inline(always)]
 fn controller_takes(follower: Follower, new: u8) -> Followed
     ensures { result ≡ controller_takes follower new }
 {
-    takes(Answer::Controllers, is_controllers(follower, new), follower, new)
+    takes(
+        Answer::Controllers,
+        is_controllers(follower, new),
+        follower,
+        new,
+    )
 }
 
+#[inline(always)]
 fn drive_takes(follower: Follower, new: u8) -> Followed
     ensures { result ≡ drive_takes follower new }
 {
     takes(Answer::Drives, is_drives(follower, new), follower, new)
 }
 
-// A setting in the turn of a side: is it a move of its own?
+// A setting in the turn of a side: is it a move of its own? What a turn goes by is inlined, so that a setting by itself is taken without a call.
+#[inline(always)]
+#[tactic(auto, unfolding(crate::specs::Turns::takes, laws::specs::Pick::pick))]
 fn takes(side: Answer, own: bool, follower: Follower, new: u8) -> Followed
     ensures { result ≡ takes side own follower new }
 {
@@ -115,6 +125,8 @@ fn takes(side: Answer, own: bool, follower: Follower, new: u8) -> Followed
 }
 
 // "controller: 0→4, 4→0, 0→1, 1→0, 0→16, 16→0, 24→25, 27→26, 24→28, 30→31, 29→28, 30→26, 20→16, 24→8", and "Two moves also need history."
+#[inline(always)]
+#[tactic(auto, unfolding(crate::specs::Follower::lacks_history))]
 fn is_controllers(follower: Follower, new: u8) -> bool
     ensures { result ≡ is_controllers follower new }
 {
@@ -137,6 +149,7 @@ fn is_controllers(follower: Follower, new: u8) -> bool
 }
 
 // "drive: 16→24, 25→27, 26→24, 28→20, 28→30, 31→29, 8→0"
+#[inline(always)]
 fn is_drives(follower: Follower, new: u8) -> bool
     ensures { result ≡ is_drives follower new }
 {
@@ -151,6 +164,8 @@ fn is_drives(follower: Follower, new: u8) -> bool
     }
 }
 
+#[inline(always)]
+#[tactic(auto, unfolding(crate::specs::Turns::nobodys_move, laws::specs::Pick::pick))]
 fn nobodys_move(follower: Follower, new: u8) -> Followed
     ensures { result ≡ nobodys_move follower new }
 {

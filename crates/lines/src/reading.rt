@@ -13,6 +13,7 @@ pub fn follow(follower: Follower, trace: &[u8], answers: &mut [u8]) -> Result<Fo
         return Err(Refusal::SliceTooShort);
     }
     let mut last = follower;
+    // By index: of what is written under `iter_mut().zip(..)` a proof knows nothing afterwards (tried).
     for (i, setting) in trace.iter().enumerate() {
         let followed = last.step(*setting);
         answers[i] = followed.octet();

@@ -1,7 +1,7 @@
 -- `read_plainly` meets its contract: stretch behind stretch is read as the steps do, and so does the definition.
 -- Assumes nothing.
 use native.Mathlib.Omega.{arith}
-use Rattle.std.proofs.Common.{◌≡◌, ◌+◌, ◌≤◌, length, take, drop, length-take, length-drop}
+use Rattle.std.proofs.Common.{◌≡◌, ◌+◌}
 use Rattle.lines.proofs.Turns.{plainly}
 use Rattle.lines.proofs.ReadSoFar.{read_none, stretch_read, all_left, no_room}
 use Rattle.lines.proofs.plain.read_plainly.Goals as goal
@@ -11,11 +11,6 @@ returns-then-answers-trace c = no_room _ _ _ c.if-answers-trace.true
 
 pub loop-at-init : goal.loop-at-init
 loop-at-init c = read_none _ _ _ c.if-answers-trace.false
-
-pub read_stretch-last-requires : goal.read_stretch-last-requires
-read_stretch-last-requires c =
-    let inv = c.loop-at.invariant in
-    (simp (length-take, length-drop) (omega arith), simp (length-take, length-drop) (omega arith), simp (length-take, length-drop) (omega (arith, inv.enough, inv.kept)))
 
 pub loop-at-preserved : goal.loop-at-preserved
 loop-at-preserved c =
