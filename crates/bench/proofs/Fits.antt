@@ -18,8 +18,7 @@ use Rattle.bench.specs.Text.{numbered_line}
 use Rattle.bench.specs.Report.{refused_word, run_of, capture_report, report_of, part_report_of, report_rows, Reported}
 use Rattle.bench.specs.declared.report.Wanted.{Wanted}
 use Rattle.bench.specs.declared.report.Wanted.TheVariants.{All, Stretch}
-use Rattle.numbers.specs.declared.number.Number.{Number}
-use Rattle.numbers.specs.declared.number.Number.TheVariants.{Is, Not}
+use Rattle.std.specs.Prelude.{Option, Some, None}
 use Rattle.bench.specs.declared.report.Replayed.TheVariants.{Text, Refused}
 use Rattle.bench.proofs.Captured.{records_short, records_octets}
 use Rattle.bench.proofs.Size.{numbered_size, run_size}
@@ -46,10 +45,10 @@ module _ (wanted : Wanted) (octets : List ℕ) (all : AllOctets octets) where
   report_fits =
       cases (λ (text : List ℕ). length text ≤ 163850) (ltb 65536 (length octets)) (λ e. omega arith) (λ e. capture_fits (ltb-false 65536 (length octets) e))
 
-pub part_fits : (from limit : Number) (octets : List ℕ) → AllOctets octets → length (part_report_of from limit octets) ≤ 163850
-part_fits (Is from) (Is limit) octets all = report_fits (Stretch from limit) octets all
-part_fits (Is from) Not octets all = omega arith
-part_fits Not limit octets all = omega arith
+pub part_fits : (from limit : Option ℕ) (octets : List ℕ) → AllOctets octets → length (part_report_of from limit octets) ≤ 163850
+part_fits (Some from) (Some limit) octets all = report_fits (Stretch from limit) octets all
+part_fits (Some from) None octets all = omega arith
+part_fits None limit octets all = omega arith
 
 pub told_within : {report before after : List ℕ} {size : ℕ} → Reported report before after (Text size) → size ≤ length before
 told_within {report} {before} {after} {size} told =

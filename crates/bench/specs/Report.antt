@@ -1,11 +1,9 @@
 -- The report of a capture, or of a part of it, and the promises of `replay` and `replay_part`.
-use Rattle.std.specs.Prelude.{ℕ, ◌≡◌, List, [], ◌∷◌, ltb, length}
+use Rattle.std.specs.Prelude.{ℕ, ◌≡◌, List, [], ◌∷◌, Option, Some, None, ltb, length}
 use Rattle.laws.specs.Pick.{pick}
 use Rattle.laws.specs.Rows.{Row, first, ◌when◌, unless_refused, Paper, refused_with, tells, refused_or}
 use Rattle.laws.specs.Lists.{written_over}
 use Rattle.capture.specs.Capture.{capture_refusal, records_of}
-use Rattle.numbers.specs.declared.number.Number.{Number}
-use Rattle.numbers.specs.declared.number.Number.TheVariants.{Is, Not}
 use Rattle.bench.specs.Text.{numbered_line}
 use Rattle.bench.specs.Run.{run_report}
 use Rattle.bench.specs.Part.{part_report}
@@ -41,10 +39,10 @@ unfoldable pub report_of : Wanted → List ℕ → List ℕ
 report_of wanted octets = pick (ltb 65536 (length octets)) too_long (capture_report wanted octets)
 
 -- M-103, of the arguments FROM and LIMIT: where they are not two numbers, that is said and nothing else, before the capture is looked at.
-abbrev pub part_report_of : Number → Number → List ℕ → List ℕ
-part_report_of (Is from) (Is limit) octets = report_of (Stretch from limit) octets
-part_report_of (Is from) Not octets = bad_arguments
-part_report_of Not limit octets = bad_arguments
+abbrev pub part_report_of : Option ℕ → Option ℕ → List ℕ → List ℕ
+part_report_of (Some from) (Some limit) octets = report_of (Stretch from limit) octets
+part_report_of (Some from) None octets = bad_arguments
+part_report_of None limit octets = bad_arguments
 
 -- 10: "a lent slice too short"
 abbrev pub report_rows : List ℕ → List ℕ → List Row

@@ -1,5 +1,5 @@
 -- Wrong answers of `replay` and `replay_part`: reports that a careless programmer would write, and no promise allows.
-use Rattle.std.specs.Prelude.{ℕ, List, [], ◌∷◌, ◌++◌, length, replicate, take}
+use Rattle.std.specs.Prelude.{ℕ, List, [], ◌∷◌, ◌++◌, Some, None, length, replicate, take}
 use Rattle.laws.specs.Lists.{written_over}
 use Rattle.capture.specs.Cases.{three_events, its_trailer}
 use Rattle.bench.specs.Text.{space, newline, digit}
@@ -8,7 +8,6 @@ use Rattle.bench.specs.Run.{events_word}
 use Rattle.bench.specs.Part.{ran_word, next_word}
 use Rattle.bench.specs.Report.{report_of, part_report_of, Reported}
 use Rattle.bench.specs.declared.report.Wanted.TheVariants.{All}
-use Rattle.numbers.specs.declared.number.Number.TheVariants.{Is, Not}
 use Rattle.bench.specs.Cases.{refused12}
 use Rattle.bench.specs.declared.report.Replayed.TheVariants.{Text}
 
@@ -44,7 +43,7 @@ Tells octets text = Reported (report_of All octets) (replicate 64 0) (written_ov
 
 -- The same of a part of it.
 abbrev TellsPart : ℕ → ℕ → List ℕ → List ℕ → Type 0
-TellsPart from limit octets text = Reported (part_report_of (Is from) (Is limit) octets) (replicate 64 0) (written_over (replicate 64 0) text) (Text (length text))
+TellsPart from limit octets text = Reported (part_report_of (Some from) (Some limit) octets) (replicate 64 0) (written_over (replicate 64 0) text) (Text (length text))
 
 pub record WrongAnswers : Type 0 where
   -- ---- `replay`
@@ -69,4 +68,4 @@ pub record WrongAnswers : Type 0 where
   pub next_behind_the_last : TellsPart 2 1 (three_events ++ its_trailer)
       (ran_word ++ (digit 1 ∷ newline ∷ []) ++ gap_line 3 0 0 no_status 4 ++ owner_none ++ next_word ++ (digit 3 ∷ newline ∷ [])) → ⊥
   -- A capture that is refused is told before bad arguments.
-  pub refused_before_bad_arguments : Reported (part_report_of Not (Is 1) []) (replicate 64 0) (written_over (replicate 64 0) refused12) (Text 11) → ⊥
+  pub refused_before_bad_arguments : Reported (part_report_of None (Some 1) []) (replicate 64 0) (written_over (replicate 64 0) refused12) (Text 11) → ⊥

@@ -7,7 +7,6 @@ ghost use Rattle.bench.specs.Report.{run_of, report_of, part_report_of, Reported
 
 use crate::{part, run, text};
 use capture::CaptureRead;
-use numbers::Number;
 
 #[derive(Clone, Copy)]
 pub enum Replayed {
@@ -62,12 +61,9 @@ fn put_part_report(text: &mut [u8], from: &[u8], limit: &[u8], octets: &[u8]) ->
     requires { 163850 ≤ length text.old }
     ensures { Put text.old 0 (part_report_of (number_in from.now) (number_in limit.now) octets.now) text.new result }
 {
-    match numbers::number_of(from) {
-        Number::Is(first) => match numbers::number_of(limit) {
-            Number::Is(most) => put_report(text, octets, Wanted::Stretch(first, most)),
-            Number::Not => text::put(text, 0, b"bad arguments\n"),
-        },
-        Number::Not => text::put(text, 0, b"bad arguments\n"),
+    match (numbers::number_of(from), numbers::number_of(limit)) {
+        (Some(first), Some(most)) => put_report(text, octets, Wanted::Stretch(first, most)),
+        _ => text::put(text, 0, b"bad arguments\n"),
     }
 }
 

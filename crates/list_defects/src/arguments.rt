@@ -2,7 +2,6 @@
 ghost use Rattle.std.specs.Prelude.{◌≡◌, leb};
 ghost use Rattle.laws.specs.Pick.{pick};
 
-use numbers::Number;
 use parts::Setup;
 use std::env::FillError;
 use std::rt::Env;
@@ -47,17 +46,11 @@ fn is_given(env: &impl Env, index: usize) -> bool {
 fn argument(env: &impl Env, index: usize) -> u16 {
     let mut digits = [0u8; MOST_DIGITS];
     let length = env.arg(index, &mut digits).unwrap_or(0);
-    match numbers::number_of(&digits[..length]) {
-        Number::Is(number) => word_of(number),
-        Number::Not => 0,
-    }
+    numbers::number_of(&digits[..length]).map_or(0, word_of)
 }
 
 fn word_of(number: u32) -> u16
     ensures { result ≡ pick (leb number 65535) number 0 }
 {
-    if number <= u16::MAX as u32 {
-        return number as u16;
-    }
-    0
+    u16::try_from(number).unwrap_or(0)
 }

@@ -3,4 +3,4 @@
 
 mod number;
 
-pub use number::{MOST_DIGITS, Number, number_of};
+pub use number::{MOST_DIGITS, number_of};

@@ -1,6 +1,5 @@
 -- Wrong answers of `replay_input` and `part_input`: what a careless programmer would get, and no promise allows.
-use Rattle.std.specs.Prelude.{ℕ, List, [], ◌∷◌, replicate}
-use Rattle.numbers.specs.declared.number.Number.TheVariants.{Is, Not}
+use Rattle.std.specs.Prelude.{ℕ, List, [], ◌∷◌, Some, None, replicate}
 use Rattle.bench.specs.Report.{report_of, part_report_of}
 use Rattle.bench.specs.declared.report.Wanted.TheVariants.{All}
 use Rattle.reading.specs.Input.{InputReplayed}
@@ -17,6 +16,6 @@ pub record WrongAnswers : Type 0 where
   pub count_beyond_the_slice : InputReplayed (report_of All) [] blank 1 blank → ⊥
   -- ---- `part_input`
   -- The arguments are no numbers, and nothing is said.
-  pub bad_arguments_not_told : InputReplayed (part_report_of Not Not) [] blank 0 blank → ⊥
+  pub bad_arguments_not_told : InputReplayed (part_report_of None None) [] blank 0 blank → ⊥
   -- An octet of no capture was read, and the text is left as it was.
-  pub part_not_told : InputReplayed (part_report_of (Is 0) (Is 1)) (7 ∷ []) blank 1 blank → ⊥
+  pub part_not_told : InputReplayed (part_report_of (Some 0) (Some 1)) (7 ∷ []) blank 1 blank → ⊥

@@ -9,7 +9,6 @@ ghost use Rattle.reading.specs.Input.{InputReplayed};
 ghost use Rattle.reading.specs.Told.{size_told};
 
 use bench::Replayed;
-use numbers::Number;
 use std::io::Read;
 
 // The longest capture has 65,536 octets. One more is read, so that a longer one shows: if no more were read than may be there, the front of a capture
@@ -38,20 +37,13 @@ pub fn part_input(
 ) -> usize
     ensures { InputReplayed (part_report_of (number_in from.now) (number_in limit.now)) octets.new text.old result text.new }
 {
-    let wanted = is_number(from) & is_number(limit);
+    let wanted = numbers::number_of(from).is_some() && numbers::number_of(limit).is_some();
     let mut input = rt.reader();
     let count = read_if(wanted, &mut input, octets);
     let whole = has_not_failed_if(wanted, &mut input);
     let replayed = bench::replay_part(from, limit, &octets[..count], text);
     tell(rt, "part", whole, replayed, &text[..]);
     count
-}
-
-fn is_number(digits: &[u8]) -> bool {
-    match numbers::number_of(digits) {
-        Number::Is(_) => true,
-        Number::Not => false,
-    }
 }
 
 fn read_if(wanted: bool, input: &mut impl Read, octets: &mut [u8]) -> usize

@@ -1,28 +1,27 @@
 -- `number::number_of` meets its contract: what is left to read spells, behind what was read, the number of all.
 -- Assumes nothing.
-use Prim.Native.Nat.{ℕ, ◌+◌, ◌-◌, ◌*◌, ◌^◌, ◌≤◌, ◌<◌}
+use Prim.Native.Nat.{ℕ, ◌+◌, ◌-◌, ◌*◌, ◌≤◌, ◌<◌}
 use mathlib.Core.Path.{◌≡◌, refl, sym, ◌∙◌}
 use mathlib.Core.Bool.{true, false}
-use mathlib.Core.List.{List}
-use native.Mathlib.Nat.{pow-suc, pow-le-pow_right}
+use mathlib.Core.List.{List, [], ◌∷◌}
 use native.Mathlib.Numerals.{add-one}
 use native.Mathlib.Omega.{arith}
-use borrow.Author.Tests.{leb-true, le-leb, lt-leb}
-use lib.Dec.{leb}
+use borrow.Author.Tests.{eqb-true, eqb-false, le-leb, lt-leb}
 use lib.ListN.{length, drop, get_or, drop_of_length-le}
 use lib.Seq.{drop-cons}
+use Rattle.std.specs.Prelude.{Option, Some, None}
 use Rattle.laws.specs.Pick.{pick}
-use Rattle.laws.proofs.Tests.{and_l, and_r}
+use Rattle.laws.proofs.Pick.{either}
 use Rattle.numbers.specs.Number.{is_digit, decimal_after, number_in}
-use Rattle.numbers.specs.declared.number.Number.TheVariants.{Is, Not}
 use Rattle.numbers.proofs.number.number_of.Invariants.{Reading}
 use Rattle.numbers.proofs.number.number_of.Goals as goal
+use Rattle.numbers.proofs.number.number_of.Goals.{then-is_empty-via-then-is_empty, then-is_empty-via-else-is_empty+then-digits-gt-MOST_DIGITS}
 
-digit_bounds : (octet : ℕ) → is_digit octet ≡ true → (48 ≤ octet) × (octet ≤ 57)
-digit_bounds octet d =
-    let low = leb 48 octet in
-    let high = leb octet 57 in
-    (leb-true 48 octet (and_l low high d), leb-true octet 57 (and_r low high d))
+-- what 32 bits no longer hold, no further digit mends
+too_large : (before : ℕ) (octets : List ℕ) → 4294967295 < before → decimal_after before octets ≡ None
+unfolding pick
+too_large before [] h = rw (lt-leb _ 4294967295 h)
+too_large before (octet ∷ octets) h = either (λ (x : Option ℕ). x ≡ None) (is_digit octet) (too_large (before * 10 + (octet - 48)) octets (omega arith)) refl
 
 module _ {digits : List ℕ} {number i : ℕ} (here : Reading digits number i) where
   all_read : decimal_after number (drop i digits) ≡ number_in digits
@@ -30,73 +29,65 @@ module _ {digits : List ℕ} {number i : ℕ} (here : Reading digits number i) w
   all_read = rw (le-leb 1 (length digits) here.some, le-leb (length digits) 10 here.few) here.left
 
   -- the digits are used up
-  ended : length digits ≤ i → pick (leb number 4294967295) (Is number) Not ≡ number_in digits
-  ended h = rw (drop_of_length-le digits h) at all_read
+  ended : length digits ≤ i → Some number ≡ number_in digits
+  unfolding pick
+  ended h = rw (drop_of_length-le digits h, le-leb number 4294967295 here.small) at all_read
 
   module _ (more : i < length digits) where
-    stopped : is_digit (get_or digits i 0) ≡ false → Not ≡ number_in digits
+    stopped : is_digit (get_or digits i 0) ≡ false → None ≡ number_in digits
     unfolding pick
     stopped e = rw (drop-cons digits i 0 more, e) at all_read
 
-    -- a digit has its place among the ten
-    fits : number * 10 ≤ 9999999990
-    fits =
-        let place : i ≤ 9 = omega (arith, here.few) in
-        let most : 10 ^ i ≤ 1000000000 = pow-le-pow_right (omega arith) place in
-        omega (arith, here.small)
-
-    next : (value : ℕ) → value ≡ get_or digits i 0 - 48 → is_digit (get_or digits i 0) ≡ true → Reading digits (number * 10 + value) (i + 1)
+    read_on : is_digit (get_or digits i 0) ≡ true → decimal_after (number * 10 + (get_or digits i 0 - 48)) (drop (i + 1) digits) ≡ decimal_after 0 digits
     unfolding pick
-    next value e d =
-        let bounds = digit_bounds (get_or digits i 0) d in
-        record {
-          some = here.some;
-          few = here.few;
-          small = rw (add-one, pow-suc) (omega (arith, here.small));
-          left = rw (e, add-one) (rw (drop-cons digits i 0 more, d) at here.left);
-        }
+    read_on d = rw add-one (rw (drop-cons digits i 0 more, d) at here.left)
 
-pub returns-then-digits-eq0 : goal.returns-then-digits-eq0
+    next : {value : ℕ} → value ≡ number * 10 + (get_or digits i 0 - 48) → value ≤ 4294967295 → is_digit (get_or digits i 0) ≡ true → Reading digits value (i + 1)
+    next e s d = record { some = here.some; few = here.few; small = s; left = rw e (read_on d) }
+
+    overflown : is_digit (get_or digits i 0) ≡ true → 4294967295 < number * 10 + (get_or digits i 0 - 48) → None ≡ number_in digits
+    unfolding pick
+    overflown d h = sym (too_large _ (drop (i + 1) digits) h) ∙ (rw add-one (rw (drop-cons digits i 0 more, d) at all_read))
+
+pub returns-then-is_empty : goal.returns-then-is_empty
 unfolding pick number_in
-returns-then-digits-eq0 c = rw c.if-digits-eq0.true
+returns-then-is_empty c =
+    elim c.then-is_empty.branch [
+      | then-is_empty-via-then-is_empty w ↦
+          let none : length c.args.digits.now ≡ 0 = eqb-true _ 0 (sym c.is_empty.ensures ∙ w.if-is_empty.true) in
+          rw none
+      | then-is_empty-via-else-is_empty+then-digits-gt-MOST_DIGITS w ↦
+          let many : 10 < length c.args.digits.now = w.if-digits-gt-MOST_DIGITS.true in
+          let one : 1 ≤ length c.args.digits.now = omega arith in
+          rw (le-leb 1 _ one, lt-leb _ 10 many)
+    ]
 
-pub returns-then-digits-gt-MOST_DIGITS : goal.returns-then-digits-gt-MOST_DIGITS
-unfolding pick number_in
-returns-then-digits-gt-MOST_DIGITS c =
-    let many : 10 < length c.args.digits.now = c.if-digits-gt-MOST_DIGITS.true in
-    let one : 1 ≤ length c.args.digits.now = omega arith in
-    rw (le-leb 1 _ one, lt-leb _ 10 many)
+pub loop-digit-init : goal.loop-digit-init
+loop-digit-init c =
+    let some = eqb-false _ 0 (sym c.is_empty.ensures ∙ c.if-is_empty.false) in
+    record { some = omega arith; few = omega arith; small = omega arith; left = refl }
 
-pub loop-i-init : goal.loop-i-init
-loop-i-init c = record { some = omega arith; few = omega arith; small = omega arith; left = refl }
+pub returns-then-not-is_ascii_digit : goal.returns-then-not-is_ascii_digit
+returns-then-not-is_ascii_digit c =
+    stopped c.loop-digit.invariant c.loop-digit-test.true (sym c.is_ascii_digit.ensures.value ∙ c.if-not-is_ascii_digit.true)
 
-pub returns-then-not-is_digit : goal.returns-then-not-is_digit
-returns-then-not-is_digit c =
-    stopped c.loop-i.invariant (omega arith) (sym c.is_digit.ensures ∙ c.if-not-is_digit.true)
+pub returns-in_err-checked_mul : goal.returns-in_err-checked_mul
+returns-in_err-checked_mul c =
+    let large : c.loop-digit.number * 10 < 4294967296 → ⊥ = c.in_err-checked_mul.ensures in
+    c.from_residual.ensures ∙ overflown c.loop-digit.invariant c.loop-digit-test.true (sym c.is_ascii_digit.ensures.value ∙ c.if-not-is_ascii_digit.false) (omega arith)
 
-pub overflow_mul-number : goal.overflow_mul-number
-overflow_mul-number c = omega (arith, fits c.loop-i.invariant (omega arith))
+pub returns-in_err-number : goal.returns-in_err-number
+returns-in_err-number c =
+    let large : c.in_ok-checked_mul.field-0 + c.from.result < 4294967296 → ⊥ = c.in_err-number.ensures in
+    let product : c.in_ok-checked_mul.field-0 ≡ c.loop-digit.number * 10 = c.in_ok-checked_mul.ensures.1 in
+    c.from_residual-in_err-number.ensures
+    ∙ overflown c.loop-digit.invariant c.loop-digit-test.true (sym c.is_ascii_digit.ensures.value ∙ c.if-not-is_ascii_digit.false) (omega arith)
 
-pub value_of-requires : goal.value_of-requires
-value_of-requires c =
-    let digit_told : is_digit (get_or c.args.digits.now c.loop-i.i 0) ≡ true = sym c.is_digit.ensures ∙ c.if-not-is_digit.false in
-    (digit_bounds _ (digit_told)).0
-
-pub overflow_add-number : goal.overflow_add-number
-overflow_add-number c =
-    let digit_told : is_digit (get_or c.args.digits.now c.loop-i.i 0) ≡ true = sym c.is_digit.ensures ∙ c.if-not-is_digit.false in
-    let digit = get_or c.args.digits.now c.loop-i.i 0 in
-    omega (arith, fits c.loop-i.invariant (omega arith), digit_bounds digit (digit_told))
-
-pub loop-i-preserved : goal.loop-i-preserved
-loop-i-preserved c =
-    let digit_told : is_digit (get_or c.args.digits.now c.loop-i.i 0) ≡ true = sym c.is_digit.ensures ∙ c.if-not-is_digit.false in
-    next c.loop-i.invariant (omega arith) _ c.value_of.ensures (digit_told)
-
-pub returns-then-number : goal.returns-then-number
-unfolding pick
-returns-then-number c = rw (le-leb _ 4294967295 c.if-number.true) at (ended c.loop-i.invariant (omega arith))
+pub loop-digit-preserved : goal.loop-digit-preserved
+loop-digit-preserved c =
+    let product = c.in_ok-checked_mul.ensures in
+    let sum = c.in_ok-number.ensures in
+    next c.loop-digit.invariant c.loop-digit-test.true (omega arith) (omega arith) (sym c.is_ascii_digit.ensures.value ∙ c.if-not-is_ascii_digit.false)
 
 pub returns : goal.returns
-unfolding pick
-returns c = rw (lt-leb _ 4294967295 c.if-number.false) at (ended c.loop-i.invariant (omega arith))
+returns c = ended c.loop-digit.invariant (omega arith)

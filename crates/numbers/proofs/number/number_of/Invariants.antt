@@ -1,6 +1,6 @@
 -- `number::number_of` meets its contract: what is left to read spells, behind what was read, the number of all.
 -- Assumes nothing.
-use Prim.Native.Nat.{ℕ, ◌-◌, ◌^◌, ◌≤◌, ◌<◌}
+use Prim.Native.Nat.{ℕ, ◌≤◌}
 use mathlib.Core.Path.{◌≡◌}
 use mathlib.Core.List.{List}
 use lib.ListN.{length, drop}
@@ -10,11 +10,8 @@ use Rattle.numbers.proofs.number.number_of.Given as goal
 pub record Reading (digits : List ℕ) (number i : ℕ) : Type 0 where
   pub some : 1 ≤ length digits
   pub few : length digits ≤ 10
-  pub small : number < 10 ^ i
+  pub small : number ≤ 4294967295
   pub left : decimal_after number (drop i digits) ≡ decimal_after 0 digits
 
-abbrev pub invariant-loop-i : goal.invariant-loop-i
-invariant-loop-i l = Reading l.digits l.number l.i
-
-abbrev pub decreases-loop-i : goal.decreases-loop-i
-decreases-loop-i l = length l.digits - l.i
+abbrev pub invariant-loop-digit : goal.invariant-loop-digit
+invariant-loop-digit l = Reading l.digits l.number l.digit-index
