@@ -21,8 +21,7 @@ use Rattle.parts.specs.declared.setup.Setup.{Setup}
 use Rattle.parts.specs.declared.pending.Pending.{Pending}
 use Rattle.status.specs.DriveStatus.{is_drive_status, status_of, DecodedDriveStatus}
 use Rattle.status.specs.Response.{bit_when, unsolicited_octet, bus_control_octet, exception_octet, response_of, response_octets, DecodedResponse}
-use Rattle.status.specs.declared.drive_status.DriveStatusRead.TheVariants as DriveStatusRead
-use Rattle.status.specs.declared.response.ResponseRead.TheVariants as ResponseRead
+use Rattle.std.specs.Prelude.{Ok}
 use Rattle.status.proofs.Only.{decode_drive_status_only, decode_response_only}
 use Rattle.status.proofs.Decoding.{octet_of_status}
 use Rattle.status.proofs.RoundTrip.{encoded_octet, encoded_octets}
@@ -60,7 +59,7 @@ status_in s (Response first second third) b octet h = let same : 0 ≡ octet = c
 status_taken : (octet : ℕ) → is_drive_status octet ≡ true → StatusTaken octet
 status_taken octet known =
     let same = octet_of_status octet known in
-    let read = DriveStatusRead.Status (status_of octet) in
+    let read = Ok (status_of octet) in
     record {
       taken = λ rest r d. decode_drive_status_only (octet ∷ rest) r read d (subst (λ (n : ℕ). DecodedDriveStatus (n ∷ rest) read) same (encoded_octet (status_of octet) rest));
       same = same;
@@ -105,7 +104,7 @@ response_taken_lem : (m : Machine) (port : ℕ) (octets : List ℕ) → AreOctet
 response_taken_lem m port octets few known told =
     let p = pending_on m.drive port in
     let same = response_same p few known ∙ sym told in
-    let read = ResponseRead.Decoded (response_of p.octet1 p.octet2) in
+    let read = Ok (response_of p.octet1 p.octet2) in
     record {
       taken = λ rest r d.
           decode_response_only (octets ++ rest) r read d (subst (λ (l : List ℕ). DecodedResponse (l ++ rest) read) same (encoded_octets (response_of p.octet1 p.octet2) rest));

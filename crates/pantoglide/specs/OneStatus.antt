@@ -1,13 +1,12 @@
 -- One status: what the drive answers, `status` decodes.
-use Rattle.std.specs.Prelude.{ℕ, ◌/◌, ◌%◌, ◌≡◌, List, [], ◌∷◌, ◌++◌}
+use Rattle.std.specs.Prelude.{ℕ, ◌/◌, ◌%◌, ◌≡◌, List, [], ◌∷◌, ◌++◌, Result, Ok}
 use Rattle.std.proofs.Math.Option.{some}
 use Rattle.parts.specs.declared.event.Event.{Event}
 use Rattle.status.specs.DriveStatus.{octet_of, status_of, DecodedDriveStatus}
 use Rattle.status.specs.Response.{response_of, response_octets, DecodedResponse}
-use Rattle.status.specs.declared.drive_status.DriveStatusRead.{DriveStatusRead}
-use Rattle.status.specs.declared.drive_status.DriveStatusRead.TheVariants.{Status}
-use Rattle.status.specs.declared.response.ResponseRead.{ResponseRead}
-use Rattle.status.specs.declared.response.ResponseRead.TheVariants.{Decoded}
+use Rattle.status.specs.declared.drive_status.DriveStatus.{DriveStatus}
+use Rattle.status.specs.declared.response.Response.{Response}
+use Rattle.refusals.specs.declared.refusal.Refusal.{Refusal}
 use Rattle.drive.specs.Answer.{paper}
 use Rattle.drive.specs.State.{pending_on}
 use Rattle.drive.specs.Bounded.{PendingOctets}
@@ -17,13 +16,13 @@ use Rattle.drive.specs.declared.answer.Answer.TheVariants.{Opened}
 
 -- An octet that `decode_drive_status` takes, whatever follows it: the status is the one that has this octet.
 pub record StatusTaken (octet : ℕ) : Type 0 where
-  pub taken : (rest : List ℕ) (r : DriveStatusRead) → DecodedDriveStatus (octet ∷ rest) r → r ≡ Status (status_of octet)
+  pub taken : (rest : List ℕ) (r : Result DriveStatus Refusal) → DecodedDriveStatus (octet ∷ rest) r → r ≡ Ok (status_of octet)
   pub same : octet_of (status_of octet) ≡ octet
 
 -- Octets that `decode_response` takes, whatever follows them: its bits are those that were pending on the port.
 pub record ResponseTaken (m : Machine) (port : ℕ) (octets : List ℕ) : Type 0 where
-  pub taken : (rest : List ℕ) (r : ResponseRead) → DecodedResponse (octets ++ rest) r
-      → r ≡ Decoded (response_of (pending_on m.drive port).octet1 (pending_on m.drive port).octet2)
+  pub taken : (rest : List ℕ) (r : Result Response Refusal) → DecodedResponse (octets ++ rest) r
+      → r ≡ Ok (response_of (pending_on m.drive port).octet1 (pending_on m.drive port).octet2)
   pub same : response_octets (response_of (pending_on m.drive port).octet1 (pending_on m.drive port).octet2) ≡ octets
 
 -- "high octet first"

@@ -5,7 +5,7 @@ use mathlib.Core.Path.{◌≡◌, refl, ap, sym, ◌∙◌}
 use mathlib.Core.List.{List}
 use mathlib.Core.Logic.{◌↔◌}
 use native.Mathlib.Omega.{arith}
-use Rattle.std.specs.Prelude.{Result, Ok, Err, IsErr, IsErrAnd}
+use Rattle.std.specs.Prelude.{Result, Ok, Err, IsErr, IsErrAnd, ⊤}
 use Rattle.std.proofs.lemmas.Result.{err_from_is_err_and}
 use Rattle.std.proofs.Math.Option.{Option, some, none}
 use Rattle.laws.specs.Rows.{Row, first, Given, unless_refused, Paper, refused_with, tells, refused_or}
@@ -85,7 +85,7 @@ number_is_not_0 r e = by_name r e
 
 -- ---- an answer on paper has the number of a refusal, or a value
 
-abbrev number_told : Option ℕ → ℕ
+abbrev pub number_told : Option ℕ → ℕ
 number_told none = 0
 number_told (some n) = n
 
@@ -93,7 +93,7 @@ abbrev value_told : {A : Type 0} → A → Option A → A
 value_told other none = other
 value_told other (some value) = value
 
-same_number : {A : Type 0} {p q : Paper A} → p ≡ q → number_told p.refusal ≡ number_told q.refusal
+pub same_number : {A : Type 0} {p q : Paper A} → p ≡ q → number_told p.refusal ≡ number_told q.refusal
 same_number {A} e = ap (λ (p : Paper A). number_told p.refusal) e
 
 same_value : {A : Type 0} {p q : Paper A} (other : A) → p ≡ q → value_told other p.value ≡ value_told other q.value
@@ -165,3 +165,18 @@ reported_by_name report refused told (suc n) named_right accepted e = told (name
 
 pub passed_on : {A E : Type 0} {r : Result A E} {error : E} → IsErr r × IsErrAnd r (λ carried. carried ≡ error) → r ≡ Err error
 passed_on {r = r} e = let p = err_from_is_err_and r e.1 in p.1 ∙ ap Err p.2
+
+-- ---- a call that gives no value: its number is its whole answer
+
+pub done : {r : Result ⊤ Refusal} → refusal_in r ≡ 0 → r ≡ Ok tt
+done {r = Ok x} e = refl
+done {r = Err refusal} e = absurd (number_is_not_0 refusal e)
+
+pub done_only : {r s : Result ⊤ Refusal} {n : ℕ} → refusal_in r ≡ n → refusal_in s ≡ n → r ≡ s
+done_only {r = Ok x} {s = Ok y} p q = refl
+done_only {r = Err x} {s = Err y} p q = ap Err (number_only (p ∙ sym q))
+done_only {r = Ok x} {s = Err y} p q = absurd (number_is_not_0 y (q ∙ sym p))
+done_only {r = Err x} {s = Ok y} p q = absurd (number_is_not_0 x (p ∙ sym q))
+
+pub done_exactly : (rows : List Row) (r : Result ⊤ Refusal) → refusal_in r ≡ first rows → (n : ℕ) → refusal_in r ≡ suc n ↔ Given (suc n) rows
+done_exactly rows r e n = rw e (first_is_exact n rows)

@@ -7,4 +7,4 @@ use Rattle.status.specs.Cases.{ResponseCases}
 
 pub response_cases_lem : ResponseCases
 unfolding pick unsolicited_octet bus_control_octet exception_octet response_of is_foreign
-response_cases_lem = record { p8 = refl; p9 = refl; p9_decoded = record { answer = refl; on_paper = refl } }
+response_cases_lem = record { p8 = refl; p9 = refl; p9_decoded = record { answer = refl; octets_told = refl } }

@@ -5,31 +5,31 @@ use mathlib.Core.Path.{◌≡◌, refl, sym, ◌∙◌}
 use mathlib.Core.Bool.{true}
 use mathlib.Core.List.{List, ◌∷◌, ◌++◌}
 use native.Mathlib.Omega.{arith}
-use borrow.Author.Tests.{le-ltb, ltb-false, not-false}
-use lib.ListN.{length, get_or, take, drop}
+use borrow.Author.Tests.{le-ltb, ltb-false}
+use lib.ListN.{length, take, drop}
 use Rattle.laws.specs.Pick.{pick}
 use Rattle.laws.specs.Lists.{written_over}
 use Rattle.status.specs.Encoded.{EncodedAs, encode_rows}
 use Rattle.status.specs.DriveStatus.{octet_of, status_of, is_drive_status, drive_status_octets, drive_status_rows, DecodedDriveStatus}
-use Rattle.status.specs.Response.{response_of, response_octets, response_rows, DecodedResponse}
+use Rattle.status.specs.Response.{response_octets, response_rows, DecodedResponse}
 use Rattle.status.specs.RoundTrip.{DriveStatusRoundTrip, ResponseRoundTrip}
-use Rattle.status.specs.declared.encoded.Encoded.{Encoded}
+use Rattle.std.specs.Prelude.{Result, Ok, ⊤}
+use Rattle.refusals.specs.declared.refusal.Refusal.{Refusal}
+use Rattle.refusals.proofs.OnPaper.{done, value_given}
 use Rattle.status.specs.declared.drive_status.DriveStatus.{DriveStatus}
 use Rattle.status.specs.declared.drive_status.DriveStatus.TheVariants.{Normal, Busy, HeaderMiscompare, OperationException, UnsolicitedException}
-use Rattle.status.specs.declared.drive_status.DriveStatusRead.{DriveStatusRead}
 use Rattle.status.specs.declared.response.Response.{Response}
-use Rattle.status.specs.declared.response.ResponseRead.{ResponseRead}
-use Rattle.laws.proofs.Rows.{none_given, accepted}
+use Rattle.laws.proofs.Rows.{none_given, all_passed}
 use Rattle.laws.proofs.Runs.{run_read}
-use Rattle.status.proofs.Foreign.{own_octets, never_foreign, response_of_octets}
-use Rattle.status.proofs.Decoding.{octet_of_status, drive_status_decoded, response_decoded}
+use Rattle.status.proofs.Foreign.{never_foreign, response_of_octets}
+use Rattle.status.proofs.Decoding.{drive_status_decoded, response_decoded}
 
 -- an encoder with room enough writes
-has_written : {octets before after : List ℕ} {answer : Encoded} → length octets ≤ length before → EncodedAs octets before after answer
-    → (answer ≡ Encoded.Written) × (after ≡ written_over before octets)
+has_written : {octets before after : List ℕ} {answer : Result ⊤ Refusal} → length octets ≤ length before → EncodedAs octets before after answer
+    → (answer ≡ Ok tt) × (after ≡ written_over before octets)
 has_written {octets} {before} h e =
     let free = none_given (encode_rows octets before) (le-ltb _ _ h, tt) in
-    (e.answer ∙ rw free, e.slice ∙ rw free)
+    (done (e.answer ∙ free), e.slice ∙ rw free)
 
 -- ---- the drive status octet
 
@@ -41,15 +41,12 @@ status_of_octet HeaderMiscompare = (refl, refl)
 status_of_octet OperationException = (refl, refl)
 status_of_octet UnsolicitedException = (refl, refl)
 
-decoded_octet : (octets : List ℕ) (status : DriveStatus) → DecodedDriveStatus octets (DriveStatusRead.Status status) → drive_status_octets status ≡ take 1 octets
+decoded_octet : (octets : List ℕ) (status : DriveStatus) → DecodedDriveStatus octets (Ok status) → drive_status_octets status ≡ take 1 octets
 decoded_octet octets status d =
-    let octet = get_or octets 0 0 in
-    let found = DriveStatusRead.Status (status_of octet) in
-    let (is, (long, (known, end))) = accepted (drive_status_rows octets) DriveStatusRead.Refused (DriveStatusRead.Status status) found refl (λ n e. cc) d.answer in
-    let same : status ≡ status_of octet = cc in
-    rw (same, octet_of_status octet (not-false _ known)) (sym (run_read octets 0 1 (ltb-false _ _ long)))
+    let (long, later) = all_passed (drive_status_rows octets) refl (value_given (drive_status_rows octets) d.answer).0 in
+    rw d.octet (sym (run_read octets 0 1 (ltb-false _ _ long)))
 
-pub encoded_octet : (status : DriveStatus) (rest : List ℕ) → DecodedDriveStatus (octet_of status ∷ rest) (DriveStatusRead.Status status)
+pub encoded_octet : (status : DriveStatus) (rest : List ℕ) → DecodedDriveStatus (octet_of status ∷ rest) (Ok status)
 encoded_octet status rest =
     let (known, same) = status_of_octet status in
     let free = none_given (drive_status_rows (octet_of status ∷ rest)) (le-ltb (suc (length rest)) 1 (omega arith), (rw known, tt)) in
@@ -57,16 +54,11 @@ encoded_octet status rest =
 
 -- ---- the status response
 
-decoded_octets : (octets : List ℕ) (response : Response) → DecodedResponse octets (ResponseRead.Decoded response) → response_octets response ≡ take 8 octets
+decoded_octets : (octets : List ℕ) (response : Response) → DecodedResponse octets (Ok response) → response_octets response ≡ take 8 octets
 decoded_octets octets response d =
-    let one = get_or octets 1 0 in
-    let two = get_or octets 2 0 in
-    let found = ResponseRead.Decoded (response_of one two) in
-    let (is, (long, (own, end))) = accepted (response_rows octets) ResponseRead.Refused (ResponseRead.Decoded response) found refl (λ n e. cc) d.answer in
-    let same : response ≡ response_of one two = cc in
-    rw (same, own_octets octets own) (sym (run_read octets 0 8 (ltb-false _ _ long)))
+    d.octets_told
 
-pub encoded_octets : (response : Response) (rest : List ℕ) → DecodedResponse (response_octets response ++ rest) (ResponseRead.Decoded response)
+pub encoded_octets : (response : Response) (rest : List ℕ) → DecodedResponse (response_octets response ++ rest) (Ok response)
 encoded_octets response rest =
     let free = none_given (response_rows (response_octets response ++ rest)) (le-ltb (length (response_octets response ++ rest)) 8 (omega arith), (never_foreign response rest, tt)) in
     response_decoded (rw (free, response_of_octets response))

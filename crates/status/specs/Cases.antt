@@ -1,8 +1,7 @@
 -- "Bench cases": the status responses that document 01 writes out.
-use Rattle.std.specs.Prelude.{◌≡◌, true, false, [], ◌∷◌}
+use Rattle.std.specs.Prelude.{◌≡◌, true, false, [], ◌∷◌, Ok}
 use Rattle.status.specs.Response.{response_octets, DecodedResponse}
 use Rattle.status.specs.declared.response.Response.{Response}
-use Rattle.status.specs.declared.response.ResponseRead.TheVariants.{Decoded}
 
 abbrev pub taken_over : Response
 taken_over =
@@ -31,4 +30,4 @@ pub record ResponseCases : Type 0 where
   pub p8 : response_octets bad_control ≡ 0x20 ∷ 0x00 ∷ 0x80 ∷ 0x00 ∷ 0x00 ∷ 0x00 ∷ 0x00 ∷ 0x00 ∷ []
   -- "P9 .. Read status: 40 40 and six 00."
   pub p9 : response_octets taken_over ≡ 0x40 ∷ 0x40 ∷ 0x00 ∷ 0x00 ∷ 0x00 ∷ 0x00 ∷ 0x00 ∷ 0x00 ∷ []
-  pub p9_decoded : DecodedResponse (0x40 ∷ 0x40 ∷ 0x00 ∷ 0x00 ∷ 0x00 ∷ 0x00 ∷ 0x00 ∷ 0x00 ∷ []) (Decoded taken_over)
+  pub p9_decoded : DecodedResponse (0x40 ∷ 0x40 ∷ 0x00 ∷ 0x00 ∷ 0x00 ∷ 0x00 ∷ 0x00 ∷ 0x00 ∷ []) (Ok taken_over)

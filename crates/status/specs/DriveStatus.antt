@@ -1,12 +1,12 @@
 -- "Drive status": the octet of each status, and what the two calls answer.
-use Rattle.std.specs.Prelude.{ℕ, ◌≡◌, Bool, not, List, [], ◌∷◌, eqb, ltb, length, get_or}
+use Rattle.std.specs.Prelude.{ℕ, ◌≡◌, Bool, not, List, [], ◌∷◌, Result, IfOk, eqb, ltb, length, get_or}
 use Rattle.laws.specs.Pick.{pick}
-use Rattle.laws.specs.Rows.{Row, first, ◌when◌, unless_refused, Paper, refused_with, tells, refused_or}
+use Rattle.laws.specs.Rows.{Row, ◌when◌, refused_or}
 use Rattle.laws.specs.Lists.{one_of}
 use Rattle.status.specs.declared.drive_status.DriveStatus.{DriveStatus}
 use Rattle.status.specs.declared.drive_status.DriveStatus.TheVariants.{Normal, Busy, HeaderMiscompare, OperationException, UnsolicitedException}
-use Rattle.status.specs.declared.drive_status.DriveStatusRead.{DriveStatusRead}
-use Rattle.status.specs.declared.drive_status.DriveStatusRead.TheVariants.{Status, Refused}
+use Rattle.refusals.specs.Refusal.{on_paper}
+use Rattle.refusals.specs.declared.refusal.Refusal.{Refusal}
 
 -- "Drive status low four bits (004, 8.3.9), other bits 0 here: 0 normal, 1 busy, 7 header miscompare, 8 operation exception, C unsolicited exception."
 abbrev pub octet_of : DriveStatus → ℕ
@@ -36,27 +36,15 @@ status_of octet =
     (pick (eqb octet (octet_of OperationException)) OperationException
     UnsolicitedException)))
 
+-- What an octet is refused with: the promise of the conversion of an octet is the refusal, or the status that has it.
+abbrev pub octet_rows : ℕ → List Row
+octet_rows octet = 8 when not (is_drive_status octet) ∷ []
+
 -- "other decoders .. [test] 10, then 8"
 abbrev pub drive_status_rows : List ℕ → List Row
-drive_status_rows octets = 10 when ltb (length octets) 1 ∷ 8 when not (is_drive_status (get_or octets 0 0)) ∷ []
+drive_status_rows octets = 10 when ltb (length octets) 1 ∷ octet_rows (get_or octets 0 0)
 
-abbrev pub drive_status_refusal : List ℕ → ℕ
-drive_status_refusal octets = first (drive_status_rows octets)
-
--- The number that an answer refuses with, 0 where it refuses nothing.
-abbrev pub refusal_in : DriveStatusRead → ℕ
-refusal_in (Status status) = 0
-refusal_in (Refused n) = n
-
--- The answer on paper: the number of the refusal, or that of the status.
-abbrev pub paper : DriveStatusRead → Paper ℕ
-paper (Status status) = tells (octet_of status)
-paper (Refused n) = refused_with n
-
-abbrev pub drive_status_in : List ℕ → DriveStatusRead
-drive_status_in octets = unless_refused (drive_status_refusal octets) (Refused (drive_status_refusal octets)) (Status (status_of (get_or octets 0 0)))
-
--- The promise of `decode_drive_status`.
-pub record DecodedDriveStatus (octets : List ℕ) (r : DriveStatusRead) : Type 0 where
-  pub answer : r ≡ drive_status_in octets
-  pub on_paper : paper r ≡ refused_or (drive_status_rows octets) (get_or octets 0 0)
+-- The promise of `decode_drive_status`: the refusal, or the status that has the first octet.
+pub record DecodedDriveStatus (octets : List ℕ) (r : Result DriveStatus Refusal) : Type 0 where
+  pub answer : on_paper r ≡ refused_or (drive_status_rows octets) (status_of (get_or octets 0 0))
+  pub octet : IfOk r (λ status. octet_of status ≡ get_or octets 0 0)

@@ -1,11 +1,11 @@
 -- "The response is 8 octets (001, figure 3-3)": its bits, and what the two calls answer.
-use Rattle.std.specs.Prelude.{ℕ, ◌+◌, ◌^◌, ◌≡◌, Bool, not, ◌||◌, List, [], ◌∷◌, eqb, ltb, length, get_or, take}
+use Rattle.std.specs.Prelude.{ℕ, ◌+◌, ◌^◌, ◌≡◌, Bool, not, ◌||◌, List, [], ◌∷◌, Result, IfOk, eqb, ltb, length, get_or, take}
 use Rattle.laws.specs.Pick.{pick}
-use Rattle.laws.specs.Rows.{Row, first, ◌when◌, unless_refused, Paper, refused_with, tells, refused_or}
+use Rattle.laws.specs.Rows.{Row, ◌when◌, refused_or}
 use Rattle.laws.specs.Octets.{bit}
 use Rattle.status.specs.declared.response.Response.{Response}
-use Rattle.status.specs.declared.response.ResponseRead.{ResponseRead}
-use Rattle.status.specs.declared.response.ResponseRead.TheVariants.{Decoded, Refused}
+use Rattle.refusals.specs.Refusal.{on_paper}
+use Rattle.refusals.specs.declared.refusal.Refusal.{Refusal}
 
 -- Bit k, counted from 0, where the test holds.
 abbrev pub bit_when : ℕ → Bool → ℕ
@@ -65,23 +65,7 @@ is_foreign octets =
 abbrev pub response_rows : List ℕ → List Row
 response_rows octets = 10 when ltb (length octets) 8 ∷ 8 when is_foreign octets ∷ []
 
-abbrev pub response_refusal : List ℕ → ℕ
-response_refusal octets = first (response_rows octets)
-
--- The number that an answer refuses with, 0 where it refuses nothing.
-abbrev pub refusal_in : ResponseRead → ℕ
-refusal_in (Decoded response) = 0
-refusal_in (Refused n) = n
-
--- The answer on paper: the number of the refusal, or the 8 octets of the response.
-abbrev pub paper : ResponseRead → Paper (List ℕ)
-paper (Decoded response) = tells (response_octets response)
-paper (Refused n) = refused_with n
-
-abbrev pub response_in : List ℕ → ResponseRead
-response_in octets = unless_refused (response_refusal octets) (Refused (response_refusal octets)) (Decoded (response_of (get_or octets 1 0) (get_or octets 2 0)))
-
--- The promise of `decode_response`.
-pub record DecodedResponse (octets : List ℕ) (r : ResponseRead) : Type 0 where
-  pub answer : r ≡ response_in octets
-  pub on_paper : paper r ≡ refused_or (response_rows octets) (take 8 octets)
+-- The promise of `decode_response`: the refusal, or the response that the first 8 octets are.
+pub record DecodedResponse (octets : List ℕ) (r : Result Response Refusal) : Type 0 where
+  pub answer : on_paper r ≡ refused_or (response_rows octets) (response_of (get_or octets 1 0) (get_or octets 2 0))
+  pub octets_told : IfOk r (λ response. response_octets response ≡ take 8 octets)

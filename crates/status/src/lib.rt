@@ -2,9 +2,7 @@
 #![tactic(auto)]
 
 mod drive_status;
-mod encoded;
 mod response;
 
-pub use drive_status::{DriveStatus, DriveStatusRead, decode_drive_status, encode_drive_status};
-pub use encoded::Encoded;
-pub use response::{Response, ResponseRead, decode_response, encode_response};
+pub use drive_status::{DriveStatus, decode_drive_status, encode_drive_status};
+pub use response::{Response, decode_response, encode_response};

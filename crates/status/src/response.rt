@@ -5,9 +5,9 @@ ghost use Rattle.laws.specs.Pick.{pick};
 ghost use Rattle.status.specs.Encoded.{EncodedAs};
 ghost use Rattle.status.specs.Response.{is_foreign, exception_octet, unsolicited_octet, bus_control_octet, response_of, response_octets, DecodedResponse};
 
-use crate::encoded::Encoded;
+use refusals::Refusal;
 
-#[derive(Clone, Copy)]
+#[derive(Clone, Copy, Debug, PartialEq, Eq)]
 pub struct Response {
     pub reset_complete: bool,
     pub alternate_port_priority_select: bool,
@@ -15,12 +15,6 @@ pub struct Response {
     pub invalid_parameter: bool,
     pub unsupported_bus_control: bool,
     pub bus_control_context: bool,
-}
-
-#[derive(Clone, Copy)]
-pub enum ResponseRead {
-    Decoded(Response),
-    Refused(u8),
 }
 
 const RESPONSE_LENGTH: usize = 8;
@@ -49,37 +43,37 @@ const BUS_CONTROL_CONTEXT: u8 = 0x10;
 const BUS_CONTROL_BITS: u8 = 0xF0;
 
 // The response in the first 8 octets. 10 where there are fewer, 8 for octets that the base never sends.
-pub fn decode_response(octets: &[u8]) -> ResponseRead
+pub fn decode_response(octets: &[u8]) -> Result<Response, Refusal>
     ensures { DecodedResponse octets.now result }
 {
     if octets.len() < RESPONSE_LENGTH {
-        return ResponseRead::Refused(10);
+        return Err(Refusal::SliceTooShort);
     }
     if is_foreign(octets) {
-        return ResponseRead::Refused(8);
+        return Err(Refusal::Malformed);
     }
-    ResponseRead::Decoded(response_of(octets[1], octets[2]))
+    Ok(response_of(octets[1], octets[2]))
 }
 
 // The response as the first 8 octets, the others as they were. 10 where there are fewer. Every response is what a decoding
 // yields, so there is no 8.
-pub fn encode_response(response: Response, octets: &mut [u8]) -> Encoded
+pub fn encode_response(response: Response, octets: &mut [u8]) -> Result<(), Refusal>
     ensures { EncodedAs (response_octets response) octets.old octets.new result }
 {
     if octets.len() < RESPONSE_LENGTH {
-        return Encoded::Refused(10);
+        return Err(Refusal::SliceTooShort);
     }
+    octets[..RESPONSE_LENGTH].copy_from_slice(&response_octets(response));
+    Ok(())
+}
+
+fn response_octets(response: Response) -> [u8; RESPONSE_LENGTH]
+    ensures { result ≡ response_octets response }
+{
     let unsolicited = unsolicited_octet(response);
     let bus_control = bus_control_octet(response);
-    octets[0] = exception_octet(unsolicited, bus_control);
-    octets[1] = unsolicited;
-    octets[2] = bus_control;
-    octets[3] = 0;
-    octets[4] = 0;
-    octets[5] = 0;
-    octets[6] = 0;
-    octets[7] = 0;
-    Encoded::Written
+    let exception = exception_octet(unsolicited, bus_control);
+    [exception, unsolicited, bus_control, 0, 0, 0, 0, 0]
 }
 
 // A bit that the base never sets, or an octet 0 that does not fit octets 1 and 2.
@@ -89,11 +83,7 @@ fn is_foreign(octets: &[u8]) -> bool
 {
     has_other(octets[1], UNSOLICITED_BITS)
         | has_other(octets[2], BUS_CONTROL_BITS)
-        | (octets[3] != 0)
-        | (octets[4] != 0)
-        | (octets[5] != 0)
-        | (octets[6] != 0)
-        | (octets[7] != 0)
+        | octets[3..RESPONSE_LENGTH].iter().any(|&octet| octet != 0)
         | (octets[0] != exception_octet(octets[1], octets[2]))
 }
 
