@@ -8,6 +8,10 @@ use native.Mathlib.Nat.{min-le_right}
 use native.Mathlib.Omega.{arith}
 use lib.ListN.{length, get_or, take, drop, replicate, get_or-append}
 use lib.Seq.{drop_at}
+use Rattle.std.specs.Prelude.{Result, Ok, Err}
+use Rattle.refusals.specs.Refusal.{number}
+use Rattle.refusals.proofs.OnPaper.{number_is_not_0}
+use Rattle.refusals.specs.declared.refusal.Refusal.{Refusal}
 use Rattle.laws.specs.Lists.{written_over, one_of}
 use Rattle.laws.specs.Pick.{pick}
 use Rattle.laws.proofs.Lists.{each_one_of}
@@ -27,8 +31,6 @@ use Rattle.events.specs.Event.{machine_in}
 use Rattle.events.specs.Power.{PoweredUpOnWords}
 use Rattle.events.specs.Part.{part, part_of, gaps_of, PartOnWords}
 use Rattle.events.specs.Stops.{Lending, PartCall, SameDrive}
-use Rattle.events.specs.declared.part.Part.{Part}
-use Rattle.events.specs.declared.part.Part.TheVariants.{Ran}
 use Rattle.events.proofs.Computing.{computing_words}
 use Rattle.events.proofs.Parts.{part_count, part_events}
 use Rattle.events.proofs.Stops.{machine_of, gap_count, not_refused, Stands, stands}
@@ -48,7 +50,7 @@ status_told_lem status h = each_one_of (λ s. status_told_by s ≡ two_hex_digit
 line_told : (s : Setup) (number port : ℕ) (answer : Answer) (gap : ℕ) → Bounded s answer
     → told_line number port (get_or (answer_words answer) 0 0) (get_or (answer_words answer) 1 0) gap ≡ gap_line_of number port answer gap
 unfolding told_line gap_line_of answer_words paper status_told_by hex_digit pick
-line_told s number port (Refused n) gap b = refl
+line_told s number port (Refused refusal) gap b = refl
 line_told s number port Done gap b = refl
 line_told s number port (Status status) gap b = rw (status_told_lem status b)
 line_told s number port (Opened words place) gap b = refl
@@ -83,7 +85,7 @@ bench_up p = record { long = rw p.state (omega arith); rests = rw p.state }
 
 -- ---- the part
 
-module _ {u v w : Lending} {records : List ℕ} {from limit : ℕ} {r₁ r₂ : Part} (up : Up u.state) (zero_sectors : u.sectors ≡ replicate 48 0)
+module _ {u v w : Lending} {records : List ℕ} {from limit : ℕ} {r₁ r₂ : Result ℕ Refusal} (up : Up u.state) (zero_sectors : u.sectors ≡ replicate 48 0)
     (zero_staging : u.staging ≡ replicate 4 0) (whole : length records % 8 ≡ 0) (few : record_count records ≤ 8191)
     (room : length u.answers ≡ 106483) (room' : length v.answers ≡ 106483) (gap_room : length u.gaps ≡ 8191) (gap-room' : length v.gaps ≡ 8191)
     (one : PartCall u records 0 from r₁ v) (two : PartCall v records from limit r₂ w) where
@@ -98,10 +100,10 @@ module _ {u v w : Lending} {records : List ℕ} {from limit : ℕ} {r₁ r₂ : 
       let rests : machine_of u ≡ bench_at_rest = (λ i. machine_in u.state (zero_sectors i) (zero_staging i)) ∙ up.rests in
       before.machine ∙ ap (λ (m : Machine). final m (part_of records 0 from)) rests
 
-  pub ran : r₂ ≡ Ran (length (part_of records from limit))
+  pub ran : r₂ ≡ Ok (length (part_of records from limit))
   ran = not_refused before.long (omega (arith, few, room')) (omega (arith, few, gap-room')) whole two
 
-  call : PartCall v records from limit (Ran (length (part_of records from limit))) w
+  call : PartCall v records from limit (Ok (length (part_of records from limit))) w
   call = rw ran at two
 
   owner_told : get_or w.state 8 0 ≡ (final (bench_before records from) (part_of records from limit)).drive.holding.owner
@@ -135,7 +137,7 @@ module _ {u v w : Lending} {records : List ℕ} {from limit : ℕ} {r₁ r₂ : 
       let count = length (part_of records from limit) in
       ap₂ (λ (lines : List ℕ) (owner : ℕ). part_text count lines owner (record_count records) (from + count)) all_lines_lem owner_told
 
-pub made : {records : List ℕ} {from limit r₀ : ℕ} {r₁ r₂ : Part}
+pub made : {records : List ℕ} {from limit r₀ : ℕ} {r₁ r₂ : Result ℕ Refusal}
     {state₀ sectors₀ staging₀ answers₀ gaps₀ state state₁ sectors₁ staging₁ answers₁ gaps₁ state₂ sectors₂ staging₂ answers₂ gaps₂ : List ℕ}
     → Ready records state₀ sectors₀ staging₀ answers₀ gaps₀ → length answers₁ ≡ length answers₀ → length gaps₁ ≡ length gaps₀
     → PoweredUpOnWords bench sectors₀ staging₀ state₀ r₀ state
@@ -155,3 +157,21 @@ made {records} {from} {limit} {r₁ = r₁} {r₂} {state₀} {sectors₀} {stag
       few = rw (part_count records from limit) (min-le_right limit (record_count records - from));
       report = report {u = u} {v = v} {w = w} up ready.zero_sectors ready.zero_staging ready.whole few room (kept ∙ room) gap_room (gaps-kept ∙ gap_room) one two;
     }
+
+-- ---- neither the power-up nor the part before is refused
+
+pub powers_up : {records state₀ sectors₀ staging₀ answers₀ gaps₀ state : List ℕ} (refusal : Refusal) → Ready records state₀ sectors₀ staging₀ answers₀ gaps₀
+    → PoweredUpOnWords bench sectors₀ staging₀ state₀ (number refusal) state → ⊥
+unfolding computing_words
+powers_up refusal ready p = number_is_not_0 refusal (rw (ready.blank, ready.zero_sectors, ready.zero_staging) at p.answer)
+
+pub runs_before : {records : List ℕ} {from r₀ : ℕ} {state₀ sectors₀ staging₀ answers₀ gaps₀ state state₁ sectors₁ staging₁ answers₁ gaps₁ : List ℕ} (refusal : Refusal)
+    → Ready records state₀ sectors₀ staging₀ answers₀ gaps₀ → PoweredUpOnWords bench sectors₀ staging₀ state₀ r₀ state
+    → PartOnWords state records 0 from sectors₀ staging₀ answers₀ gaps₀ (Err refusal) state₁ sectors₁ staging₁ answers₁ gaps₁ → ⊥
+runs_before {records} {from} {state₀ = state₀} {sectors₀} {staging₀} {answers₀} {gaps₀} {state} {state₁} {sectors₁} {staging₁} {answers₁} {gaps₁} refusal ready power one =
+    let u : Lending = record { state = state; sectors = sectors₀; staging = staging₀; answers = answers₀; gaps = gaps₀ } in
+    let v : Lending = record { state = state₁; sectors = sectors₁; staging = staging₁; answers = answers₁; gaps = gaps₁ } in
+    let up = bench_up (rw (ready.blank, ready.zero_sectors, ready.zero_staging) at power) in
+    let few : record_count records ≤ 8191 = omega (arith, ready.short) in
+    let e = not_refused {w = u} {w' = v} {records = records} up.long (omega (arith, few, ready.room)) (omega (arith, few, ready.gap_room)) ready.whole one in
+    cc

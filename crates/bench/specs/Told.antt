@@ -1,10 +1,9 @@
 -- What the private functions go by that make the lines of a part: the words that `replay_part` told. A reader of the report needs none of it.
-use Rattle.std.specs.Prelude.{ℕ, zero, suc, ◌+◌, ◌-◌, ◌*◌, ◌/◌, ◌%◌, ◌≤◌, ◌≡◌, List, [], ◌∷◌, ◌++◌, eqb, length, get_or, drop, replicate}
+use Rattle.std.specs.Prelude.{ℕ, zero, suc, ◌+◌, ◌-◌, ◌*◌, ◌/◌, ◌%◌, ◌≤◌, ◌≡◌, List, [], ◌∷◌, ◌++◌, eqb, length, get_or, drop, replicate, Result, Ok}
 use Rattle.laws.specs.Pick.{pick}
+use Rattle.refusals.specs.declared.refusal.Refusal.{Refusal}
 use Rattle.drive.specs.Batch.{record_count}
 use Rattle.events.specs.Part.{part_of}
-use Rattle.events.specs.declared.part.Part.{Part}
-use Rattle.events.specs.declared.part.Part.TheVariants.{Ran}
 use Rattle.bench.specs.Text.{hex_digit}
 use Rattle.bench.specs.Line.{no_status, event_fields, with_gap}
 use Rattle.bench.specs.Part.{part_text, part_report}
@@ -35,8 +34,8 @@ pub record There (from count : ℕ) (records answers gaps : List ℕ) : Type 0 w
   pub gapped : count ≤ length gaps
 
 -- What the two calls of a part lead to.
-pub record Made (from limit : ℕ) (records : List ℕ) (r : Part) (state answers gaps : List ℕ) : Type 0 where
-  pub ran : r ≡ Ran (length (part_of records from limit))
+pub record Made (from limit : ℕ) (records : List ℕ) (r : Result ℕ Refusal) (state answers gaps : List ℕ) : Type 0 where
+  pub ran : r ≡ Ok (length (part_of records from limit))
   pub few : length (part_of records from limit) ≤ record_count records - from
   pub report : told_report from (length (part_of records from limit)) (get_or state 8 0) records answers gaps ≡ part_report from limit records
 

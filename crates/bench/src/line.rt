@@ -74,7 +74,7 @@ fn refusal_of(answer: Answer) -> u8
     ensures { result ≡ refusal_in answer }
 {
     match answer {
-        Answer::Refused(n) => n,
+        Answer::Refused(refusal) => u8::from(refusal),
         Answer::Done => 0,
         Answer::Status(_) => 0,
         Answer::Opened(_, _) => 0,

@@ -5,7 +5,7 @@ ghost use Rattle.bench.specs.Part.{next_line, part_report};
 ghost use Rattle.bench.specs.Told.{told_lines, told_report, There, Ready, Made};
 
 use crate::{line, run, text};
-use events::Part;
+use refusals::Refusal;
 
 // As many as the longest capture has.
 const MOST_EVENTS: usize = 8_191;
@@ -43,9 +43,9 @@ pub(crate) fn put_part(text: &mut [u8], records: &[u8], from: u32, limit: u32) -
         &mut gaps,
     );
     match part {
-        Part::Ran(count) => put_told(text, records, first, count, &answers, &gaps, state[OWNER]),
+        Ok(count) => put_told(text, records, first, count, &answers, &gaps, state[OWNER]),
         // Not reached: there is room, and the records are whole.
-        Part::Refused(_) => 0,
+        Err(_) => 0,
     }
 }
 
@@ -59,23 +59,12 @@ fn run_part(
     staging: &mut [u16],
     answers: &mut [u16],
     gaps: &mut [u16],
-) -> Part
+) -> Result<usize, Refusal>
     requires { Ready records.now state.old sectors.old staging.old answers.old gaps.old }
     ensures { Made from limit records.now result state.new answers.new gaps.new }
 {
-    events::power_up_words(
-        run::CYLINDERS,
-        run::HEADS,
-        run::SECTORS,
-        run::HEADER,
-        run::FIELD1,
-        run::FIELD2,
-        run::ADDRESS,
-        &sectors[..],
-        &staging[..],
-        state,
-    );
-    events::replay_part(state, records, 0, from, sectors, staging, answers, gaps);
+    events::power_up_words(run::BENCH, &sectors[..], &staging[..], state)?;
+    events::replay_part(state, records, 0, from, sectors, staging, answers, gaps)?;
     events::replay_part(state, records, from, limit, sectors, staging, answers, gaps)
 }
 

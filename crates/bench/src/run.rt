@@ -7,22 +7,18 @@ ghost use Rattle.bench.specs.Run.{lines_of_run, run_report};
 
 use crate::{line, text};
 use capture::RecordRead;
-use drive::{Drive, Powered};
-use parts::Event;
+use drive::Drive;
+use parts::{Event, Setup};
 
-pub(crate) const CYLINDERS: u16 = 2;
-
-pub(crate) const HEADS: u16 = 2;
-
-pub(crate) const SECTORS: u16 = 3;
-
-pub(crate) const HEADER: u16 = 1;
-
-pub(crate) const FIELD1: u16 = 2;
-
-pub(crate) const FIELD2: u16 = 1;
-
-pub(crate) const ADDRESS: u16 = 3;
+pub(crate) const BENCH: Setup = Setup {
+    cylinders: 2,
+    heads: 2,
+    sectors: 3,
+    header: 1,
+    field1: 2,
+    field2: 1,
+    address: 3,
+};
 
 pub(crate) const RECORD_LENGTH: usize = 8;
 
@@ -34,13 +30,10 @@ pub(crate) fn put_run(text: &mut [u8], records: &[u8]) -> usize
     let mut sectors = [0u16; 48];
     let mut staging = [0u16; 4];
     let at = text::put_numbered(text, 0, b"events ", records.len() / RECORD_LENGTH);
-    let powered = drive::power_up(
-        CYLINDERS, HEADS, SECTORS, HEADER, FIELD1, FIELD2, ADDRESS, &sectors, &staging,
-    );
-    match powered {
-        Powered::Up(bench) => put_lines(text, at, bench, records, &mut sectors, &mut staging),
+    match drive::power_up(BENCH, &sectors, &staging) {
+        Ok(bench) => put_lines(text, at, bench, records, &mut sectors, &mut staging),
         // Not reached: the set-up is within its limits, and the words are enough.
-        Powered::Refused(_) => at,
+        Err(_) => at,
     }
 }
 

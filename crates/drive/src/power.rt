@@ -7,11 +7,7 @@ use parts::{Pending, Place, Setup};
 use refusals::Refusal;
 
 // The drive at rest; or 9 for a number outside its limits, 10 for a slice too short. No lent word is touched.
-pub fn power_up(
-    setup: Setup,
-    sector_words: &[u16],
-    staging_words: &[u16],
-) -> Result<Drive, Refusal>
+pub fn power_up(setup: Setup, sector_words: &[u16], staging_words: &[u16]) -> Result<Drive, Refusal>
     ensures { PoweredUp setup sector_words.now staging_words.now result }
 {
     if !setup.within_limits() {

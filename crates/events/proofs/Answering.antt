@@ -1,20 +1,16 @@
 -- An event on any words of a state: what is answered is what the rule says.
 -- Assumes nothing.
-use Rattle.std.proofs.Common.{◌≡◌, ℕ, zero, suc, ◌≤◌, Bool, false, List, length, sym, refl, ap, ◌∙◌, true≢false, arith}
-use Rattle.laws.specs.Rows.{unless_refused}
+use Rattle.std.proofs.Common.{◌≡◌, ℕ, ◌≤◌, Bool, List, length, sym, refl, ap, ◌∙◌}
 use Rattle.refusals.specs.Refusal.{number, named}
 use Rattle.refusals.specs.declared.refusal.Refusal.{Refusal}
 use Rattle.refusals.proofs.OnPaper.{of_its_number, number_is_not_0}
 use Rattle.parts.specs.declared.event.Event.{Event}
-use Rattle.drive.specs.Accepted.{is_refused}
-use Rattle.drive.specs.Refusal.{refusal_of}
 use Rattle.drive.specs.State.{Result}
-use Rattle.drive.specs.Event.{handled, refused_with}
-use Rattle.drive.specs.Run.{Machine, answer_to, after}
+use Rattle.drive.specs.Event.{handled}
+use Rattle.drive.specs.Run.{answer_to, after}
 use Rattle.drive.specs.Able.{judgement}
 use Rattle.drive.specs.declared.answer.Answer.{Answer}
 use Rattle.drive.specs.declared.answer.Answer.TheVariants.{Refused}
-use Rattle.drive.proofs.Laws.{accepts, done_by}
 use Rattle.drive.proofs.Turns.{refused_as_judged}
 use Rattle.events.specs.State.{drive_in, state_after}
 use Rattle.events.specs.Turn.{Telling, Answered, Turn}

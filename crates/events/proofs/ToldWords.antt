@@ -1,6 +1,6 @@
 -- The parts of an answer, stored over the words of one without parts, give its words.
 -- Assumes nothing.
-use Rattle.std.proofs.Common.{◌≡◌, ℕ, zero, suc, ◌+◌, ◌*◌, Bool, true, false, List, set, sym, refl, ◌∙◌, add-zero}
+use Rattle.std.proofs.Common.{◌≡◌, ℕ, ◌+◌, ◌*◌, Bool, true, false, List, set, sym, refl, ◌∙◌, add-zero}
 use Rattle.laws.specs.Pick.{pick}
 use Rattle.laws.specs.Lists.{written_over}
 use Rattle.laws.specs.Rows.{unless_refused}

@@ -1,6 +1,6 @@
 -- The wrong answers of `handle`, `power_up_words`, `answer_event`, `run_records` and `replay_part` break their promises, by computation.
 -- Assumes nothing.
-use Rattle.std.proofs.Common.{ℕ, get_or, refl, ap}
+use Rattle.std.proofs.Common.{get_or, refl, ap}
 use Rattle.laws.proofs.Differ.{told_apart}
 use Rattle.drive.specs.Answer.{refusal_in}
 use Rattle.drive.specs.AnswerWords.{or_ffff}

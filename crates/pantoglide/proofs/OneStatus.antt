@@ -48,7 +48,7 @@ known_status octet h = each_one_of (λ n. is_drive_status n ≡ true) statuses o
 
 status_in : (s : Setup) (answer : Answer) → Bounded s answer → (octet : ℕ) → (paper answer).status ≡ some octet → one_of statuses octet ≡ true
 unfolding paper
-status_in s (Refused n) b octet h = absent refl h
+status_in s (Refused refusal) b octet h = absent refl h
 status_in s Done b octet h = absent refl h
 status_in s (Status status) b octet h = let same : status ≡ octet = cc in rw same at b
 status_in s (Opened words place) b octet h = absent refl h
@@ -118,7 +118,7 @@ response_in_lem s (Response first second third) p b h =
     let one : second ≡ p.octet1 = cc in
     let two : third ≡ p.octet2 = cc in
     subst (λ (q : Pending). has_stray_bit q ≡ false) (λ i. record { octet1 = one i; octet2 = two i }) b.known
-response_in_lem s (Refused n) p b h = absent refl h
+response_in_lem s (Refused refusal) p b h = absent refl h
 response_in_lem s Done p b h = absent refl h
 response_in_lem s (Status status) p b h = absent refl h
 response_in_lem s (Opened words place) p b h = absent refl h

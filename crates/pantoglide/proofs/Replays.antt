@@ -9,9 +9,13 @@ use lib.Dec.{ltb}
 use lib.ListN.{length, get_or, set}
 use Rattle.laws.specs.Pick.{pick}
 use Rattle.laws.specs.Lists.{written_over}
-use Rattle.laws.proofs.Rows.{reported, none_given, accepted, declined, rows_rest}
-use Rattle.events.specs.Part.{part_of, part_rows, part_refusal, refusal_in, PartOnWords}
-use Rattle.events.specs.declared.part.Part.TheVariants.{Ran, Refused}
+use Rattle.laws.proofs.Rows.{none_given, rows_rest}
+use Rattle.std.specs.Prelude.{Ok, Err}
+use Rattle.refusals.specs.Refusal.{number}
+use Rattle.refusals.specs.declared.refusal.Refusal.{Refusal}
+use Rattle.refusals.proofs.OnPaper.{refusal_given, left_as_it_was}
+use Rattle.events.specs.Part.{part_of, part_rows, part_refusal, PartOnWords}
+use Rattle.events.proofs.Parts.{part_ran}
 use Rattle.pantoglide.specs.Replay.{replay_refusal, ReplayOnWords, ReplayIsPart}
 
 -- no room for the number
@@ -31,15 +35,12 @@ number_put [] count h = absurd (omega arith)
 number_put (x ∷ ran) count h = refl
 
 pub replay_ran : {state records : List ℕ} {from limit : ℕ} {sectors staging answers gaps ran : List ℕ} {count : ℕ} {state' sectors' staging' answers' gaps' : List ℕ}
-    → 1 ≤ length ran → PartOnWords state records from limit sectors staging answers gaps (Ran count) state' sectors' staging' answers' gaps'
+    → 1 ≤ length ran → PartOnWords state records from limit sectors staging answers gaps (Ok count) state' sectors' staging' answers' gaps'
     → ReplayOnWords state records from limit sectors staging answers gaps ran 0 state' sectors' staging' answers' gaps' (set ran 0 count)
 replay_ran {state} {records} {from} {limit} {answers = answers} {gaps} {ran} {count} h p =
-    let rows = part_rows state records from limit answers gaps in
-    let a = accepted rows Refused (Ran count) (Ran (length (part_of records from limit))) refl (λ n e. cc) p.answer in
-    let same : Ran count ≡ Ran (length (part_of records from limit)) = a.0 in
-    let size : count ≡ length (part_of records from limit) = cc in
+    let (size, passed) = part_ran p in
     record {
-      refusal = sym (none_given rows a.1) ∙ with_number state records from limit answers gaps ran h;
+      refusal = sym (none_given (part_rows state records from limit answers gaps) passed) ∙ with_number state records from limit answers gaps ran h;
       state = p.state;
       sectors = p.sectors;
       staging = p.staging;
@@ -48,21 +49,19 @@ replay_ran {state} {records} {from} {limit} {answers = answers} {gaps} {ran} {co
       ran = number_put ran count h ∙ ap (λ (n : ℕ). written_over ran (n ∷ [])) size;
     }
 
-pub replay_refused : {state records : List ℕ} {from limit : ℕ} {sectors staging answers gaps ran : List ℕ} {n : ℕ} {state' sectors' staging' answers' gaps' : List ℕ}
-    → 1 ≤ length ran → PartOnWords state records from limit sectors staging answers gaps (Refused n) state' sectors' staging' answers' gaps'
-    → ReplayOnWords state records from limit sectors staging answers gaps ran n state' sectors' staging' answers' gaps' ran
-replay_refused {state} {records} {from} {limit} {answers = answers} {gaps} {ran} {n} h p =
-    let rows = part_rows state records from limit answers gaps in
-    let there = Ran (length (part_of records from limit)) in
-    let number : n ≡ part_refusal state records from limit answers gaps = ap refusal_in p.answer ∙ reported refusal_in Refused (λ m. refl) (part_refusal state records from limit answers gaps) there refl in
+pub replay_refused : {state records : List ℕ} {from limit : ℕ} {sectors staging answers gaps ran : List ℕ} {refusal : Refusal} {state' sectors' staging' answers' gaps' : List ℕ}
+    → 1 ≤ length ran → PartOnWords state records from limit sectors staging answers gaps (Err refusal) state' sectors' staging' answers' gaps'
+    → ReplayOnWords state records from limit sectors staging answers gaps ran (number refusal) state' sectors' staging' answers' gaps' ran
+replay_refused {state} {records} {from} {limit} {answers = answers} {gaps} {ran} {refusal} h p =
+    let first_row = refusal_given (part_rows state records from limit answers gaps) refusal (length (part_of records from limit)) p.answer in
     record {
-      refusal = number ∙ with_number state records from limit answers gaps ran h;
+      refusal = sym first_row ∙ with_number state records from limit answers gaps ran h;
       state = p.state;
       sectors = p.sectors;
       staging = p.staging;
       answers = p.answers;
       gaps = p.gaps;
-      ran = rw number (sym (declined rows Refused (Refused n) there ran (written_over ran (length (part_of records from limit) ∷ [])) (λ e. cc) p.answer));
+      ran = sym (left_as_it_was refusal _ refl);
     }
 
 pub replay_is_part : ReplayIsPart
@@ -71,5 +70,5 @@ replay_is_part =
       same = λ {state} {records} {from} {limit} {answers = answers} {gaps} {ran = ran} h.
           let rest = rows_rest (ltb (length ran) 1) 9 (part_refusal state records from limit answers gaps) (sym h.refusal) in
           let count = ap (λ (l : List ℕ). get_or l 0 0) h.ran in
-          record { answer = rw (rest, count); on_paper = rw (rest, count); state = h.state; sectors = h.sectors; staging = h.staging; answers = h.answers; gaps = h.gaps };
+          record { answer = rw (rest, count); state = h.state; sectors = h.sectors; staging = h.staging; answers = h.answers; gaps = h.gaps };
     }

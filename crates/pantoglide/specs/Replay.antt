@@ -1,5 +1,5 @@
 -- `pg_replay`: what `replay_part` does, and how many events it ran in a word of the caller's.
-use Rattle.std.specs.Prelude.{ℕ, ◌≡◌, List, [], ◌∷◌, ltb, length, get_or}
+use Rattle.std.specs.Prelude.{ℕ, ◌≡◌, List, [], ◌∷◌, Ok, ltb, length, get_or}
 use Rattle.laws.specs.Rows.{Row, first, ◌when◌, unless_refused}
 use Rattle.laws.specs.Lists.{written_over}
 use Rattle.drive.specs.Run.{answers, final}
@@ -7,7 +7,6 @@ use Rattle.drive.specs.AnswerWords.{words_of_answers}
 use Rattle.events.specs.State.{state_after}
 use Rattle.events.specs.Event.{machine_in}
 use Rattle.events.specs.Part.{part, part_of, gaps_of, part_rows, PartOnWords}
-use Rattle.events.specs.declared.part.Part.TheVariants.{Ran}
 
 -- 10: "a lent slice too short", that for the number among them.
 abbrev pub replay_rows : List ℕ → List ℕ → ℕ → ℕ → List ℕ → List ℕ → List ℕ → List Row
@@ -30,4 +29,4 @@ pub record ReplayOnWords (state₀ records : List ℕ) (from limit : ℕ) (secto
 pub record ReplayIsPart : Type 0 where
   pub same : {state records : List ℕ} {from limit : ℕ} {sectors staging answers gaps ran state' sectors' staging' answers' gaps' ran' : List ℕ}
       → ReplayOnWords state records from limit sectors staging answers gaps ran 0 state' sectors' staging' answers' gaps' ran'
-      → PartOnWords state records from limit sectors staging answers gaps (Ran (get_or ran' 0 0)) state' sectors' staging' answers' gaps'
+      → PartOnWords state records from limit sectors staging answers gaps (Ok (get_or ran' 0 0)) state' sectors' staging' answers' gaps'

@@ -1,6 +1,7 @@
 -- What `pg_run` does, so many calls of `pg_event` do, each on what the last one left.
 use Rattle.std.specs.Prelude.{ℕ, ◌≤◌, ◌≡◌, List, [], ◌∷◌, ◌++◌, length, take}
 use Rattle.laws.specs.Rows.{unless_refused}
+use Rattle.refusals.specs.Refusal.{named}
 use Rattle.parts.specs.declared.event.Event.{Event}
 use Rattle.drive.specs.AnswerWords.{answer_words}
 use Rattle.drive.specs.Batch.{events_of}
@@ -19,7 +20,7 @@ words state sectors staging = record { state = state; sectors = sectors; staging
 
 -- The 13 words that a single event told; of a refused one those that a run would tell.
 abbrev pub told_by : ℕ → List ℕ → List ℕ
-told_by r answer = unless_refused r (answer_words (Refused r)) (take 13 answer)
+told_by r answer = unless_refused r (answer_words (Refused (named r))) (take 13 answer)
 
 pub data Singles : Words → List Event → List ℕ → Words → Type 0 where
   none : {w : Words} → Singles w [] [] w

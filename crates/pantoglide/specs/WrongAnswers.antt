@@ -2,6 +2,7 @@
 -- the calls of `events` do, so that the wrong answers of those are wrong here too.
 use Rattle.std.specs.Prelude.{ℕ, List, [], ◌∷◌, ◌++◌, replicate, set}
 use Rattle.laws.specs.Octets.{octets_of}
+use Rattle.refusals.specs.declared.refusal.Refusal.TheVariants.{SliceTooShort}
 use Rattle.parts.specs.Tests.{parameters, no_parameters, transferring_with}
 use Rattle.parts.specs.declared.holding.Hold.TheVariants.{None}
 use Rattle.parts.specs.declared.transfer.Parameters.{Parameters}
@@ -67,7 +68,7 @@ pub record WrongAnswers : Type 0 where
       0 (state_words (commanding 1 (parameters 1 0 0))) (disk zeros) (sector 1 0 0 0) (answer_words Done) → ⊥
   -- ---- `pg_run`
   -- Sectors and staging changed over: every event is told 10.
-  pub staging_for_sectors : RunOnWords rest (selection 0) (disk zeros) zeros (replicate 13 0) 0 rest (disk zeros) zeros (answer_words (Refused 10)) → ⊥
+  pub staging_for_sectors : RunOnWords rest (selection 0) (disk zeros) zeros (replicate 13 0) 0 rest (disk zeros) zeros (answer_words (Refused SliceTooShort)) → ⊥
   -- Reserved and deselected, the drive is free.
   pub reservation_forgotten : RunOnWords rest reservation (disk zeros) zeros (replicate 52 0)
       0 rest (disk zeros) zeros (answer_words Done ++ answer_words (Opened 1 (at_place 0 0 0)) ++ answer_words (Status 0) ++ answer_words Done) → ⊥

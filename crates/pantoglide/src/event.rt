@@ -1,6 +1,7 @@
 // One event on the words of the state.
 ghost use Rattle.events.specs.Event.{event_of_octets, EventOnWords};
 
+use crate::told::told;
 use parts::Event;
 
 pub fn pg_event(
@@ -25,5 +26,5 @@ pub fn pg_event(
         a2,
         a3,
     };
-    events::answer_event(state, event, sectors, staging, answer)
+    told(events::answer_event(state, event, sectors, staging, answer))
 }

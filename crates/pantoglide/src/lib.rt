@@ -10,6 +10,7 @@ mod map_calls;
 mod power;
 mod replay;
 mod run;
+mod told;
 
 pub use capture_calls::{pg_capture, pg_make_capture};
 pub use defect_calls::{pg_decode_defect, pg_encode_defect, pg_map_place};

@@ -2,6 +2,9 @@
 ghost use Rattle.drive.specs.Power.{setup_of};
 ghost use Rattle.events.specs.Power.{PoweredUpOnWords};
 
+use crate::told::told;
+use parts::Setup;
+
 pub fn pg_power_up(
     cylinders: u16,
     heads: u16,
@@ -16,7 +19,7 @@ pub fn pg_power_up(
 ) -> u8
     ensures { PoweredUpOnWords (setup_of cylinders heads sectors header field1 field2 address) sector_words.now staging_words.now state.old result state.new }
 {
-    events::power_up_words(
+    let setup = Setup {
         cylinders,
         heads,
         sectors,
@@ -24,8 +27,6 @@ pub fn pg_power_up(
         field1,
         field2,
         address,
-        sector_words,
-        staging_words,
-        state,
-    )
+    };
+    told(events::power_up_words(setup, sector_words, staging_words, state))
 }

@@ -1,7 +1,7 @@
 // Events on the words of the state: so many, from one of a capture's records on.
 ghost use Rattle.pantoglide.specs.Replay.{ReplayOnWords};
 
-use events::Part;
+use refusals::Refusal;
 
 // 0 and how many events were run; or the refusal and nothing changed.
 pub fn pg_replay(
@@ -18,13 +18,13 @@ pub fn pg_replay(
     ensures { ReplayOnWords state.old records.now from limit sectors.old staging.old answers.old gaps.old ran.old result state.new sectors.new staging.new answers.new gaps.new ran.new }
 {
     if ran.len() < 1 {
-        return parts::SLICE_TOO_SHORT;
+        return u8::from(Refusal::SliceTooShort);
     }
     match events::replay_part(state, records, from, limit, sectors, staging, answers, gaps) {
-        Part::Ran(count) => {
+        Ok(count) => {
             ran[0] = count as u64;
             0
         }
-        Part::Refused(n) => n,
+        Err(refusal) => u8::from(refusal),
     }
 }

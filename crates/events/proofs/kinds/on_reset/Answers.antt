@@ -1,6 +1,6 @@
 -- `on_reset` meets its contract.
 -- Assumes nothing.
-use Rattle.std.proofs.Common.{refl, ◌∙◌, arith}
+use Rattle.std.proofs.Common.{refl, ◌∙◌}
 use Rattle.events.proofs.Done.{did_refused, did_accepted}
 use Rattle.refusals.specs.declared.refusal.Refusal.TheVariants.{Malformed}
 use Rattle.parts.specs.Kind.{Reset}

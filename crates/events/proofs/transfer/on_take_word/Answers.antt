@@ -1,6 +1,6 @@
 -- `on_take_word` meets its contract.
 -- Assumes nothing.
-use Rattle.std.proofs.Common.{not, refl, ap, arith}
+use Rattle.std.proofs.Common.{not, ap}
 use Rattle.refusals.specs.declared.refusal.Refusal.TheVariants.{TransferOpenOrNot}
 use Rattle.parts.specs.Kind.{TakeWord, Use}
 use Rattle.drive.proofs.Own.{able_to_read}

@@ -1,6 +1,6 @@
 -- `on_word_from_host` meets its contract.
 -- Assumes nothing.
-use Rattle.std.proofs.Common.{not, refl, ap, arith}
+use Rattle.std.proofs.Common.{not, refl, ap}
 use Rattle.refusals.specs.declared.refusal.Refusal.TheVariants.{TransferOpenOrNot}
 use Rattle.parts.specs.Kind.{Use, WordFromHost}
 use Rattle.events.specs.State.{drive_in}
