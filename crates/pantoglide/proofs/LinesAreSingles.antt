@@ -12,7 +12,7 @@ use lib.Seq.{set-set, set-get_or}
 use Rattle.laws.specs.Pick.{pick}
 use Rattle.laws.specs.Rows.{first, unless_refused}
 use Rattle.laws.specs.Octets.{bit}
-use Rattle.laws.proofs.Rows.{all_passed, refused_as}
+use Rattle.laws.proofs.Rows.{all_passed}
 use Rattle.lines.specs.Follower.{is_reached, step_rows, step_of}
 use Rattle.lines.specs.Traces.{after, answers}
 use Rattle.lines.specs.Reading.{octet_of, answers_in, read_rows, step_by_step}

@@ -7,7 +7,6 @@ use borrow.Author.Tests.{lt-ltb}
 use lib.ListN.{length, get_or}
 use Rattle.std.specs.Prelude.{Result, Ok, Err, MatchResult}
 use Rattle.laws.specs.Pick.{pick}
-use Rattle.laws.specs.Rows.{first}
 use Rattle.refusals.specs.Refusal.{number}
 use Rattle.refusals.specs.declared.refusal.Refusal.{Refusal}
 use Rattle.refusals.proofs.OnPaper.{value_given, refusal_given, left_as_it_was}

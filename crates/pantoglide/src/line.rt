@@ -26,6 +26,7 @@ pub fn pg_line(follower: &mut [u8], setting: u8) -> u8
 }
 
 // The follower and its octet: functions, since `From` would have to stand in `lines`, which knows nothing of octets for C.
+#[tactic(auto, unfolding(crate::specs::Line::follower_in))]
 pub(crate) fn follower_in(octet: u8) -> Follower
     ensures { result ≡ follower_in octet }
 {
@@ -36,6 +37,7 @@ pub(crate) fn follower_in(octet: u8) -> Follower
     }
 }
 
+#[tactic(auto, unfolding(crate::specs::Line::setting_in, laws::specs::Pick::pick))]
 fn setting_in(octet: u8) -> u8
     ensures { result ≡ setting_in octet }
 {
@@ -45,6 +47,7 @@ fn setting_in(octet: u8) -> u8
     octet % 32
 }
 
+#[tactic(auto, unfolding(crate::specs::Line::follower_octet, laws::specs::Pick::pick))]
 pub(crate) fn follower_octet(follower: Follower) -> u8
     ensures { result ≡ follower_octet follower }
 {

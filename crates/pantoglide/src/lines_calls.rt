@@ -9,6 +9,7 @@ use crate::line;
 use lines::Follower;
 use refusals::Refusal;
 
+// Two functions, as C has them: the rest of each would be a closure's contract, longer than these lines.
 pub fn pg_lines(follower: &mut [u8], trace: &[u8], answers: &mut [u8]) -> u8
     ensures { LinesRead step_by_step follower.old trace.now answers.old result follower.new answers.new }
 {
@@ -30,6 +31,7 @@ pub fn pg_lines_plain(follower: &mut [u8], trace: &[u8], answers: &mut [u8]) -> 
 }
 
 // An octet that stands for no follower stays, every bit of it.
+#[tactic(auto, unfolding(laws::specs::Pick::pick))]
 fn put_last(follower: &mut [u8], read: Result<Follower, Refusal>) -> u8
     requires { 1 ≤ length follower.old }
     ensures { MatchResult read
