@@ -1,6 +1,6 @@
 // Arguments by place: calls whose arguments of one type differ, so that two of them changed over give another answer.
 use crate::tally::Tally;
-use drive::{Answer, Drive, Powered};
+use drive::{Answer, Drive};
 use lines::{Followed, Follower};
 use parts::{Event, Setup};
 
@@ -59,10 +59,18 @@ fn positions() -> bool {
 }
 
 fn powers_up() -> bool {
-    let powered = drive::power_up(3, 4, 5, 0, 1, 2, 6, &[0u16; 180], &[0u16; 3]);
-    match powered {
-        Powered::Up(drive) => has_numbers(drive.setup) & is_granted(drive),
-        Powered::Refused(_) => false,
+    let setup = Setup {
+        cylinders: 3,
+        heads: 4,
+        sectors: 5,
+        header: 0,
+        field1: 1,
+        field2: 2,
+        address: 6,
+    };
+    match drive::power_up(setup, &[0u16; 180], &[0u16; 3]) {
+        Ok(drive) => has_numbers(drive.setup) & is_granted(drive),
+        Err(_) => false,
     }
 }
 
@@ -92,14 +100,11 @@ fn is_granted(drive: Drive) -> bool {
 
 // From IDLE to SELECT, which is then remembered.
 fn follows() -> bool {
-    let selected = Follower {
+    let followed = Follower::start().step(16);
+    let expected = Follower {
         setting: 16,
         history: true,
         lost: false,
     };
-    let followed = Followed {
-        answer: Ok(lines::Answer::Controllers),
-        follower: selected,
-    };
-    Follower::start().step(16) == followed
+    (followed.answer == Ok(lines::Answer::Controllers)) & (followed.follower == expected)
 }

@@ -78,11 +78,11 @@ pub(crate) fn follower_behind(trace: &Trace) -> Option<u8> {
 
 fn is_so(&(old, new, answer): &(u8, u8, Answer)) -> bool {
     let number = match lines::move_of(old, new) {
-        Move::Same => 16,
-        Move::Controllers => 17,
-        Move::Drives => 18,
-        Move::Undefined => 19,
-        Move::Refused(n) => n,
+        Ok(Move::Same) => 16,
+        Ok(Move::Controllers) => 17,
+        Ok(Move::Drives) => 18,
+        Ok(Move::Undefined) => 19,
+        Err(refusal) => u8::from(refusal),
     };
     number == answer.number()
 }

@@ -44,6 +44,7 @@ impl From<Answer> for u8 {
 impl Followed {
     // The answer as an octet, or the number of the refusal.
     #[tactic(auto, unfolding(crate::specs::Reading::octet_of))]
+    #[inline(always)]
     pub fn octet(self) -> u8
         ensures { OctetSaid self.answer result }
     {
@@ -84,6 +85,7 @@ impl Follower {
 
     // Does a trace from the start lead to this state?
     #[tactic(auto, using(std::proofs::lemmas::Bool::Decides::nat_tests), unfolding(crate::specs::Follower::is_reached, laws::specs::Pick::pick))]
+    #[inline(always)]
     pub fn is_reached(self) -> bool
         ensures { ReachedSaid self result }
     {
@@ -93,26 +95,26 @@ impl Follower {
         if self.history {
             return matches!(self.setting, line::SELECT | line::SLAVACK | line::MASTEND);
         }
-        matches!(
-            self.setting,
-            line::IDLE
-                | line::MAINT
-                | line::REQUEST
-                | line::DESEL
-                | line::SELECT
-                | line::SLAVEND
-                | line::SLAVACK
-                | line::BUSCTL
-                | line::MASTEND
-                | line::BUSACK
-                | line::XFRRDY
-                | line::XFREND
-                | line::XFRST
-                | line::XFRRES
-        )
+        // Asked at every setting: as one `matches!` it costs a third of the instructions more.
+        let s = self.setting;
+        (s == line::IDLE)
+            | (s == line::MAINT)
+            | (s == line::REQUEST)
+            | (s == line::DESEL)
+            | (s == line::SELECT)
+            | (s == line::SLAVEND)
+            | (s == line::SLAVACK)
+            | (s == line::BUSCTL)
+            | (s == line::MASTEND)
+            | (s == line::BUSACK)
+            | (s == line::XFRRDY)
+            | (s == line::XFREND)
+            | (s == line::XFRST)
+            | (s == line::XFRRES)
     }
 
     #[tactic(auto, unfolding(crate::specs::Follower::moved_by, laws::specs::Pick::pick))]
+    #[inline(always)]
     fn moved(self, setting: u8) -> Followed
         requires { (self.setting < 32) × (setting < 32) }
         ensures { result ≡ moved self setting }
@@ -132,6 +134,7 @@ impl Follower {
     }
 
     #[tactic(auto, unfolding(crate::specs::Follower::lacks_history))]
+    #[inline(always)]
     fn lacks_history(self, setting: u8) -> bool
         ensures { result ≡ lacks_history self setting }
     {
@@ -146,6 +149,7 @@ impl Follower {
     }
 
     #[tactic(auto, unfolding(crate::specs::Follower::remembers))]
+    #[inline(always)]
     pub(crate) fn at(self, setting: u8) -> Follower
         ensures { result ≡ remembers self setting }
     {
@@ -162,6 +166,7 @@ impl Follower {
         }
     }
 
+    #[inline(always)]
     pub(crate) fn told(self, answer: Answer) -> Followed
         ensures { result ≡ told answer self }
     {
@@ -171,6 +176,7 @@ impl Follower {
         }
     }
 
+    #[inline(always)]
     pub(crate) fn refused(self, refusal: Refusal) -> Followed
         ensures { result ≡ refused refusal self }
     {
@@ -183,6 +189,7 @@ impl Follower {
 
 // IDLE where the setting is 0, else lost.
 #[tactic(auto, unfolding(crate::specs::Follower::undefined_at, laws::specs::Pick::pick))]
+#[inline(always)]
 pub(crate) fn undefined_at(setting: u8) -> Followed
     ensures { result ≡ undefined_at setting }
 {
@@ -195,6 +202,7 @@ pub(crate) fn undefined_at(setting: u8) -> Followed
 }
 
 #[tactic(auto, unfolding(crate::specs::Follower::while_lost, laws::specs::Pick::pick))]
+#[inline(always)]
 pub(crate) fn while_lost(setting: u8) -> Followed
     ensures { result ≡ while_lost setting }
 {

@@ -30,14 +30,21 @@ pub fn read_plainly(
     Ok(last)
 }
 
-// One setting, by what the turns go by: what `Follower::step` does by the table.
+// One setting, by what the turns go by: what `Follower::step` does by the table. Written out: by the turns' own functions it is asked twice
+// whether the state is reached, half as many instructions again.
 pub fn step_plainly(follower: Follower, setting: u8) -> Followed
     ensures { Stepped follower setting result }
 {
-    if is_drives(follower, setting) {
-        return drive_takes(follower, setting);
+    if !follower.is_reached() {
+        return follower.refused(Refusal::UnsoundState);
     }
-    controller_takes(follower, setting)
+    if is_drives(follower, setting) {
+        return follower.at(setting).told(Answer::Drives);
+    }
+    if is_controllers(follower, setting) {
+        return follower.at(setting).told(Answer::Controllers);
+    }
+    nobodys_move(follower, setting)
 }
 
 // The controller has the first turn, unless a move of the drive comes.
