@@ -11,7 +11,7 @@ use lib.Dec.{ltb, leb}
 use lib.ListN.{length}
 use Rattle.laws.specs.Pick.{pick}
 use Rattle.parts.specs.declared.setup.Setup.{Setup}
-use Rattle.defects.specs.Offence.{◌at◌when◌, first_of}
+use Rattle.defects.specs.Offence.{◌at◌when◌, no_offence, first_of}
 use Rattle.defects.specs.Defect.{behind_all}
 use Rattle.defects.specs.Field.{is_ignored}
 use Rattle.defects.specs.Place.{field_octets, data_fields}
@@ -25,7 +25,7 @@ use Rattle.defects.proofs.PassedFields.{OriginalPassed, original_passed, CopyPas
 pub record Whole (s : Setup) (octets : List ℕ) (k : ℕ) : Type 0 where
   pub inside : k < data_fields s
   pub whole : k * field_octets s + field_octets s ≤ length octets
-  pub passed : is_ignored (field_at s octets k) ≡ false → (first_of (tests_of s octets k)).found ≡ false
+  pub passed : is_ignored (field_at s octets k) ≡ false → first_of (tests_of s octets k) ≡ no_offence
 
 -- ---- a whole data field
 
@@ -34,8 +34,8 @@ length_field {s} {octets} {k} w = field_length s octets k w.whole
 
 -- ---- the tests of a map, taken apart
 
-none_from : (alone : Bool) (s : Setup) (octets : List ℕ) (k count : ℕ) → (first_of (tests_from alone s octets k count)).found ≡ false
-    → (j : ℕ) → j < count → (first_of (tests_at alone s octets (k + j))).found ≡ false
+none_from : (alone : Bool) (s : Setup) (octets : List ℕ) (k count : ℕ) → first_of (tests_from alone s octets k count) ≡ no_offence
+    → (j : ℕ) → j < count → first_of (tests_at alone s octets (k + j)) ≡ no_offence
 unfolding tests_from
 none_from alone s octets k zero h j few = absurd (omega arith)
 none_from alone s octets k (suc count) h zero few = rw add-zero (none_parts (tests_at alone s octets k) (tests_from alone s octets (suc k) count) h).0
@@ -46,17 +46,17 @@ none_from alone s octets k (suc count) h (suc j) few =
 
 -- the tests at a data field before the end, taken apart
 whole_at : (s : Setup) (octets : List ℕ) (k : ℕ) (none : Bool) → leb (data_fields s) k ≡ none
-    → (first_of (pick none (16 at k * field_octets s when true ∷ [])
-    (17 at k * field_octets s when ltb (length octets) (k * field_octets s + field_octets s) ∷ pick (is_ignored (field_at s octets k)) [] (tests_of s octets k)))).found ≡ false
+    → first_of (pick none (16 at k * field_octets s when true ∷ [])
+    (17 at k * field_octets s when ltb (length octets) (k * field_octets s + field_octets s) ∷ pick (is_ignored (field_at s octets k)) [] (tests_of s octets k))) ≡ no_offence
     → Whole s octets k
 unfolding pick
 whole_at s octets k true e h = absurd (true≢false (none_head _ _ h).0)
 whole_at s octets k false e h =
-    let own : (first_of (pick (is_ignored (field_at s octets k)) [] (tests_of s octets k))).found ≡ false = (none_head _ _ h).1 in
+    let own : first_of (pick (is_ignored (field_at s octets k)) [] (tests_of s octets k)) ≡ no_offence = (none_head _ _ h).1 in
     record { inside = leb-false _ _ e; whole = ltb-false _ _ (none_head _ _ h).0; passed = λ heard. rw heard at own }
 
-module _ (alone : Bool) (s : Setup) (octets : List ℕ) (accepted : (first_of (map_tests alone s octets)).found ≡ false) where
-  none_at : (k : ℕ) → k ≤ data_fields s → (first_of (tests_at alone s octets k)).found ≡ false
+module _ (alone : Bool) (s : Setup) (octets : List ℕ) (accepted : first_of (map_tests alone s octets) ≡ no_offence) where
+  none_at : (k : ℕ) → k ≤ data_fields s → first_of (tests_at alone s octets k) ≡ no_offence
   none_at k h = rw zero-add at (none_from alone s octets 0 (suc (data_fields s)) accepted k (omega arith))
 
   pub whole : (k : ℕ) → k ≤ data_fields s → is_ended (walk_at s octets k) ≡ false → Whole s octets k

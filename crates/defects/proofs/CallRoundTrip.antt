@@ -9,26 +9,28 @@ use borrow.Author.Tests.{ltb-false, eqb-true, not-false}
 use lib.Dec.{eqb}
 use lib.ListN.{length, take, drop}
 use lib.Seq.{take_at}
-use Rattle.laws.specs.Pick.{pick}
 use Rattle.laws.specs.Lists.{written_over}
 use Rattle.laws.specs.Octets.{AllOctets}
-use Rattle.laws.proofs.Rows.{none_given, accepted}
+use Rattle.std.specs.Prelude.{Result, Ok}
+use Rattle.std.proofs.Math.Option.{Option}
+use Rattle.laws.proofs.Rows.{none_given, all_passed}
+use Rattle.refusals.proofs.OnPaper.{value_given}
 use Rattle.laws.proofs.Tests.{or_l, or_r}
 use Rattle.parts.specs.Setup.{within_limits}
 use Rattle.parts.specs.declared.setup.Setup.{Setup}
 use Rattle.defects.specs.Defect.{list_octets}
 use Rattle.defects.specs.Place.{field_octets, data_fields}
-use Rattle.defects.specs.Decoding.{decode_offence, defects_of, map_of, DecodedMap}
-use Rattle.defects.specs.Encoding.{Value, defects_listed, map_length, map_octets, is_encodable, encode_rows, EncodedMap}
+use Rattle.defects.specs.Decoding.{tells, decode_offence, defects_of, map_of, DecodedMap}
+use Rattle.defects.specs.Encoding.{Value, defects_listed, map_octets, is_encodable, encode_rows, EncodedMap}
 use Rattle.defects.specs.RoundTrip.{tells_of}
 use Rattle.defects.specs.Sectors.{last_cylinder, read_offence, ReadMap, write_rows, WroteMap}
 use Rattle.defects.specs.OnTheCylinder.{CanBePut, with_map}
 use Rattle.defects.specs.CallRoundTrip.{CallRoundTrip}
 use Rattle.defects.specs.declared.decoding.MapRead.{MapRead}
-use Rattle.defects.specs.declared.defect.Encoded.{Encoded}
-use Rattle.defects.specs.declared.encoding.MapEncoded.{MapEncoded}
 use Rattle.defects.specs.declared.offence.Offence.{Offence}
-use Rattle.defects.proofs.Answers.{accepted_map}
+use Rattle.defects.specs.Offence.{Found, on_paper, offence_or, unless_found}
+use Rattle.defects.proofs.Answers.{value_told}
+use Rattle.defects.proofs.Only.{found_only}
 use Rattle.defects.proofs.EncodableValue.{encodable}
 use Rattle.defects.proofs.EncodedMap.{length-map}
 use Rattle.defects.proofs.Listed.{length_listed, all_fitting, same_octets}
@@ -51,44 +53,42 @@ module _ (s : Setup) (cylinder head : ℕ) (defects : List ℕ) where
 
   module _ (all : AllOctets defects) where
     -- what tells the value's map gives the octets back
-    told_again : (o : Offence) (octets lent lent' : List ℕ) (r : MapRead) → length defects % 12 ≡ 0
-        → (pick o.found (MapRead.Refused o.number o.offset) (map_of s octets) ≡ tells_of (value_listed cylinder head defects)) × (defects_of s octets ≡ defects_listed defects)
-        → r ≡ pick o.found (MapRead.Refused o.number o.offset) (map_of s octets)
-        → lent' ≡ pick o.found lent (written_over lent (list_octets (defects_of s octets)))
-        → (r ≡ MapRead.Map (length defects / 12) cylinder head) × (lent' ≡ written_over lent defects)
-    unfolding pick
+    told_again : (o : Option Found) (octets lent lent' : List ℕ) (r : Result MapRead Offence) → length defects % 12 ≡ 0
+        → (offence_or o (map_of s octets) ≡ Ok (tells_of (value_listed cylinder head defects))) × (defects_of s octets ≡ defects_listed defects)
+        → on_paper r ≡ offence_or o (map_of s octets)
+        → lent' ≡ unless_found o lent (written_over lent (list_octets (defects_of s octets)))
+        → (r ≡ Ok (tells (length defects / 12) cylinder head)) × (lent' ≡ written_over lent defects)
     told_again o octets lent lent' r whole (told, listed) answer slice =
-        let (free, is) = accepted_map o (map_of s octets) (tells_of (value_listed cylinder head defects)) (λ n offset e. cc) (sym told) in
-        (answer ∙ told ∙ rw count, slice ∙ rw (free, listed, same_octets defects all whole))
+        let (free, is) = value_told o (map_of s octets) (tells_of (value_listed cylinder head defects)) (sym told) in
+        (found_only answer (sym (told ∙ rw count)), slice ∙ rw (free, listed, same_octets defects all whole))
 
-    decoded_again : (before after lent lent' : List ℕ) (size : ℕ) (r : MapRead) → EncodedMap s cylinder head defects before after (MapEncoded.Written size)
+    decoded_again : (before after lent lent' : List ℕ) (size : ℕ) (r : Result MapRead Offence) → EncodedMap s cylinder head defects before after (Ok size)
         → size / 3 ≤ length lent → DecodedMap s (take size after) lent lent' r
-        → (r ≡ MapRead.Map (length defects / 12) cylinder head) × (lent' ≡ written_over lent defects)
+        → (r ≡ Ok (tells (length defects / 12) cylinder head)) × (lent' ≡ written_over lent defects)
     decoded_again before after lent lent' size r e room d =
         let v = value_listed cylinder head defects in
         let octets = map_octets s v in
         let rows = encode_rows s cylinder head defects (length before) in
-        let made = MapEncoded.Written (map_length s (length defects / 12)) in
-        let (is, passed) = accepted rows MapEncoded.Refused (MapEncoded.Written size) made refl (λ n e. cc) e.answer in
+        let (none, same_size) = value_given rows e.answer in
+        let passed = all_passed rows refl none in
         let (limits, (long, (fit, end))) = passed in
         let (whole, value) = whole_defects fit in
         let small = not-false (within_limits s) limits in
         let fitting = all_fitting defects all 0 (length defects / 12) in
-        let same_size_lem : size ≡ map_length s (length defects / 12) = cc in
-        let sized : length octets ≡ size = length-map s v (encodable s v small value fitting).field1 ∙ rw count (sym same_size_lem) in
+        let sized : length octets ≡ size = length-map s v (encodable s v small value fitting).field1 ∙ rw count (sym same_size) in
         let slice : after ≡ written_over before octets = e.slice ∙ rw (none_given rows passed) in
         let taken : take size after ≡ octets = rw slice (take_at octets (drop (length octets) before) size sized) in
         let decoded : DecodedMap s octets lent lent' r = rw taken at d in
         let again = map_round_trip.decode_encode s v lent small value fitting (omega arith) in
         told_again (decode_offence s octets lent) octets lent lent' r whole again decoded.answer decoded.slice
 
-    read_again : (before after lent lent' : List ℕ) (r : MapRead) → WroteMap s cylinder head defects before after Encoded.Written
+    read_again : (before after lent lent' : List ℕ) (r : Result MapRead Offence) → WroteMap s cylinder head defects before after (Ok tt)
         → data_fields s * field_octets s / 3 ≤ length lent → ReadMap s after lent lent' r
-        → (r ≡ MapRead.Map (length defects / 12) cylinder head) × (lent' ≡ written_over lent defects)
+        → (r ≡ Ok (tells (length defects / 12) cylinder head)) × (lent' ≡ written_over lent defects)
     read_again before after lent lent' r e room d =
         let v = value_listed cylinder head defects in
         let rows = write_rows s cylinder head defects before in
-        let (is, passed) = accepted rows Encoded.Refused Encoded.Written Encoded.Written refl (λ n e. cc) e.answer in
+        let passed = all_passed rows refl (sym e.answer) in
         let (limits, (long, (fit, end))) = passed in
         let (whole, value) = whole_defects fit in
         let put : CanBePut s v before =

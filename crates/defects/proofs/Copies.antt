@@ -11,7 +11,7 @@ use lib.Dec.{eqb}
 use Rattle.laws.specs.Pick.{pick}
 use Rattle.laws.proofs.Tests.{and_l, and_r}
 use Rattle.parts.specs.declared.setup.Setup.{Setup}
-use Rattle.defects.specs.Offence.{first_of}
+use Rattle.defects.specs.Offence.{no_offence, first_of}
 use Rattle.defects.specs.Field.{front_of, is_ignored}
 use Rattle.defects.specs.Place.{data_fields}
 use Rattle.defects.specs.Walk.{is_ended, after_original, after_copy, field_at, walk_at, is_original, map_tests}
@@ -49,7 +49,7 @@ begun_copy w = by_third (eqb w.copy 2)
     by_third true none first = omega arith
     by_third false none first = omega arith
 
-module _ (alone : Bool) (s : Setup) (octets : List ℕ) (accepted : (first_of (map_tests alone s octets)).found ≡ false) where
+module _ (alone : Bool) (s : Setup) (octets : List ℕ) (accepted : first_of (map_tests alone s octets) ≡ no_offence) where
   -- the map does not end with a data field that is ignored
   next_heard : (count j : ℕ) → j + count ≡ data_fields s → is_ended (walk_at s octets j) ≡ false → NextHeard s octets j (walk_at s octets j)
   next_heard zero j e going = let w = whole alone s octets accepted j (omega arith) going in absurd (omega arith)

@@ -12,15 +12,14 @@ use lib.ListN.{length, take, drop}
 use lib.Seq.{length-take-le, take-add, take-take, drop_at}
 use Rattle.laws.specs.Pick.{pick}
 use Rattle.parts.specs.declared.setup.Setup.{Setup}
-use Rattle.defects.specs.Offence.{Test, no_offence, offence_at, first_of}
+use Rattle.defects.specs.Offence.{Test, no_offence, offence_at, first_of, number_in, offset_in}
 use Rattle.defects.specs.Place.{field_octets, data_fields}
 use Rattle.defects.specs.Walk.{is_ended, field_at, walk_at, defects_before, tests_from, map_tests}
 use Rattle.defects.specs.Decoding.{decode_offence, defects_of, map_of}
-use Rattle.defects.specs.declared.offence.Offence.{Offence}
 use Rattle.defects.proofs.WalkSteps.{ended_stays, defects_stay}
 use Rattle.defects.proofs.TestsAt.{due_tests, tests_going, tests_ended, none_behind}
 use Rattle.defects.proofs.Thirds.{counted}
-use Rattle.defects.proofs.Offences.{All, Passed, none_found, both, found}
+use Rattle.defects.proofs.Offences.{All, Passed, none_found, both}
 use Rattle.defects.proofs.ReadIsDecode.{Others, due_others}
 
 -- ---- where the map ends
@@ -35,7 +34,7 @@ behind_passed rest offset (All.next {test = test} {tests = tests} h p) e = by_te
     by_test : (holds : Bool) → test.holds ≡ holds → pick holds (offence_at test.number test.offset) (first_of (tests ++ rest)) ≡ offence_at 28 offset
         → (first_of (tests ++ rest) ≡ offence_at 28 offset → Passed tests × (first_of rest ≡ offence_at 28 offset))
         → Passed (test ∷ tests) × (first_of rest ≡ offence_at 28 offset)
-    by_test true t e below = absurd (eqb-false test.number 28 h (ap (λ (o : Offence). o.number) e))
+    by_test true t e below = absurd (eqb-false test.number 28 h (ap number_in e))
     by_test false t e below = let (passed, behind) = below e in (All.next t passed, behind)
 
 -- so many data fields on, the map ends at this offset
@@ -45,15 +44,15 @@ data Ends (s : Setup) (octets : List ℕ) (offset : ℕ) : ℕ → ℕ → Type 
 
 ends : (s : Setup) (octets : List ℕ) (offset k count : ℕ) → first_of (tests_from true s octets k count) ≡ offence_at 28 offset → Ends s octets offset k count
 unfolding tests_from first_of pick
-ends s octets offset k zero e = found e refl
+ends s octets offset k zero e = absurd (cc)
 ends s octets offset k (suc count) e = by_test (is_ended (walk_at s octets k)) refl (ends s octets offset (suc k) count)
   where
     at_end : (long : Bool) → ltb (k * field_octets s) (length octets) ≡ long → is_ended (walk_at s octets k) ≡ true
         → pick long (offence_at 28 (k * field_octets s)) (first_of (tests_from true s octets (suc k) count)) ≡ offence_at 28 offset → Ends s octets offset k (suc count)
     at_end true long over first =
-        let same : k * field_octets s ≡ offset = ap (λ (o : Offence). o.offset) first in
+        let same : k * field_octets s ≡ offset = ap offset_in first in
         here over (sym same) (omega (arith, ltb-true (k * field_octets s) (length octets) long))
-    at_end false long over first = found e (ap (λ (o : Offence). o.found) (none_found (none_behind true s octets k (suc count) over long)))
+    at_end false long over first = let none = none_found (none_behind true s octets k (suc count) over long) in absurd (cc)
 
     by_test : (over : Bool) → is_ended (walk_at s octets k) ≡ over
         → (first_of (tests_from true s octets (suc k) count) ≡ offence_at 28 offset → Ends s octets offset (suc k) count) → Ends s octets offset k (suc count)

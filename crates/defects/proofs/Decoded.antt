@@ -12,7 +12,7 @@ use lib.ListN.{length}
 use Rattle.laws.proofs.Pick.{cases}
 use Rattle.laws.proofs.Tests.{and_l, and_r}
 use Rattle.parts.specs.declared.setup.Setup.{Setup}
-use Rattle.defects.specs.Offence.{first_of}
+use Rattle.defects.specs.Offence.{no_offence, first_of}
 use Rattle.defects.specs.Field.{front_of}
 use Rattle.defects.specs.Place.{data_fields}
 use Rattle.defects.specs.Walk.{is_ended, after_original, field_at, walk_at, is_original, defects_before, map_tests}
@@ -39,7 +39,7 @@ pub record Storage (s : Setup) (w : Walk) : Type 0 where
   pub head : w.head < s.heads
   pub sets : 0 < w.sets
 
-module _ (alone : Bool) (s : Setup) (octets : List ℕ) (accepted : (first_of (map_tests alone s octets)).found ≡ false) where
+module _ (alone : Bool) (s : Setup) (octets : List ℕ) (accepted : first_of (map_tests alone s octets) ≡ no_offence) where
   listable_before : (k : ℕ) → k ≤ data_fields s → are_listable s (defects_before s octets k) ≡ true
   unfolding defects_before are_listable
   listable_before zero h = refl

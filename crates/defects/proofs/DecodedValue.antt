@@ -9,7 +9,7 @@ use borrow.Author.Tests.{lt-ltb, le-ltb, le-leb, eq-eqb, eqb-true, eqb-false}
 use lib.Dec.{eqb, ltb}
 use lib.ListN.{length}
 use Rattle.parts.specs.declared.setup.Setup.{Setup}
-use Rattle.defects.specs.Offence.{first_of}
+use Rattle.defects.specs.Offence.{no_offence, first_of}
 use Rattle.defects.specs.Field.{slots}
 use Rattle.defects.specs.Place.{field_octets, data_fields}
 use Rattle.defects.specs.Walk.{walk_at, map_tests}
@@ -34,7 +34,7 @@ fits_in s count sets some held room =
         rw (le-ltb 0 (slots (field_octets s)) (omega arith)) (eq-eqb count 0 (omega arith))
     by_slots false e = rw (lt-ltb 0 (slots (field_octets s)) (omega (arith, eqb-false (slots (field_octets s)) 0 e)))
 
-module _ (alone : Bool) (s : Setup) (octets : List ℕ) (accepted : (first_of (map_tests alone s octets)).found ≡ false) where
+module _ (alone : Bool) (s : Setup) (octets : List ℕ) (accepted : first_of (map_tests alone s octets) ≡ no_offence) where
   pub value_encodable : is_encodable s (value_of s octets) ≡ true
   unfolding is_encodable
   value_encodable =

@@ -15,19 +15,19 @@ use Rattle.laws.specs.Octets.{AllOctets}
 use Rattle.laws.proofs.Pick.{cases}
 use Rattle.parts.specs.Setup.{within_limits}
 use Rattle.parts.specs.declared.setup.Setup.{Setup}
-use Rattle.defects.specs.Offence.{first_of}
+use Rattle.defects.specs.Offence.{no_offence, first_of}
 use Rattle.defects.specs.Defect.{behind_all}
 use Rattle.defects.specs.Field.{front_of, is_last, is_ignored, slots, defects_from, defects_in}
 use Rattle.defects.specs.Place.{field_octets, data_fields}
 use Rattle.defects.specs.Walk.{is_ended, field_at, walk_at, is_original, defects_before, map_tests}
-use Rattle.defects.specs.Decoding.{DecodedMap}
+use Rattle.defects.specs.Decoding.{tells, DecodedMap}
 use Rattle.defects.specs.Encoding.{Value, defects_of_set, defects_before_set, is_unordered, data_field, map_octets, map_length, EncodedMap}
 use Rattle.defects.specs.RoundTrip.{AllFitting}
 use Rattle.defects.specs.Plain.{value_of, PlainSet, Plain, EncodeDecode}
 use Rattle.defects.specs.declared.defect.Defect.{Defect}
 use Rattle.defects.specs.declared.walk.Walk.{Walk}
-use Rattle.defects.specs.declared.decoding.MapRead.{MapRead}
-use Rattle.defects.specs.declared.encoding.MapEncoded.{MapEncoded}
+use Rattle.refusals.specs.declared.refusal.Refusal.{Refusal}
+use Rattle.std.specs.Prelude.{Result, Ok}
 use Rattle.defects.proofs.EntriesLeft.{entries_listed}
 use Rattle.defects.proofs.Listed.{all_fitting}
 use Rattle.defects.proofs.WalkSteps.{begins_set}
@@ -133,7 +133,7 @@ module _ (s : Setup) (v : Value) (e : Encodable s v) (octets : List ℕ) (b : Be
 
 -- ---- both ways
 
-module _ (s : Setup) (octets : List ℕ) (w : within_limits s ≡ true) (all : AllOctets octets) (accepted : (first_of (map_tests true s octets)).found ≡ false) where
+module _ (s : Setup) (octets : List ℕ) (w : within_limits s ≡ true) (all : AllOctets octets) (accepted : first_of (map_tests true s octets) ≡ no_offence) where
   value_can : Encodable s (value_of s octets)
   value_can = encodable s (value_of s octets) w (value_encodable true s octets accepted) (fitting_before s octets all (data_fields s))
 
@@ -143,10 +143,10 @@ module _ (s : Setup) (octets : List ℕ) (w : within_limits s ≡ true) (all : A
   both_ways : map_octets s (value_of s octets) ≡ octets ↔ Plain s octets
   both_ways = (encodes_to_itself, λ plain. plain_spelling s octets accepted plain all)
 
-of_the_calls : (s : Setup) (octets lent lent' before after : List ℕ) (count cylinder head : ℕ) (answer : MapEncoded)
-    → AllOctets octets → DecodedMap s octets lent lent' (MapRead.Map count cylinder head)
+of_the_calls : (s : Setup) (octets lent lent' before after : List ℕ) (count cylinder head : ℕ) (answer : Result ℕ Refusal)
+    → AllOctets octets → DecodedMap s octets lent lent' (Ok (tells count cylinder head))
     → map_length s count ≤ length before → EncodedMap s cylinder head (take (12 * count) lent') before after answer
-    → (answer ≡ MapEncoded.Written (map_length s count)) × (take (map_length s count) after ≡ octets ↔ Plain s octets)
+    → (answer ≡ Ok (map_length s count)) × (take (map_length s count) after ≡ octets ↔ Plain s octets)
 of_the_calls s octets lent lent' before after count cylinder head answer all d room e =
     let t = told s octets lent lent' count cylinder head d in
     let can = value_can s octets t.limits all t.accepted in

@@ -1,10 +1,10 @@
 -- The rows of the calls that encode a map, as the code tests them, and what they leave; the whole map put.
 -- Assumes nothing.
-use Prim.Native.Nat.{ℕ, ◌*◌, ◌/◌, ◌%◌, ◌<◌, ◌≤◌}
-use mathlib.Core.Path.{◌≡◌, refl, sym, ap, ◌∙◌}
-use mathlib.Core.Bool.{true, false, not, ◌||◌, true≢false, false≢true}
+use Prim.Native.Nat.{ℕ, suc, ◌*◌, ◌/◌, ◌%◌, ◌<◌, ◌≤◌}
+use mathlib.Core.Path.{◌≡◌, ap, ◌∙◌}
+use mathlib.Core.Bool.{true, false, not, ◌||◌}
 use mathlib.Core.List.{List}
-use native.Mathlib.Nat.{div-lt_iff_lt-mul, le-div_iff_mul-le}
+use native.Mathlib.Nat.{mul-le-mul_right, div-lt_iff_lt-mul, le-div_iff_mul-le}
 use native.Mathlib.Omega.{arith}
 use borrow.Author.Tests.{lt-ltb, le-ltb, ltb-false, not-false}
 use lib.Dec.{eqb, ltb}
@@ -17,9 +17,10 @@ use Rattle.parts.specs.declared.setup.Setup.{Setup}
 use Rattle.parts.proofs.Bounds.{limits}
 use Rattle.defects.specs.Place.{field_octets}
 use Rattle.defects.specs.Encoding.{sets_for, map_octets, map_length, is_encodable}
-use Rattle.defects.specs.EncodeSteps.{value_in, Planned, FieldsPut, HasRoom}
+use Rattle.defects.specs.EncodeSteps.{value_in, Planned, HasOctets, HasSectors, octet_start, put_fields}
 use Rattle.defects.specs.declared.body.Job.{Job}
 use Rattle.defects.proofs.Plans.{plan, all_octets}
+use Rattle.defects.proofs.Stored.{octets_put}
 
 -- 10, without a product that can be too large for a number
 pub record Told (s : Setup) (count size sets : ℕ) : Type 0 where
@@ -45,19 +46,22 @@ pub planned : {s : Setup} {job : Job} {octets : List ℕ} → within_limits s �
     → not (eqb (length octets % 12) 0) || not (is_encodable s (value_in job octets)) ≡ false → Planned s job octets
 planned {s} {job} {octets} w n e = record { limits = w; encodable = not-false (is_encodable s (value_in job octets)) (or_r (not (eqb (length octets % 12) 0)) _ e); sets = n }
 
--- 10 not given
-pub room_in_octets : {s : Setup} {job : Job} {octets out sectors : List ℕ} → Planned s job octets → job.stored ≡ false
-    → ltb (length out) (map_length s (length octets / 12)) ≡ false → HasRoom s job out sectors
-room_in_octets {s} {job} {octets} {out} p here e =
-    record { octets = λ _. rw p.sets (ltb-false (length out) (map_length s (length octets / 12)) e); words = λ there. absurd (false≢true (sym here ∙ there)) }
+-- 10 not given: each data field has its place
+pub octets_fit : {s : Setup} {job : Job} {octets : List ℕ} {room : ℕ} → Planned s job octets → ltb room (map_length s (length octets / 12)) ≡ false
+    → (k : ℕ) → k < 3 * job.sets → HasOctets s k room
+octets_fit {s} {job} {octets} {room} p e k h =
+    let whole : suc k * field_octets s ≤ 3 * job.sets * field_octets s = mul-le-mul_right (field_octets s) h in
+    let all : 3 * job.sets * field_octets s ≤ room = rw p.sets (ltb-false room (map_length s (length octets / 12)) e) in
+    record { whole = omega arith }
 
-pub room_in_words : {s : Setup} {job : Job} {out sectors : List ℕ} → job.stored ≡ true → ltb (length sectors) (all_words s) ≡ false → HasRoom s job out sectors
-room_in_words {s} {job} {out} {sectors} here e =
-    record { octets = λ there. absurd (true≢false (sym here ∙ there)); words = λ _. ltb-false (length sectors) (all_words s) e }
+pub words_fit : {s : Setup} {job : Job} {octets : List ℕ} {room : ℕ} → Planned s job octets → ltb room (all_words s) ≡ false → (k : ℕ) → k < 3 * job.sets → HasSectors s k room
+words_fit {s} {room = room} p e k h = record { limits = p.limits; inside = omega (arith, (plan p).fields); words = ltb-false room (all_words s) e }
 
 -- ---- the map is there
 
-pub whole_map : {s : Setup} {job : Job} {octets out out' sectors sectors' : List ℕ} → Planned s job octets
-    → FieldsPut s false (map_octets s (value_in job octets)) (3 * job.sets) out out' sectors sectors' → out' ≡ written_over out (map_octets s (value_in job octets))
-whole_map {s} {job} {octets} {out} p put =
-    put.octets refl ∙ ap (written_over out) (take_all (3 * job.sets * _) (map_octets s (value_in job octets)) (omega (arith, all_octets (plan p))))
+pub whole_map : {s : Setup} {job : Job} {octets : List ℕ} (out : List ℕ) → Planned s job octets
+    → put_fields octet_start (λ octets. octets) s (map_octets s (value_in job octets)) out 0 (3 * job.sets) ≡ written_over out (map_octets s (value_in job octets))
+whole_map {s} {job} {octets} out p =
+    let map = map_octets s (value_in job octets) in
+    let all = all_octets (plan p) in
+    octets_put s map out (3 * job.sets) (omega arith) ∙ ap (written_over out) (take_all (3 * job.sets * field_octets s) map (omega arith))

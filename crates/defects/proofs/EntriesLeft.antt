@@ -7,19 +7,19 @@ use mathlib.Core.List.{List, [], ◌∷◌}
 use native.Mathlib.Nat.{zero-add, add-zero}
 use native.Mathlib.Omega.{arith}
 use lib.ListN.{length}
+use Rattle.std.specs.Prelude.{Ok, Err}
 use Rattle.laws.specs.Pick.{pick}
 use Rattle.parts.specs.declared.setup.Setup.{Setup}
 use Rattle.laws.proofs.Pick.{either}
 use Rattle.defects.specs.Encoding.{list_from}
-use Rattle.defects.specs.Offence.{first_of}
+use Rattle.defects.specs.Offence.{no_offence, first_of, offence_in}
 use Rattle.defects.specs.Defect.{defect_at, is_blank, behind, behind_all}
 use Rattle.defects.specs.Field.{slots, defects_from, defects_in}
 use Rattle.defects.specs.Judging.{entry_tests, list_tests}
-use Rattle.defects.specs.Steps.{none_after, EntriesJudged}
+use Rattle.defects.specs.Steps.{EntriesJudged}
 use Rattle.defects.specs.declared.defect.Defect.{Defect}
-use Rattle.defects.specs.declared.entries.Entries.{Entries}
 use Rattle.defects.specs.declared.offence.Offence.{Offence}
-use Rattle.defects.proofs.Offences.{first_behind, stops, caught}
+use Rattle.defects.proofs.Offences.{first_behind, stops}
 
 -- no more entries than slots, and a run of the list that the octets make
 pub entries_few : (field : List ℕ) (i left : ℕ) → length (defects_from field i left) ≤ left
@@ -51,58 +51,51 @@ unfolding defects_from pick
 one_left field i index h b = let n : slots (length field) - i ≡ suc (slots (length field) - (i + 1)) = omega arith in rw (n, b)
 
 module _ (s : Setup) (flagged : Bool) (least start : ℕ) (field : List ℕ) where
-  -- i entries were judged, and the next stands at an index
-  pub record Left (i index above : ℕ) : Type 0 where
-    pub stands : index ≡ 14 + 12 * i
-    pub within : i ≤ slots (length field)
-    pub offence : first_of (list_tests s flagged least (start + 14) (defects_in field))
-        ≡ first_of (list_tests s flagged above (start + index) (defects_from field index (slots (length field) - i)))
-    pub count : length (defects_in field) ≡ i + length (defects_from field index (slots (length field) - i))
-    pub next : behind_all least (defects_in field) ≡ behind_all above (defects_from field index (slots (length field) - i))
+  -- the entries behind i of them
+  abbrev left : ℕ → List Defect
+  left i = defects_from field (14 + 12 * i) (slots (length field) - i)
 
-  pub left_start : Left 0 14 least
+  -- i entries were judged
+  pub record Left (i above : ℕ) : Type 0 where
+    pub offence : first_of (list_tests s flagged least (start + 14) (defects_in field)) ≡ first_of (list_tests s flagged above (start + (14 + 12 * i)) (left i))
+    pub count : length (defects_in field) ≡ i + length (left i)
+    pub next : behind_all least (defects_in field) ≡ behind_all above (left i)
+
+  pub left_start : Left 0 least
   left_start =
       let all : slots (length field) - 0 ≡ slots (length field) = omega arith in
-      record { stands = refl; within = omega arith; offence = rw all; count = rw (all, zero-add); next = rw all }
+      record { offence = rw all; count = rw (all, zero-add); next = rw all }
 
   -- no entry is left
-  pub left_none : (i index above : ℕ) (r : Entries) → Left i index above → defects_from field index (slots (length field) - i) ≡ []
-      → r ≡ none_after i above → EntriesJudged s flagged least start field r
+  pub left_none : (i above : ℕ) → Left i above → left i ≡ [] → EntriesJudged s flagged least start field (Ok (record { count = i; least = above }))
   unfolding list_tests first_of
-  left_none i index above r left e q =
-      record {
-        offence = ap (λ (x : Entries). x.offence) q ∙ sym (left.offence ∙ rw e);
-        count = λ f. ap (λ (x : Entries). x.count) q ∙ sym (left.count ∙ rw (e, add-zero));
-        next = λ f. ap (λ (x : Entries). x.least) q ∙ sym (left.next ∙ rw e);
-      }
+  left_none i above l e =
+      let many : length (defects_in field) ≡ i = l.count ∙ rw (e, add-zero) in
+      let last : behind_all least (defects_in field) ≡ above = l.next ∙ rw e in
+      record { offence = sym (l.offence ∙ rw e); entries = rw (many, last) }
 
   -- the next one has an offence
-  pub left_stop : (i index above : ℕ) (r : Entries) (offence : Offence) → Left i index above → i < slots (length field)
-      → is_blank (defect_at index field) ≡ false → offence ≡ first_of (entry_tests s flagged above (start + index) (defect_at index field))
-      → offence.found ≡ true → r.offence ≡ offence → EntriesJudged s flagged least start field r
+  pub left_stop : (i above : ℕ) (offence : Offence) → Left i above → i < slots (length field) → is_blank (defect_at (14 + 12 * i) field) ≡ false
+      → offence_in {A = ℕ} (Err offence) ≡ first_of (entry_tests s flagged above (start + (14 + 12 * i)) (defect_at (14 + 12 * i) field))
+      → EntriesJudged s flagged least start field (Err offence)
   unfolding list_tests
-  left_stop i index above r offence left h b e f q =
-      let d = defect_at index field in
-      let rest = list_tests s flagged (behind above d) (start + index + 12) (defects_from field (index + 12) (slots (length field) - (i + 1))) in
-      let all : offence ≡ first_of (list_tests s flagged least (start + 14) (defects_in field)) =
-      stops (entry_tests s flagged above (start + index) d) rest offence e f ∙ sym (left.offence ∙ rw (one_left field i index h b)) in
-      record { offence = q ∙ all; count = caught q f; next = caught q f }
+  left_stop i above offence l h b e =
+      let d = defect_at (14 + 12 * i) field in
+      let rest = list_tests s flagged (behind above d) (start + (14 + 12 * i) + 12) (defects_from field (14 + 12 * i + 12) (slots (length field) - (i + 1))) in
+      record { offence = stops (entry_tests s flagged above (start + (14 + 12 * i)) d) rest e ∙ sym (l.offence ∙ rw (one_left field i (14 + 12 * i) h b)); entries = tt }
 
   -- the next one has none
-  pub left_next : (i index above above' : ℕ) (offence : Offence) → Left i index above → i < slots (length field)
-      → is_blank (defect_at index field) ≡ false → offence ≡ first_of (entry_tests s flagged above (start + index) (defect_at index field))
-      → offence.found ≡ false → above' ≡ behind above (defect_at index field) → Left (i + 1) (index + 12) above'
+  pub left_next : (i above above' : ℕ) → Left i above → i < slots (length field) → is_blank (defect_at (14 + 12 * i) field) ≡ false
+      → no_offence ≡ first_of (entry_tests s flagged above (start + (14 + 12 * i)) (defect_at (14 + 12 * i) field))
+      → above' ≡ behind above (defect_at (14 + 12 * i) field) → Left (i + 1) above'
   unfolding list_tests
-  left_next i index above above' offence left h b e f q =
-      let d = defect_at index field in
-      let one = one_left field i index h b in
-      let behind-it = list_tests s flagged (behind above d) (start + index + 12) (defects_from field (index + 12) (slots (length field) - (i + 1))) in
-      let goes = first_behind (entry_tests s flagged above (start + index) d) behind-it (ap (λ (o : Offence). o.found) (sym e) ∙ f) in
-      let at : start + index + 12 ≡ start + (index + 12) = omega arith in
+  left_next i above above' l h b e q =
+      let d = defect_at (14 + 12 * i) field in
+      let one = one_left field i (14 + 12 * i) h b in
+      let at : 14 + 12 * i + 12 ≡ 14 + 12 * (i + 1) = omega arith in
+      let there : start + (14 + 12 * i) + 12 ≡ start + (14 + 12 * (i + 1)) = omega arith in
       record {
-        stands = omega (arith, left.stands);
-        within = omega arith;
-        offence = left.offence ∙ rw one (goes ∙ rw (at, q));
-        count = left.count ∙ rw one (omega arith);
-        next = left.next ∙ rw one (rw q);
+        offence = l.offence ∙ rw one (first_behind (entry_tests s flagged above (start + (14 + 12 * i)) d) _ (sym e) ∙ rw (there, at, q));
+        count = l.count ∙ rw one (rw at (omega arith));
+        next = l.next ∙ rw one (rw (at, q));
       }

@@ -23,7 +23,6 @@ pub mod Accepted
 pub mod Decoded
 pub mod Loadables
 pub mod Reaching
-pub mod Judgements
 pub mod Gathers
 pub mod Answers
 pub mod HighOctets
@@ -52,7 +51,6 @@ pub mod PlainSets
 pub mod PlainSpelling
 pub mod PlainCalls
 pub mod EncodeDecode
-pub mod Promised
 pub mod Only
 pub mod Exactly
 pub mod ExactOffence

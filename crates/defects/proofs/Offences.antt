@@ -3,59 +3,71 @@
 use Prim.Native.Nat.{ℕ, zero, suc, ◌+◌, ◌-◌, ◌<◌, ◌≤◌}
 use native.Mathlib.Omega.{arith}
 use mathlib.Core.Path.{◌≡◌, refl, sym, ap, ◌∙◌}
-use mathlib.Core.Bool.{Bool, true, false, not, true≢false, false≢true}
+use mathlib.Core.Bool.{Bool, true, false, not}
 use mathlib.Core.List.{List, [], ◌∷◌, ◌++◌}
-use borrow.Author.Tests.{lt-ltb, le-ltb, le-leb, lt-leb, eq-eqb, ne_eqb, eqb-true, eqb-false}
+use borrow.Author.Tests.{eq-eqb, eqb-true, eqb-false}
 use lib.Dec.{eqb}
+use Rattle.std.specs.Prelude.{Result, Err, IsErr, IsErrAnd}
+use Rattle.std.proofs.Math.Option.{Option, some, none}
+use Rattle.std.proofs.lemmas.Result.{err_from_is_err_and}
 use Rattle.laws.specs.Pick.{pick}
-use Rattle.laws.proofs.Pick.{not_t, not_f}
-use Rattle.defects.specs.Offence.{Test, no_offence, offence_at, first_of, tests_over}
+use Rattle.laws.proofs.Pick.{not_f}
 use Rattle.defects.specs.declared.offence.Offence.{Offence}
+use Rattle.defects.specs.Offence.{Test, Found, no_offence, offence_at, first_of, tests_over}
 
-pub first_hit : (test : Test) (tests : List Test) (x : Offence) → test.holds ≡ true → x ≡ offence_at test.number test.offset → x ≡ first_of (test ∷ tests)
-unfolding first_of pick
-first_hit test tests x h e = rw h e
+-- ---- tests that follow others
 
-pub first_miss : (test : Test) (tests : List Test) (x : Offence) → test.holds ≡ false → x ≡ first_of tests → x ≡ first_of (test ∷ tests)
-unfolding first_of pick
-first_miss test tests x h e = rw h e
-
-pub first_none : (x : Offence) → x ≡ no_offence → x ≡ first_of []
-unfolding first_of
-first_none x e = e
-
--- a `return` behind tests that did not hold
-pub ruleset judged = (first_hit, first_miss, first_none, not_t, not_f, lt-ltb, le-ltb, le-leb, lt-leb, eq-eqb, ne_eqb)
-
--- tests that follow others: they are asked where none of those holds
-pub first_behind : (tests rest : List Test) → (first_of tests).found ≡ false → first_of (tests ++ rest) ≡ first_of rest
+-- they are asked where none of those holds
+pub first_behind : (tests rest : List Test) → first_of tests ≡ no_offence → first_of (tests ++ rest) ≡ first_of rest
 unfolding first_of pick
 first_behind [] rest h = refl
 first_behind (test ∷ tests) rest h = by_test test.holds h (first_behind tests rest)
   where
-    by_test : (holds : Bool) → (pick holds (offence_at test.number test.offset) (first_of tests)).found ≡ false
-        → ((first_of tests).found ≡ false → first_of (tests ++ rest) ≡ first_of rest)
+    by_test : (holds : Bool) → pick holds (offence_at test.number test.offset) (first_of tests) ≡ no_offence
+        → (first_of tests ≡ no_offence → first_of (tests ++ rest) ≡ first_of rest)
         → pick holds (offence_at test.number test.offset) (first_of (tests ++ rest)) ≡ first_of rest
-    by_test true h below = absurd (true≢false h)
+    by_test true h below = cc
     by_test false h below = below h
 
-first_before : (tests rest : List Test) → (first_of tests).found ≡ true → first_of (tests ++ rest) ≡ first_of tests
+first_before : (tests rest : List Test) (offence : Found) → first_of tests ≡ some offence → first_of (tests ++ rest) ≡ some offence
 unfolding first_of pick
-first_before [] rest h = absurd (false≢true h)
-first_before (test ∷ tests) rest h = by_test test.holds h (first_before tests rest)
+first_before [] rest offence h = cc
+first_before (test ∷ tests) rest offence h = by_test test.holds h (first_before tests rest offence)
   where
-    by_test : (holds : Bool) → (pick holds (offence_at test.number test.offset) (first_of tests)).found ≡ true
-        → ((first_of tests).found ≡ true → first_of (tests ++ rest) ≡ first_of tests)
-        → pick holds (offence_at test.number test.offset) (first_of (tests ++ rest)) ≡ pick holds (offence_at test.number test.offset) (first_of tests)
-    by_test true h below = refl
+    by_test : (holds : Bool) → pick holds (offence_at test.number test.offset) (first_of tests) ≡ some offence
+        → (first_of tests ≡ some offence → first_of (tests ++ rest) ≡ some offence)
+        → pick holds (offence_at test.number test.offset) (first_of (tests ++ rest)) ≡ some offence
+    by_test true h below = h
     by_test false h below = below h
 
 -- the same for code that has the first offence of those in hand
-pub goes_on : (tests rest : List Test) (a x : Offence) → a ≡ first_of tests → a.found ≡ false → x ≡ first_of rest → x ≡ first_of (tests ++ rest)
-goes_on tests rest a x e h p = p ∙ sym (first_behind tests rest (ap (λ (o : Offence). o.found) (sym e) ∙ h))
+pub goes_on : (tests rest : List Test) {x : Option Found} → no_offence ≡ first_of tests → x ≡ first_of rest → x ≡ first_of (tests ++ rest)
+goes_on tests rest e p = p ∙ sym (first_behind tests rest (sym e))
 
-pub stops : (tests rest : List Test) (a : Offence) → a ≡ first_of tests → a.found ≡ true → a ≡ first_of (tests ++ rest)
-stops tests rest a e h = e ∙ sym (first_before tests rest (ap (λ (o : Offence). o.found) (sym e) ∙ h))
+pub stops : (tests rest : List Test) {offence : Found} → some offence ≡ first_of tests → some offence ≡ first_of (tests ++ rest)
+stops tests rest {offence} e = sym (first_before tests rest offence (sym e))
+
+-- one test in front
+pub one_passed : (test : Test) (tests : List Test) {x : Option Found} → no_offence ≡ first_of (test ∷ []) → x ≡ first_of tests → x ≡ first_of (test ∷ tests)
+one_passed test tests e p = goes_on (test ∷ []) tests e p
+
+pub one_holds : (test : Test) (tests : List Test) {offence : Found} → some offence ≡ first_of (test ∷ []) → some offence ≡ first_of (test ∷ tests)
+one_holds test tests e = stops (test ∷ []) tests e
+
+pub none_left : no_offence ≡ first_of []
+unfolding first_of
+none_left = refl
+
+pub one_due : (test : Test) → test.holds ≡ true → first_of (test ∷ []) ≡ offence_at test.number test.offset
+unfolding first_of pick
+one_due test h = rw h
+
+pub one_fails : (test : Test) → test.holds ≡ false → no_offence ≡ first_of (test ∷ [])
+unfolding first_of pick
+one_fails test h = rw h
+
+-- a `return` behind tests
+pub ruleset judged = (one_holds, one_passed, none_left)
 
 -- ---- the same test at index after index: what is left has the first offence of all
 
@@ -64,46 +76,40 @@ over_split : (test : ℕ → Test) (i end : ℕ) → i < end → tests_over test
 unfolding tests_over
 over_split test i end h = let e : end - i ≡ suc (end - (i + 1)) = omega arith in rw e
 
-pub over_next : (test : ℕ → Test) (i end : ℕ) (all : Offence) → i < end → (test i).holds ≡ false
+pub over_next : (test : ℕ → Test) (i end : ℕ) (all : Option Found) → i < end → no_offence ≡ first_of (test i ∷ [])
     → all ≡ first_of (tests_over test i (end - i)) → all ≡ first_of (tests_over test (i + 1) (end - (i + 1)))
-unfolding first_of pick
-over_next test i end all h p e = e ∙ ap first_of (over_split test i end h) ∙ rw p
+over_next test i end all h p e = e ∙ ap first_of (over_split test i end h) ∙ first_behind (test i ∷ []) _ (sym p)
 
-pub over_hit : (test : ℕ → Test) (i end : ℕ) (all x : Offence) → i < end → (test i).holds ≡ true → x ≡ offence_at (test i).number (test i).offset
-    → all ≡ first_of (tests_over test i (end - i)) → x ≡ all
-unfolding first_of pick
-over_hit test i end all x h p q e = q ∙ sym (e ∙ ap first_of (over_split test i end h) ∙ rw p)
+pub over_hit : (test : ℕ → Test) (i end : ℕ) (all : Option Found) {offence : Found} → i < end → some offence ≡ first_of (test i ∷ [])
+    → all ≡ first_of (tests_over test i (end - i)) → some offence ≡ all
+over_hit test i end all h p e = stops (test i ∷ []) _ p ∙ sym (e ∙ ap first_of (over_split test i end h))
 
-pub over_end : (test : ℕ → Test) (i end : ℕ) (all x : Offence) → end ≤ i → x ≡ no_offence → all ≡ first_of (tests_over test i (end - i)) → x ≡ all
+pub over_end : (test : ℕ → Test) (i end : ℕ) (all : Option Found) → end ≤ i → all ≡ first_of (tests_over test i (end - i)) → no_offence ≡ all
 unfolding first_of tests_over
-over_end test i end all x h q e = let z : end - i ≡ 0 = omega arith in q ∙ sym (e ∙ rw z)
-
--- what code has where it found an offence, it does not have where it found none
-pub caught : {A : Type 0} {x y : Offence} → x ≡ y → y.found ≡ true → x.found ≡ false → A
-caught {A} {x} {y} e f h = absurd (true≢false (sym f ∙ sym (ap (λ (o : Offence). o.found) e) ∙ h))
-
-pub found : {A : Type 0} {x : Offence} {n offset : ℕ} → x ≡ offence_at n offset → x.found ≡ false → A
-found e = caught e refl
+over_end test i end all h e = let z : end - i ≡ 0 = omega arith in sym (e ∙ rw z)
 
 -- ---- where no test holds
 
-pub none_head : (test : Test) (tests : List Test) → (first_of (test ∷ tests)).found ≡ false → (test.holds ≡ false) × ((first_of tests).found ≡ false)
+pub none_head : (test : Test) (tests : List Test) → first_of (test ∷ tests) ≡ no_offence → (test.holds ≡ false) × (first_of tests ≡ no_offence)
 unfolding first_of pick
 none_head test tests h = by_test test.holds refl h
   where
-    by_test : (holds : Bool) → test.holds ≡ holds → (pick holds (offence_at test.number test.offset) (first_of tests)).found ≡ false
-        → (test.holds ≡ false) × ((first_of tests).found ≡ false)
-    by_test true e h = absurd (true≢false h)
+    by_test : (holds : Bool) → test.holds ≡ holds → pick holds (offence_at test.number test.offset) (first_of tests) ≡ no_offence
+        → (test.holds ≡ false) × (first_of tests ≡ no_offence)
+    by_test true e h = absurd (cc)
     by_test false e h = (e, h)
 
-pub none_parts : (tests rest : List Test) → (first_of (tests ++ rest)).found ≡ false → ((first_of tests).found ≡ false) × ((first_of rest).found ≡ false)
-none_parts tests rest h = by_found (first_of tests).found refl
-  where
-    by_found : (found : Bool) → (first_of tests).found ≡ found → ((first_of tests).found ≡ false) × ((first_of rest).found ≡ false)
-    by_found true e = absurd (true≢false (sym e ∙ sym (ap (λ (o : Offence). o.found) (first_before tests rest e)) ∙ h))
-    by_found false e = (e, sym (ap (λ (o : Offence). o.found) (first_behind tests rest e)) ∙ h)
+pub not_held : (test : Test) → no_offence ≡ first_of (test ∷ []) → test.holds ≡ false
+not_held test e = (none_head test [] (sym e)).0
 
-pub none_over : (test : ℕ → Test) (i count : ℕ) → (first_of (tests_over test i count)).found ≡ false → (j : ℕ) → i ≤ j → j < i + count → (test j).holds ≡ false
+pub none_parts : (tests rest : List Test) → first_of (tests ++ rest) ≡ no_offence → (first_of tests ≡ no_offence) × (first_of rest ≡ no_offence)
+none_parts tests rest h = by_found (first_of tests) refl
+  where
+    by_found : (x : Option Found) → first_of tests ≡ x → (first_of tests ≡ no_offence) × (first_of rest ≡ no_offence)
+    by_found none e = (e, sym (first_behind tests rest e) ∙ h)
+    by_found (some offence) e = let before = first_before tests rest offence e in absurd (cc)
+
+pub none_over : (test : ℕ → Test) (i count : ℕ) → first_of (tests_over test i count) ≡ no_offence → (j : ℕ) → i ≤ j → j < i + count → (test j).holds ≡ false
 unfolding tests_over
 none_over test i zero h j low high = absurd (omega arith)
 none_over test i (suc count) h j low high =
@@ -138,7 +144,7 @@ unfolding first_of pick
 none_found end = refl
 none_found (next h p) = rw h (none_found p)
 
-pub all_passed : (tests : List Test) → (first_of tests).found ≡ false → Passed tests
+pub all_passed : (tests : List Test) → first_of tests ≡ no_offence → Passed tests
 all_passed [] h = end
 all_passed (test ∷ tests) h = let (this, rest) = none_head test tests h in next this (all_passed tests rest)
 
@@ -148,3 +154,8 @@ as_it_was_lem {a} {b} e = not_f (eqb a b) (eq-eqb a b e)
 
 pub as_itself : (a : ℕ) → not (eqb a a) ≡ false
 as_itself a = as_it_was_lem {a = a} refl
+
+-- ---- the exit of a `?`
+
+pub passed_on : {A : Type 0} {r : Result A Offence} {offence : Offence} → IsErr r × IsErrAnd r (λ carried. carried ≡ offence) → r ≡ Err offence
+passed_on {r = r} e = let p = err_from_is_err_and r e.1 in p.1 ∙ ap Err p.2

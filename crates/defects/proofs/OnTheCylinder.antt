@@ -16,7 +16,9 @@ use Rattle.laws.specs.Lists.{written_over}
 use Rattle.laws.proofs.Pick.{not_f}
 use Rattle.parts.specs.Setup.{within_limits, all_words}
 use Rattle.parts.specs.declared.setup.Setup.{Setup}
-use Rattle.defects.specs.Offence.{no_offence, offence_at}
+use Rattle.std.specs.Prelude.{Result, Ok}
+use Rattle.std.proofs.Math.Option.{Option}
+use Rattle.defects.specs.Offence.{Found, no_offence, offence_at, offence_or, unless_found, number_in}
 use Rattle.defects.specs.Defect.{list_octets}
 use Rattle.defects.specs.Place.{field_octets, data_fields}
 use Rattle.defects.specs.Walk.{field_at}
@@ -29,8 +31,7 @@ use Rattle.defects.specs.declared.decoding.MapRead.{MapRead}
 use Rattle.defects.specs.declared.defect.Defect.{Defect}
 use Rattle.defects.specs.declared.offence.Offence.{Offence}
 use Rattle.defects.proofs.Fields.{field_length, same_beginning}
-use Rattle.defects.proofs.Promised.{map_decoded, map_read}
-use Rattle.defects.proofs.Offences.{first_miss}
+use Rattle.defects.proofs.Offences.{next, none_found, all_passed}
 use Rattle.defects.proofs.EncodableValue.{Encodable, encodable}
 use Rattle.defects.proofs.EncodedMap.{Begins, length-map, map_alone}
 use Rattle.defects.proofs.EncodedOctets.{map_is_octets}
@@ -75,31 +76,31 @@ module _ (s : Setup) (v : Value) (sectors : List ℕ) (c : CanBePut s v sectors)
       }
 
   read_back : (lent : List ℕ) → data_fields s * field_octets s / 3 ≤ length lent
-      → (read_in s (with_map s v sectors) lent ≡ tells_of v) × (defects_of s (last_cylinder s (with_map s v sectors)) ≡ v.defects)
+      → (read_in s (with_map s v sectors) lent ≡ Ok (tells_of v)) × (defects_of s (last_cylinder s (with_map s v sectors)) ≡ v.defects)
   unfolding pick
   read_back lent room =
       let after = with_map s v sectors in
       let (none, told, listed) = told_behind s v (last_cylinder s after) e begins in
       let held : (ltb (length after) (all_words s) || ltb (length lent) (data_fields s * field_octets s / 3)) ≡ false =
       rw (le-ltb (length after) (all_words s) (omega (arith, as_many, c.room))) (le-ltb (length lent) (data_fields s * field_octets s / 3) room) in
-      let free : read_offence s after lent ≡ no_offence = sym (first_miss _ _ no_offence (not_f (within_limits s) c.limits) (first_miss _ _ no_offence held (sym none))) in
-      (rw free told, listed)
+      let free : read_offence s after lent ≡ no_offence = none_found (next (not_f (within_limits s) c.limits) (next held (all_passed _ none))) in
+      (rw free (ap Ok told), listed)
 
 -- ---- reading and decoding
 
 -- the same offence, and the same told
-same_promise : (s : Setup) (sectors octets before after : List ℕ) (r : MapRead) → read_offence s sectors before ≡ decode_offence s octets before
+same_promise : (s : Setup) (sectors octets before after : List ℕ) (r : Result MapRead Offence) → read_offence s sectors before ≡ decode_offence s octets before
     → map_of s (last_cylinder s sectors) ≡ map_of s octets → defects_of s (last_cylinder s sectors) ≡ defects_of s octets
     → ReadMap s sectors before after r ↔ DecodedMap s octets before after r
 same_promise s sectors octets before after r same told listed =
-    let answers = ap₂ (λ (o : Offence) (map : MapRead). pick o.found (MapRead.Refused o.number o.offset) map) same told in
-    let slices = ap₂ (λ (o : Offence) (defects : List Defect). pick o.found before (written_over before (list_octets defects))) same listed in (
-      λ read. map_decoded (read.answer ∙ answers) (read.slice ∙ slices),
-      λ decoded. map_read (decoded.answer ∙ sym answers) (decoded.slice ∙ sym slices),
+    let answers = ap₂ (λ (o : Option Found) (map : MapRead). offence_or o map) same told in
+    let slices = ap₂ (λ (o : Option Found) (defects : List Defect). unless_found o before (written_over before (list_octets defects))) same listed in (
+      λ read. record { answer = read.answer ∙ answers; slice = read.slice ∙ slices },
+      λ decoded. record { answer = decoded.answer ∙ sym answers; slice = decoded.slice ∙ sym slices },
     )
 
-module _ (s : Setup) (sectors before after : List ℕ) (r : MapRead) (small : within_limits s ≡ true) (room : all_words s ≤ length sectors) where
-  promise_whole : eqb (decode_offence s (last_cylinder s sectors) before).number 28 ≡ false
+module _ (s : Setup) (sectors before after : List ℕ) (r : Result MapRead Offence) (small : within_limits s ≡ true) (room : all_words s ≤ length sectors) where
+  promise_whole : eqb (number_in (decode_offence s (last_cylinder s sectors) before)) 28 ≡ false
       → ReadMap s sectors before after r ↔ DecodedMap s (last_cylinder s sectors) before after r
   unfolding pick
   promise_whole e = same_promise s sectors (last_cylinder s sectors) before after r (read_is_decode s sectors before small room ∙ rw e) refl refl
@@ -109,7 +110,7 @@ module _ (s : Setup) (sectors before after : List ℕ) (r : MapRead) (small : wi
   unfolding pick
   promise_cut offset e =
       let (none, told, listed) = cut_map s (last_cylinder s sectors) before offset e in
-      same_promise s sectors (take offset (last_cylinder s sectors)) before after r (read_is_decode s sectors before small room ∙ ap (λ (o : Offence). as_read o) e ∙ sym none)
+      same_promise s sectors (take offset (last_cylinder s sectors)) before after r (read_is_decode s sectors before small room ∙ ap as_read e ∙ sym none)
       (sym told) (sym listed)
 
 pub on_the_cylinder : OnTheCylinder

@@ -2,15 +2,14 @@
 -- Assumes nothing.
 use Prim.Native.Nat.{ℕ, ◌+◌}
 use mathlib.Core.Path.{◌≡◌, ◌∙◌}
-use mathlib.Core.Bool.{true, false}
 use mathlib.Core.List.{List, ◌++◌}
 use lib.ListN.{length}
 use Rattle.parts.specs.declared.setup.Setup.{Setup}
-use Rattle.defects.specs.Offence.{Test, first_of}
+use Rattle.std.proofs.Math.Option.{Option, some}
+use Rattle.defects.specs.Offence.{Test, Found, no_offence, first_of}
 use Rattle.defects.specs.Field.{front_of, is_flagged, defects_in}
 use Rattle.defects.specs.Judging.{front_tests, list_tests, padding_tests, crc_tests, original_tests}
 use Rattle.defects.specs.declared.front.Front.{Front}
-use Rattle.defects.specs.declared.offence.Offence.{Offence}
 use Rattle.defects.specs.declared.walk.Walk.{Walk}
 use Rattle.defects.proofs.Offences.{stops, goes_on}
 
@@ -27,19 +26,19 @@ module _ (s : Setup) (w : Walk) (least start : ℕ) (front : Front) (field : Lis
   whole : first_of (fore ++ entries ++ padding ++ crc_tests start field) ≡ first_of (original_tests s w least start field)
   whole = rw same
 
-  pub in_front : (x : Offence) → x ≡ first_of fore → x.found ≡ true → x ≡ first_of (original_tests s w least start field)
-  in_front x e f = stops (fore ++ entries ++ padding) _ x (stops (fore ++ entries) padding x (stops fore entries x e f) f) f ∙ whole
+  pub in_front : {offence : Found} → some offence ≡ first_of fore → some offence ≡ first_of (original_tests s w least start field)
+  in_front e = stops (fore ++ entries ++ padding) _ (stops (fore ++ entries) padding (stops fore entries e)) ∙ whole
 
-  module _ (a : Offence) (p : a ≡ first_of fore) (none : a.found ≡ false) where
-    pub in_entries : (x : Offence) → x ≡ first_of entries → x.found ≡ true → x ≡ first_of (original_tests s w least start field)
-    in_entries x e f = stops (fore ++ entries ++ padding) _ x (stops (fore ++ entries) padding x (goes_on fore entries a x p none e) f) f ∙ whole
+  module _ (front_passed : no_offence ≡ first_of fore) where
+    pub in_entries : {offence : Found} → some offence ≡ first_of entries → some offence ≡ first_of (original_tests s w least start field)
+    in_entries e = stops (fore ++ entries ++ padding) _ (stops (fore ++ entries) padding (goes_on fore entries front_passed e)) ∙ whole
 
-    module _ (b : Offence) (q : b ≡ first_of entries) (none' : b.found ≡ false) where
-      up_to : b ≡ first_of (fore ++ entries)
-      up_to = goes_on fore entries a b p none q
+    module _ (entries_passed : no_offence ≡ first_of entries) where
+      up_to : no_offence ≡ first_of (fore ++ entries)
+      up_to = goes_on fore entries front_passed entries_passed
 
-      pub in_padding : (x : Offence) → x ≡ first_of padding → x.found ≡ true → x ≡ first_of (original_tests s w least start field)
-      in_padding x e f = stops (fore ++ entries ++ padding) _ x (goes_on (fore ++ entries) padding b x up_to none' e) f ∙ whole
+      pub in_padding : {offence : Found} → some offence ≡ first_of padding → some offence ≡ first_of (original_tests s w least start field)
+      in_padding e = stops (fore ++ entries ++ padding) _ (goes_on (fore ++ entries) padding up_to e) ∙ whole
 
-      pub in_crc : (c x : Offence) → c ≡ first_of padding → c.found ≡ false → x ≡ first_of (crc_tests start field) → x ≡ first_of (original_tests s w least start field)
-      in_crc c x r none'' e = goes_on (fore ++ entries ++ padding) _ c x (goes_on (fore ++ entries) padding b c up_to none' r) none'' e ∙ whole
+      pub in_crc : {x : Option Found} → no_offence ≡ first_of padding → x ≡ first_of (crc_tests start field) → x ≡ first_of (original_tests s w least start field)
+      in_crc padded e = goes_on (fore ++ entries ++ padding) _ (goes_on (fore ++ entries) padding up_to padded) e ∙ whole

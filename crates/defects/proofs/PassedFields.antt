@@ -12,7 +12,7 @@ use Rattle.laws.specs.Pick.{pick}
 use Rattle.laws.proofs.Pick.{cases}
 use Rattle.laws.proofs.Tests.{or_l}
 use Rattle.parts.specs.declared.setup.Setup.{Setup}
-use Rattle.defects.specs.Offence.{◌at◌when◌, first_of, tests_over}
+use Rattle.defects.specs.Offence.{◌at◌when◌, no_offence, first_of, tests_over}
 use Rattle.defects.specs.Crc.{crc_of}
 use Rattle.defects.specs.Defect.{defect_at, is_blank, behind, is_out_of_sequence}
 use Rattle.defects.specs.Field.{front_of, is_last, has_stray_flags, is_flagged, crc_in, defects_from, defects_in}
@@ -52,7 +52,7 @@ flags_last flags last h = agree (has_stray_flags flags) (is_last flags) last h
 same : (a b : ℕ) → not (eqb a b) ≡ false → a ≡ b
 same a b h = eqb-true a b (not-false (eqb a b) h)
 
-front_passed : (s : Setup) (w : Walk) (start size : ℕ) (front : Front) → (first_of (front_tests s w start size front)).found ≡ false → FrontPassed s w size front
+front_passed : (s : Setup) (w : Walk) (start size : ℕ) (front : Front) → first_of (front_tests s w start size front) ≡ no_offence → FrontPassed s w size front
 unfolding front_tests opening_tests later_tests pick
 front_passed s w start size front h = by_set (eqb w.set 0) refl (all_passed _ h)
   where
@@ -91,7 +91,7 @@ unfolding defects_from
 none_blank field i zero = tt
 none_blank field i (suc left) = cases NoneBlank (is_blank (defect_at i field)) (λ blank. tt) (λ solid. (solid, none_blank field (i + 12) left))
 
-entry_passed : (s : Setup) (flagged : Bool) (least offset : ℕ) (d : Defect) → (first_of (entry_tests s flagged least offset d)).found ≡ false
+entry_passed : (s : Setup) (flagged : Bool) (least offset : ℕ) (d : Defect) → first_of (entry_tests s flagged least offset d) ≡ no_offence
     → (d.cylinder < s.cylinders) × (d.head < s.heads) × (flagged ≡ false → is_out_of_sequence least d ≡ false)
 unfolding entry_tests
 entry_passed s flagged least offset d h =
@@ -100,7 +100,7 @@ entry_passed s flagged least offset d h =
     (leb-false _ _ cylinder, leb-false _ _ (none_head _ _ last).0, λ e. rw e at order)
 
 list_passed : (s : Setup) (flagged : Bool) (least offset : ℕ) (defects : List Defect) → NoneBlank defects
-    → (first_of (list_tests s flagged least offset defects)).found ≡ false
+    → first_of (list_tests s flagged least offset defects) ≡ no_offence
     → (are_listable s defects ≡ true) × (flagged ≡ false → is_unordered least defects ≡ false)
 unfolding list_tests is_listable are_listable is_unordered
 list_passed s flagged least offset [] solid h = (refl, λ e. refl)
@@ -119,10 +119,10 @@ pub record OriginalPassed (s : Setup) (w : Walk) (least : ℕ) (field : List ℕ
   pub padding : (i : ℕ) → 14 + 12 * length (defects_in field) ≤ i → i < length field - 2 → get_or field i 0 ≡ 0
   pub crc : crc_in field ≡ crc_of (take (length field - 2) field)
 
-crc_passed : (start : ℕ) (field : List ℕ) → (first_of (crc_tests start field)).found ≡ false → crc_in field ≡ crc_of (take (length field - 2) field)
+crc_passed : (start : ℕ) (field : List ℕ) → first_of (crc_tests start field) ≡ no_offence → crc_in field ≡ crc_of (take (length field - 2) field)
 crc_passed start field h = same _ _ (none_head _ _ h).0
 
-pub original_passed : (s : Setup) (w : Walk) (least start : ℕ) (field : List ℕ) → (first_of (original_tests s w least start field)).found ≡ false
+pub original_passed : (s : Setup) (w : Walk) (least start : ℕ) (field : List ℕ) → first_of (original_tests s w least start field) ≡ no_offence
     → OriginalPassed s w least field
 original_passed s w least start field h =
     let count = length (defects_in field) in
@@ -143,7 +143,7 @@ pub record CopyPassed (w : Walk) (original field : List ℕ) : Type 0 where
   pub alike : (i : ℕ) → (i ≡ 3 → ⊥) → i < length field - 2 → get_or field i 0 ≡ get_or original i 0
   pub crc : crc_in field ≡ crc_of (take (length field - 2) field)
 
-pub copy_passed : (w : Walk) (start : ℕ) (original field : List ℕ) → 6 ≤ length field → (first_of (copy_tests w start original field)).found ≡ false
+pub copy_passed : (w : Walk) (start : ℕ) (original field : List ℕ) → 6 ≤ length field → first_of (copy_tests w start original field) ≡ no_offence
     → CopyPassed w original field
 copy_passed w start original field long h =
     let test = same_test start field original in
@@ -156,8 +156,8 @@ copy_passed w start original field long h =
       crc = crc_passed start field crc;
     }
   where
-    by_index : (i : ℕ) (front : Bool) → ltb i 3 ≡ front → (i ≡ 3 → ⊥) → i < length field - 2 → (first_of (tests_over (same_test start field original) 0 3)).found ≡ false
-        → (first_of (tests_over (same_test start field original) 4 (length field - 6))).found ≡ false → get_or field i 0 ≡ get_or original i 0
+    by_index : (i : ℕ) (front : Bool) → ltb i 3 ≡ front → (i ≡ 3 → ⊥) → i < length field - 2 → first_of (tests_over (same_test start field original) 0 3) ≡ no_offence
+        → first_of (tests_over (same_test start field original) 4 (length field - 6)) ≡ no_offence → get_or field i 0 ≡ get_or original i 0
     by_index i true e other few low above = same _ _ (none_over (same_test start field original) 0 3 low i (omega arith) (ltb-true i 3 e))
     by_index i false e other few low above =
         let behind : 3 ≤ i = ltb-false i 3 e in

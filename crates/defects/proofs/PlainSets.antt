@@ -10,7 +10,7 @@ use lib.Dec.{eqb}
 use Rattle.laws.specs.Pick.{pick}
 use Rattle.laws.proofs.Tests.{same_equation}
 use Rattle.parts.specs.declared.setup.Setup.{Setup}
-use Rattle.defects.specs.Offence.{first_of}
+use Rattle.defects.specs.Offence.{no_offence, first_of}
 use Rattle.defects.specs.Field.{front_of, is_last, is_ignored, defects_in}
 use Rattle.defects.specs.Place.{data_fields}
 use Rattle.defects.specs.Walk.{is_ended, after_original, after_copy, field_at, walk_at, is_original, defects_before, map_tests}
@@ -39,7 +39,7 @@ pub record There (s : Setup) (octets : List ℕ) (i : ℕ) : Type 0 where
   pub third : walk_at s octets (suc (suc (3 * i))) ≡ after_copy (after_original (walk_at s octets (3 * i)) (3 * i) (front_of (field_at s octets (3 * i))))
   pub next : walk_at s octets (suc (suc (suc (3 * i)))) ≡ after_copy (after_copy (after_original (walk_at s octets (3 * i)) (3 * i) (front_of (field_at s octets (3 * i)))))
 
-module _ (alone : Bool) (s : Setup) (octets : List ℕ) (accepted : (first_of (map_tests alone s octets)).found ≡ false)
+module _ (alone : Bool) (s : Setup) (octets : List ℕ) (accepted : first_of (map_tests alone s octets) ≡ no_offence)
     (heard : (k : ℕ) → k < data_fields s → is_ended (walk_at s octets k) ≡ false → is_ignored (field_at s octets k) ≡ false) where
   all_sets : (walk_at s octets (data_fields s)).set ≡ (walk_at s octets (data_fields s)).sets
   all_sets = (copies.whole_sets alone s octets accepted).1

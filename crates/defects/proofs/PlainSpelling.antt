@@ -13,7 +13,7 @@ use lib.Seq.{take_all, take_at, drop_at}
 use Rattle.laws.specs.Pick.{pick}
 use Rattle.laws.specs.Octets.{AllOctets}
 use Rattle.parts.specs.declared.setup.Setup.{Setup}
-use Rattle.defects.specs.Offence.{first_of}
+use Rattle.defects.specs.Offence.{no_offence, first_of}
 use Rattle.defects.specs.Defect.{behind_all}
 use Rattle.defects.specs.Field.{front_of, is_ignored, slots, defects_in}
 use Rattle.defects.specs.Place.{field_octets, data_fields}
@@ -36,7 +36,7 @@ use Rattle.defects.proofs.PlainSets.{There, set_there, last_at, at_end, listed_n
 
 -- ---- the defects of each set
 
-module _ (s : Setup) (octets : List ℕ) (accepted : (first_of (map_tests true s octets)).found ≡ false) (plain : Plain s octets) where
+module _ (s : Setup) (octets : List ℕ) (accepted : first_of (map_tests true s octets) ≡ no_offence) (plain : Plain s octets) where
   the_set : (i : ℕ) → i < (walk_at s octets (data_fields s)).set → There s octets i
   the_set = set_there true s octets accepted plain.none_ignored
 

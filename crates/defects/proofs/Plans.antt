@@ -1,6 +1,6 @@
 -- The sets of a map that can be encoded: they fit the last cylinder, the defects of each are a run of the list, and each data field has its place.
 -- Assumes nothing.
-use Prim.Native.Nat.{ℕ, suc, ◌+◌, ◌-◌, ◌*◌, ◌/◌, ◌<◌, ◌≤◌}
+use Prim.Native.Nat.{ℕ, ◌+◌, ◌-◌, ◌*◌, ◌/◌, ◌<◌, ◌≤◌}
 use mathlib.Core.Path.{◌≡◌, refl, sym, ap, ◌∙◌}
 use mathlib.Core.Bool.{true}
 use mathlib.Core.List.{List}
@@ -10,14 +10,13 @@ use borrow.Author.Tests.{leb-true}
 use lib.Dec.{leb}
 use lib.ListN.{length, drop}
 use Rattle.laws.proofs.Tests.{and_l, and_r}
-use Rattle.parts.specs.Setup.{within_limits}
 use Rattle.parts.specs.declared.setup.Setup.{Setup}
 use Rattle.parts.proofs.Bounds.{Limits, limits}
 use Rattle.defects.specs.Field.{slots}
 use Rattle.defects.specs.Place.{field_octets, data_fields}
 use Rattle.defects.specs.Walk.{field_at}
 use Rattle.defects.specs.Encoding.{list_from, defects_listed, sets_for, defects_of_set, data_field, map_octets, fits, is_encodable}
-use Rattle.defects.specs.EncodeSteps.{value_in, Planned, RunOf, AllNear, HasRoom, HasPlace}
+use Rattle.defects.specs.EncodeSteps.{value_in, Planned, RunOf, AllNear}
 use Rattle.defects.specs.declared.body.Job.{Job}
 use Rattle.defects.specs.declared.body.Run.{Run}
 use Rattle.defects.proofs.Fields.{some_field, few_fields}
@@ -89,15 +88,3 @@ module _ {s : Setup} {job : Job} {octets : List ℕ} (p : Plan s job octets) whe
   -- the data fields before one of them have their octets
   pub before_field : (k : ℕ) → k ≤ 3 * job.sets → k * field_octets s ≤ length (map_octets s (value_in job octets))
   before_field k h = rw all_octets (mul-le-mul_right (field_octets s) h)
-
-  -- there is a place for each data field
-  pub has_place : {k : ℕ} {field out₀ out sectors₀ sectors : List ℕ} → within_limits s ≡ true → HasRoom s job out₀ sectors₀ → k < 3 * job.sets → length field ≡ field_octets s
-      → length out ≡ length out₀ → length sectors ≡ length sectors₀ → HasPlace s job.stored k field out sectors
-  has_place {k} w room h size same_out same_sectors =
-      let whole : suc k * field_octets s ≤ 3 * job.sets * field_octets s = mul-le-mul_right (field_octets s) h in
-      record {
-        limits = w;
-        size = size;
-        in_octets = λ e. omega (arith, room.octets e);
-        in_words = λ e. (omega (arith, p.fields), omega (arith, room.words e));
-      }

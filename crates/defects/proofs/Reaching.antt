@@ -2,30 +2,32 @@
 -- Assumes nothing.
 use Prim.Native.Nat.{ℕ, suc, ◌+◌, ◌-◌, ◌*◌, ◌<◌, ◌≤◌}
 use mathlib.Core.Path.{◌≡◌, refl, sym, ap, ◌∙◌}
-use mathlib.Core.Bool.{Bool, true, false}
+use mathlib.Core.Bool.{Bool, true, false, true≢false}
 use mathlib.Core.List.{List, [], ◌∷◌, ◌++◌}
 use native.Mathlib.Nat.{zero-mul, add-mul, one-mul}
 use native.Mathlib.Numerals.{add-one}
 use native.Mathlib.Omega.{arith}
 use borrow.Author.Count.{below_more}
-use borrow.Author.Tests.{lt-ltb, le-ltb, le-leb, lt-leb}
+use borrow.Author.Tests.{ltb-false, le-leb, lt-leb}
 use lib.Dec.{ltb}
 use lib.ListN.{length}
 use Rattle.laws.specs.Pick.{pick}
 use Rattle.parts.specs.declared.setup.Setup.{Setup}
-use Rattle.defects.specs.Offence.{◌at◌when◌, offence_at, first_of}
+use Rattle.std.specs.Prelude.{Result, Ok, Err}
+use Rattle.std.proofs.Math.Option.{Option, some}
+use Rattle.defects.specs.Offence.{◌at◌when◌, Found, no_offence, first_of, offence_in}
 use Rattle.defects.specs.Defect.{behind_all}
 use Rattle.defects.specs.Field.{is_ignored}
 use Rattle.defects.specs.Place.{field_octets, data_fields}
 use Rattle.defects.specs.Walk.{outset, is_ended, after, field_at, walk_at, defects_before, tests_at, tests_from, map_tests}
-use Rattle.defects.specs.Steps.{StepTaken, EndsAt}
+use Rattle.defects.specs.Steps.{last_tests, StepTaken, EndsAt}
 use Rattle.defects.specs.declared.offence.Offence.{Offence}
 use Rattle.defects.specs.declared.walk.Walk.{Walk}
 use Rattle.defects.specs.declared.walk.Stepped.{Stepped}
 use Rattle.defects.proofs.Listed.{behind_parts}
 use Rattle.defects.proofs.WalkSteps.{walk_next, defects_next, ended_stays, defects_stay}
 use Rattle.defects.proofs.TestsAt.{tests_of, behind_test, tests_going, none_behind}
-use Rattle.defects.proofs.Offences.{first_hit, first_miss, first_behind, stops, none_found}
+use Rattle.defects.proofs.Offences.{one_holds, one_passed, one_due, not_held, first_behind, stops, none_found}
 
 module _ (alone : Bool) (s : Setup) (octets : List ℕ) where
   -- ---- a turn
@@ -70,51 +72,73 @@ module _ (alone : Bool) (s : Setup) (octets : List ℕ) where
     still_going : is_ended w ≡ false → is_ended (walk_at s octets k) ≡ false
     still_going e = ap is_ended (sym here.walk) ∙ e
 
-    -- all tests have the first offence of those at hand, where that is one
-    all_of : {x : Offence} → x ≡ first_of (tests_at alone s octets k) → x.found ≡ true → x ≡ first_of (map_tests alone s octets)
-    all_of {x} e f = stops (tests_at alone s octets k) _ x e f ∙ sym (here.rest ∙ ap first_of (at_hand k here.within))
+    -- all tests have the first offence of those at hand
+    all_of : {offence : Found} → some offence ≡ first_of (tests_at alone s octets k) → some offence ≡ first_of (map_tests alone s octets)
+    all_of e = stops (tests_at alone s octets k) _ e ∙ sym (here.rest ∙ ap first_of (at_hand k here.within))
 
-    pub reached_short : (x : Offence) → k < data_fields s → is_ended w ≡ false → length octets < k * field_octets s + field_octets s
-        → x ≡ offence_at 17 (k * field_octets s) → x ≡ first_of (map_tests alone s octets)
-    reached_short x h e short q =
-        all_of (first_hit _ _ x (lt-ltb _ _ short) q ∙ sym (ap first_of (own_tests k h (still_going e)))) (ap (λ (o : Offence). o.found) q)
+    pub reached_short : {offence : Found} → k < data_fields s → is_ended w ≡ false
+        → some offence ≡ first_of (17 at k * field_octets s when ltb (length octets) (k * field_octets s + field_octets s) ∷ []) → some offence ≡ first_of (map_tests alone s octets)
+    reached_short h e q = all_of (one_holds _ _ q ∙ sym (ap first_of (own_tests k h (still_going e))))
 
-    pub reached_full : (x : Offence) → data_fields s ≤ k → is_ended w ≡ false → x ≡ offence_at 16 (k * field_octets s) → x ≡ first_of (map_tests alone s octets)
-    unfolding tests_at pick
-    reached_full x h e q = all_of (rw (still_going e, le-leb _ _ h) (first_hit _ _ x refl q)) (ap (λ (o : Offence). o.found) q)
-
-    module _ (r : Stepped) (h : k < data_fields s) (e : is_ended w ≡ false) (fits : k * field_octets s + field_octets s ≤ length octets)
-        (taken : StepTaken s w least k (k * field_octets s) (field_at s octets w.original) (field_at s octets k) r) where
+    module _ (h : k < data_fields s) (e : is_ended w ≡ false)
+        (fits : no_offence ≡ first_of (17 at k * field_octets s when ltb (length octets) (k * field_octets s + field_octets s) ∷ [])) where
       -- what the turn found is what the tests at hand have
-      turn_found : r.offence ≡ first_of (tests_at alone s octets k)
-      turn_found =
-          let own : r.offence ≡ first_of (pick (is_ignored (field_at s octets k)) [] (tests_of s octets k)) = taken.offence ∙ rw (here.walk, here.least') in
-          first_miss _ _ r.offence (le-ltb _ _ fits) own ∙ sym (ap first_of (own_tests k h (still_going e)))
+      turn_found : (r : Result Stepped Offence) → StepTaken s w least k (k * field_octets s) (field_at s octets w.original) (field_at s octets k) r
+          → offence_in r ≡ first_of (tests_at alone s octets k)
+      turn_found r taken =
+          let own : offence_in r ≡ first_of (pick (is_ignored (field_at s octets k)) [] (tests_of s octets k)) = taken.offence ∙ rw (here.walk, here.least') in
+          one_passed _ _ fits own ∙ sym (ap first_of (own_tests k h (still_going e)))
 
-      pub reached_stop : r.offence.found ≡ true → r.offence ≡ first_of (map_tests alone s octets)
-      reached_stop f = all_of turn_found f
+      pub reached_stop : (offence : Offence) → StepTaken s w least k (k * field_octets s) (field_at s octets w.original) (field_at s octets k) (Err offence)
+          → offence_in {A = Stepped} (Err offence) ≡ first_of (map_tests alone s octets)
+      reached_stop offence taken = all_of (turn_found (Err offence) taken)
 
-      pub reached_next : r.offence.found ≡ false → Reached (k + 1) r.walk r.least
-      reached_next f =
+      pub is_whole : k * field_octets s + field_octets s ≤ length octets
+      is_whole = ltb-false _ _ (not_held _ fits)
+
+      pub reached_next : (r : Stepped) → StepTaken s w least k (k * field_octets s) (field_at s octets w.original) (field_at s octets k) (Ok r) → Reached (k + 1) r.walk r.least
+      reached_next r taken =
           let going = still_going e in
           let before = defects_before s octets k in
           let ahead : k * field_octets s + field_octets s ≡ (k + 1) * field_octets s = omega (arith, add-mul k 1 (field_octets s), one-mul (field_octets s)) in
           record {
             within = omega arith;
-            whole = omega arith;
-            walk = taken.walk f ∙ ap (λ (w : Walk). after w k (field_at s octets k)) here.walk ∙ sym (ap (walk_at s octets) (add-one k) ∙ walk_next s octets k going);
-            least' = taken.least' f ∙ rw (here.walk, here.least') (sym (ap (behind_all 0) (ap (defects_before s octets) (add-one k) ∙ defects_next s octets k going) ∙ behind_parts 0 before _));
+            whole = omega (arith, is_whole);
+            walk = ap (λ (r : Stepped). r.walk) taken.next ∙ ap (λ (w : Walk). after w k (field_at s octets k)) here.walk
+                ∙ sym (ap (walk_at s octets) (add-one k) ∙ walk_next s octets k going);
+            least' = ap (λ (r : Stepped). r.least) taken.next
+                ∙ rw (here.walk, here.least') (sym (ap (behind_all 0) (ap (defects_before s octets) (add-one k) ∙ defects_next s octets k going) ∙ behind_parts 0 before _));
             going = below_more _ _ here.going going;
-            rest = here.rest ∙ ap first_of (at_hand k here.within) ∙ first_behind (tests_at alone s octets k) _ (ap (λ (o : Offence). o.found) (sym turn_found) ∙ f);
+            rest = here.rest ∙ ap first_of (at_hand k here.within) ∙ first_behind (tests_at alone s octets k) _ (sym (turn_found (Ok r) taken));
           }
 
     -- ---- the end
 
-    pub reached_end : (x : Offence) → is_ended w ≡ true → x ≡ first_of (behind_test alone s octets k ∷ []) → x ≡ first_of (map_tests alone s octets)
-    reached_end x e q =
+    pub reached_end : {x : Option Found} → is_ended w ≡ true → x ≡ first_of (behind_test alone s octets k ∷ []) → x ≡ first_of (map_tests alone s octets)
+    reached_end e q =
         let left : suc (data_fields s) - k ≡ suc (data_fields s - k) = omega (arith, here.within) in
         let end : is_ended (walk_at s octets k) ≡ true = ap is_ended (sym here.walk) ∙ e in
         q ∙ sym (here.rest ∙ ap (λ (n : ℕ). first_of (tests_from alone s octets k n)) left ∙ tests_stay k (data_fields s - k) end)
+
+    -- behind the last data field of the cylinder
+    pub reached_last : {x : Option Found} → data_fields s ≤ k → x ≡ first_of (last_tests w alone (k * field_octets s) (length octets)) → x ≡ first_of (map_tests alone s octets)
+    unfolding pick tests_at
+    reached_last {x} h q = by_end (is_ended w) refl
+      where
+        full : is_ended w ≡ false → tests_at alone s octets k ≡ 16 at k * field_octets s when true ∷ []
+        full e = rw (still_going e, le-leb _ _ h)
+
+        by_end : (ended : Bool) → is_ended w ≡ ended → x ≡ first_of (map_tests alone s octets)
+        by_end true e = reached_end e (q ∙ rw e)
+        by_end false e = q ∙ rw e (one_due (16 at k * field_octets s when true) refl ∙ all_of (sym (one_due _ refl) ∙ sym (ap first_of (full e))))
+
+    pub last_ended : no_offence ≡ first_of (last_tests w alone (k * field_octets s) (length octets)) → is_ended w ≡ true
+    unfolding pick
+    last_ended q = by_end (is_ended w) refl
+      where
+        by_end : (ended : Bool) → is_ended w ≡ ended → is_ended w ≡ true
+        by_end true e = e
+        by_end false e = absurd (true≢false (not_held (16 at k * field_octets s when true) (q ∙ rw e)))
 
     pub ends_at : is_ended w ≡ true → EndsAt s octets k w
     ends_at e =

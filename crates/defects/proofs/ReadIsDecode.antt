@@ -7,11 +7,12 @@ use mathlib.Core.List.{List, [], ◌∷◌, ◌++◌}
 use borrow.Author.Tests.{le-ltb}
 use lib.Dec.{eqb, ltb, leb}
 use lib.ListN.{length}
+use Rattle.std.proofs.Math.Option.{Option}
 use Rattle.laws.specs.Pick.{pick}
 use Rattle.laws.proofs.Pick.{either}
 use Rattle.parts.specs.Setup.{within_limits, all_words}
 use Rattle.parts.specs.declared.setup.Setup.{Setup}
-use Rattle.defects.specs.Offence.{Test, no_offence, offence_at, first_of, tests_over}
+use Rattle.defects.specs.Offence.{Test, Found, no_offence, offence_at, first_of, tests_over}
 use Rattle.defects.specs.Defect.{behind, behind_all}
 use Rattle.defects.specs.Field.{is_ignored}
 use Rattle.defects.specs.Place.{field_octets, data_fields}
@@ -22,7 +23,6 @@ use Rattle.defects.specs.Sectors.{last_cylinder, read_offence}
 use Rattle.defects.specs.OnTheCylinder.{as_read}
 use Rattle.defects.specs.declared.defect.Defect.{Defect}
 use Rattle.defects.specs.declared.front.Front.{Front}
-use Rattle.defects.specs.declared.offence.Offence.{Offence}
 use Rattle.defects.specs.declared.walk.Walk.{Walk}
 use Rattle.defects.proofs.Offences.{All, end, next, none_found, both, over}
 use Rattle.defects.proofs.WalkSteps.{still_ended}
@@ -65,7 +65,7 @@ due_others s octets k =
 
 -- ---- reading and decoding
 
-one_more : (holds : Bool) (n offset : ℕ) (x y : Offence) → eqb n 28 ≡ false → x ≡ as_read y → pick holds (offence_at n offset) x ≡ as_read (pick holds (offence_at n offset) y)
+one_more : (holds : Bool) (n offset : ℕ) (x y : Option Found) → eqb n 28 ≡ false → x ≡ as_read y → pick holds (offence_at n offset) x ≡ as_read (pick holds (offence_at n offset) y)
 unfolding pick
 one_more true n offset x y h e = rw h
 one_more false n offset x y h e = e
@@ -89,7 +89,7 @@ read_from s octets k (suc count) = by_test (is_ended (walk_at s octets k)) refl 
         let rest = none_found (none_behind false s octets (suc k) count (still_ended s octets k e) refl) in
         none
         ∙ rw (tests_ended true s octets k e)
-        (either (λ (o : Offence). no_offence ≡ as_read o) (ltb (k * field_octets s) (length octets)) refl (sym rest ∙ below))
+        (either (λ (o : Option Found). no_offence ≡ as_read o) (ltb (k * field_octets s) (length octets)) refl (sym rest ∙ below))
     by_test false e below = rw (tests_going false s octets k e, tests_going true s octets k e) (behind_others _ _ (due_others s octets k) below)
 
 pub but_for_28 : (s : Setup) (octets : List ℕ) → first_of (map_tests false s octets) ≡ as_read (first_of (map_tests true s octets))

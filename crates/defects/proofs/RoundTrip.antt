@@ -1,7 +1,7 @@
 -- An encoded map is decoded without an offence, and tells the value that was encoded: `specs/RoundTrip` proved.
 -- Assumes nothing.
 use Prim.Native.Nat.{ℕ, zero, suc, ◌+◌, ◌-◌, ◌*◌, ◌/◌, ◌%◌, ◌≤◌, ◌<◌}
-use mathlib.Core.Path.{◌≡◌, refl}
+use mathlib.Core.Path.{◌≡◌, refl, ap}
 use mathlib.Core.Bool.{Bool, true, false, ◌&&◌, false≢true, and-false}
 use mathlib.Core.List.{List, ◌++◌}
 use native.Mathlib.Nat.{add-zero, le_trans, mul-le-mul_right}
@@ -9,6 +9,7 @@ use native.Mathlib.Omega.{arith}
 use borrow.Author.Tests.{le-ltb, lt-leb, ltb-true, ltb-false}
 use lib.Dec.{eqb, ltb}
 use lib.ListN.{length}
+use Rattle.std.specs.Prelude.{Ok}
 use Rattle.laws.specs.Pick.{pick}
 use Rattle.laws.proofs.Pick.{not_f}
 use Rattle.parts.specs.Setup.{within_limits}
@@ -119,7 +120,7 @@ told_behind s v octets e b = (none_found (map_passed s v e octets b false (λ a.
 
 -- the map alone
 told_alone : (s : Setup) (v : Value) (lent : List ℕ) → within_limits s ≡ true → Encodable s v → length (map_octets s v) / 3 ≤ length lent
-    → (decoded_in s (map_octets s v) lent ≡ tells_of v) × (defects_of s (map_octets s v) ≡ v.defects)
+    → (decoded_in s (map_octets s v) lent ≡ Ok (tells_of v)) × (defects_of s (map_octets s v) ≡ v.defects)
 unfolding pick
 told_alone s v lent w e room =
     let octets = map_octets s v in
@@ -127,7 +128,7 @@ told_alone s v lent w e room =
     let only : length octets ≤ 3 * sets s v * field_octets s = omega (arith, length-map s v e.field1) in
     let map = map_passed s v e octets b true (λ a. only) in
     let free : first_of (decode_tests s octets lent) ≡ no_offence = none_found (next (not_f (within_limits s) w) (next (le-ltb (length lent) (length octets / 3) room) map)) in
-    (rw free (tells s v e octets b), (at_end s v e octets b).listed)
+    (rw free (ap Ok (tells s v e octets b)), (at_end s v e octets b).listed)
 
 pub map_round_trip : MapRoundTrip
 map_round_trip =

@@ -2,10 +2,8 @@
 -- Assumes nothing.
 use Prim.Native.Nat.{ℕ, zero, suc, ◌+◌, ◌*◌, ◌≤◌}
 use mathlib.Core.Path.{◌≡◌, refl, sym, ap, ◌∙◌}
-use mathlib.Core.Bool.{Bool}
 use mathlib.Core.List.{List}
 use native.Mathlib.Nat.{zero-add, add-zero}
-use native.Mathlib.Numerals.{add-one}
 use native.Mathlib.Omega.{arith}
 use lib.ListN.{length, take, drop}
 use lib.Seq.{length-take-le, take-add}
@@ -15,30 +13,42 @@ use Rattle.parts.specs.declared.setup.Setup.{Setup}
 use Rattle.defects.specs.Place.{field_octets}
 use Rattle.defects.specs.Sectors.{octet_words, field_start, stored_fields}
 use Rattle.defects.specs.Walk.{field_at}
-use Rattle.defects.specs.EncodeSteps.{FieldPut, FieldsPut}
+use Rattle.defects.specs.EncodeSteps.{octet_start, put_fields}
 
-stored_next : (s : Setup) (map sectors : List ℕ) (j count : ℕ)
-    → stored_fields s map sectors j (suc count) ≡ written_at (stored_fields s map sectors j count) (field_start s (j + count)) (octet_words (field_at s map (j + count)))
-unfolding stored_fields
-stored_next s map sectors j zero = rw add-zero
-stored_next s map sectors j (suc count) =
-    let there : j + suc count ≡ suc j + count = omega arith in
-    rw there (stored_next s map (written_at sectors (field_start s j) (octet_words (field_at s map j))) (suc j) count)
+-- one more behind so many
+pub put_next : {A : Type 0} (start : Setup → ℕ → ℕ) (units : List ℕ → List A) (s : Setup) (map : List ℕ) (out : List A) (k count : ℕ)
+    → put_fields start units s map out k (suc count) ≡ written_at (put_fields start units s map out k count) (start s (k + count)) (units (field_at s map (k + count)))
+unfolding put_fields
+put_next start units s map out k zero = rw add-zero
+put_next start units s map out k (suc count) =
+    let there : k + suc count ≡ suc k + count = omega arith in
+    rw there (put_next start units s map (written_at out (start s k) (units (field_at s map k))) (suc k) count)
 
-pub none_put : (s : Setup) (stored : Bool) (map out sectors : List ℕ) → FieldsPut s stored map 0 out out sectors sectors
-unfolding stored_fields
-none_put s stored map out sectors = let none : 0 * field_octets s ≡ 0 = omega arith in record { octets = λ e. rw none; words = λ e. refl }
+-- so many behind others
+pub put_more : {A : Type 0} (start : Setup → ℕ → ℕ) (units : List ℕ → List A) (s : Setup) (map : List ℕ) (out : List A) (k m n : ℕ) {there : ℕ} → there ≡ k + m
+    → put_fields start units s map (put_fields start units s map out k m) there n ≡ put_fields start units s map out k (m + n)
+unfolding put_fields
+put_more start units s map out k zero n e = rw (e, add-zero, zero-add)
+put_more start units s map out k (suc m) n e =
+    let all : suc m + n ≡ suc (m + n) = omega arith in
+    rw all (put_more start units s map (written_at out (start s k) (units (field_at s map k))) (suc k) m n (e ∙ omega arith))
 
-pub one_more_put : {s : Setup} {stored : Bool} {map : List ℕ} {k : ℕ} {field out₀ out out' sectors₀ sectors sectors' : List ℕ}
-    → FieldsPut s stored map k out₀ out sectors₀ sectors → field ≡ field_at s map k → k * field_octets s ≤ length map
-    → FieldPut s stored k field out out' sectors sectors' → FieldsPut s stored map (k + 1) out₀ out' sectors₀ sectors'
-unfolding field_at
-one_more_put {s} {stored} {map} {k} {field} {out₀} {sectors₀ = sectors₀} put is h p =
+-- in the octets of a map they are its front
+pub octets_put : (s : Setup) (map out : List ℕ) (count : ℕ) → count * field_octets s ≤ length map
+    → put_fields octet_start (λ octets. octets) s map out 0 count ≡ written_over out (take (count * field_octets s) map)
+unfolding put_fields field_at
+octets_put s map out zero h = let none : 0 * field_octets s ≡ 0 = omega arith in rw none
+octets_put s map out (suc count) h =
     let size = field_octets s in
-    let front = take (k * size) map in
-    let whole : (k + 1) * size ≡ k * size + size = omega arith in
-    let here : k * size ≡ length front = sym (length-take-le (k * size) map h) in
-    record {
-      octets = λ e. p.octets e ∙ rw (put.octets e, is, whole, take-add (k * size) size map) (ap (λ (at : ℕ). written_at (written_over out₀ front) at (take size (drop (k * size) map))) here ∙ written_next out₀ front (take size (drop (k * size) map)));
-      words = λ e. p.words e ∙ rw (put.words e, is, add-one) (sym (stored_next s map sectors₀ 0 k ∙ rw zero-add));
-    }
+    let front = take (count * size) map in
+    let whole : suc count * size ≡ count * size + size = omega arith in
+    let here : count * size ≡ length front = sym (length-take-le (count * size) map (omega arith)) in
+    put_next octet_start (λ octets. octets) s map out 0 count
+    ∙ rw (zero-add, octets_put s map out count (omega arith), whole, take-add (count * size) size map)
+    (ap (λ (at : ℕ). written_at (written_over out front) at (take size (drop (count * size) map))) here ∙ written_next out front (take size (drop (count * size) map)))
+
+-- in the sector words they are stored
+pub words_put : (s : Setup) (map out : List ℕ) (k count : ℕ) → put_fields field_start octet_words s map out k count ≡ stored_fields s map out k count
+unfolding put_fields stored_fields
+words_put s map out k zero = refl
+words_put s map out k (suc count) = words_put s map (written_at out (field_start s k) (octet_words (field_at s map k))) (suc k) count

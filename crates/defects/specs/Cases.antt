@@ -1,14 +1,14 @@
 -- Worked maps, and what decoding and encoding make of them. Each data field is written as one long number, its octets in hex.
-use Rattle.std.specs.Prelude.{ℕ, ◌≡◌, List, [], ◌∷◌, ◌++◌, replicate}
+use Rattle.std.specs.Prelude.{ℕ, ◌≡◌, List, [], ◌∷◌, ◌++◌, Result, Ok, Err, replicate}
 use Rattle.laws.specs.Octets.{octets_of}
 use Rattle.parts.specs.declared.setup.Setup.{Setup}
 use Rattle.defects.specs.Crc.{crc_of}
 use Rattle.defects.specs.Place.{place_of, place_refusal}
-use Rattle.defects.specs.Decoding.{decoded_in, defects_of}
+use Rattle.defects.specs.Offence.{Found}
+use Rattle.defects.specs.Decoding.{tells, decoded_in, defects_of}
 use Rattle.defects.specs.Encoding.{Value, map_octets, encode_refusal}
 use Rattle.defects.specs.declared.defect.Defect.{Defect}
 use Rattle.defects.specs.declared.decoding.MapRead.{MapRead}
-use Rattle.defects.specs.declared.decoding.MapRead.TheVariants.{Map, Refused}
 
 -- Cylinders, heads, sectors per track, and field 1's words.
 abbrev pub drive : ℕ → ℕ → ℕ → ℕ → Setup
@@ -32,8 +32,14 @@ abbrev pub value : ℕ → ℕ → List Defect → Value
 value cylinder head defects = record { cylinder = cylinder; head = head; defects = defects }
 
 -- Decoded with room for 96 octets of defects.
-abbrev pub decoded : Setup → List ℕ → MapRead
+abbrev pub decoded : Setup → List ℕ → Result MapRead Found
 decoded s octets = decoded_in s octets (replicate 96 0xFF)
+
+abbrev pub map : ℕ → ℕ → ℕ → Result MapRead Found
+map count cylinder head = Ok (tells count cylinder head)
+
+abbrev pub refused : ℕ → ℕ → Result MapRead Found
+refused n offset = Err (record { number = n; offset = offset })
 
 -- No defects, the smallest data field.
 abbrev pub no_defects : List ℕ
@@ -166,30 +172,30 @@ pub record Cases : Type 0 where
   -- The nine digits.
   pub check_value : crc_of (octets_of 9 0x313233343536373839) ≡ 0xFEE8
   -- ---- decoded
-  pub no_defects_lem : decoded narrow no_defects ≡ Map 0 1 0
-  pub one_defect_lem : decoded small one_defect ≡ Map 1 1 0
+  pub no_defects_lem : decoded narrow no_defects ≡ map 0 1 0
+  pub one_defect_lem : decoded small one_defect ≡ map 1 1 0
   pub one_defect_lists : defects_of small one_defect ≡ (defect 1 1 300 5 ∷ [])
-  pub out_of_sequence_lem : decoded small out_of_sequence ≡ Map 2 1 0
+  pub out_of_sequence_lem : decoded small out_of_sequence ≡ map 2 1 0
   pub out_of_sequence_lists : defects_of small out_of_sequence ≡ (defect 1 0 7 9 ∷ defect 0 1 300 5 ∷ [])
-  pub one_ignored_lem : decoded narrow one_ignored ≡ Map 0 1 0
-  pub not_full_lem : decoded wide not_full ≡ Map 2 9 0
+  pub one_ignored_lem : decoded narrow one_ignored ≡ map 0 1 0
+  pub not_full_lem : decoded wide not_full ≡ map 2 9 0
   pub not_full_lists : defects_of wide not_full ≡ (defect 3 1 20 11 ∷ defect 4 0 0 1 ∷ [])
-  pub flagged_without_need_lem : decoded small flagged_without_need ≡ Map 1 1 0
+  pub flagged_without_need_lem : decoded small flagged_without_need ≡ map 1 1 0
   pub flagged_without_need_lists : defects_of small flagged_without_need ≡ (defect 1 1 300 5 ∷ [])
-  pub all_ignored_lem : decoded narrow all_ignored ≡ Refused 16 96
-  pub count_wrong_lem : decoded narrow count_wrong ≡ Refused 18 0
-  pub continues : decoded narrow continues ≡ Refused 19 2
-  pub copy_three_lem : decoded narrow copy_three ≡ Refused 20 19
-  pub behind_the_last_cylinder_lem : decoded small behind_the_last_cylinder ≡ Refused 23 14
-  pub order_broken_lem : decoded small order_broken ≡ Refused 24 98
-  pub octet_in_the_padding_lem : decoded wide octet_in_the_padding ≡ Refused 25 39
-  pub bit_of_the_crc_lem : decoded narrow bit_of_the_crc ≡ Refused 26 14
-  pub third_copy_differs_lem : decoded narrow third_copy_differs ≡ Refused 27 45
-  pub fourth_data_field_lem : decoded narrow fourth_data_field ≡ Refused 28 48
+  pub all_ignored_lem : decoded narrow all_ignored ≡ refused 16 96
+  pub count_wrong_lem : decoded narrow count_wrong ≡ refused 18 0
+  pub continues : decoded narrow continues ≡ refused 19 2
+  pub copy_three_lem : decoded narrow copy_three ≡ refused 20 19
+  pub behind_the_last_cylinder_lem : decoded small behind_the_last_cylinder ≡ refused 23 14
+  pub order_broken_lem : decoded small order_broken ≡ refused 24 98
+  pub octet_in_the_padding_lem : decoded wide octet_in_the_padding ≡ refused 25 39
+  pub bit_of_the_crc_lem : decoded narrow bit_of_the_crc ≡ refused 26 14
+  pub third_copy_differs_lem : decoded narrow third_copy_differs ≡ refused 27 45
+  pub fourth_data_field_lem : decoded narrow fourth_data_field ≡ refused 28 48
   -- A data field cut short is not judged: the first octets of one are 17 where it begins.
-  pub cut_short : decoded narrow (octets_of 7 0x000e8000000100) ≡ Refused 17 0
+  pub cut_short : decoded narrow (octets_of 7 0x000e8000000100) ≡ refused 17 0
   -- No data field has room for a map on a drive whose field 1 has two words.
-  pub no_room : decoded (drive 2 2 3 2) no_defects ≡ Refused 16 0
+  pub no_room : decoded (drive 2 2 3 2) no_defects ≡ refused 16 0
   -- ---- encoded
   pub no_defects_anew : map_octets narrow (value 1 0 []) ≡ no_defects
   pub one_defect_anew : map_octets small (value 1 0 (defect 1 1 300 5 ∷ [])) ≡ one_defect

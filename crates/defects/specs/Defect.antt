@@ -1,11 +1,11 @@
 -- "Each defect entry in the map is 12 octets in length": a defect, both ways, and the order of defects.
-use Rattle.std.specs.Prelude.{ℕ, ◌+◌, ◌*◌, ◌^◌, max, ◌≡◌, Bool, ◌&&◌, List, [], ◌∷◌, ◌++◌, eqb, ltb, length, take, drop}
-use Rattle.laws.specs.Rows.{Row, first, ◌when◌, unless_refused, Paper, refused_with, tells, refused_or}
+use Rattle.std.specs.Prelude.{ℕ, ◌+◌, ◌*◌, ◌^◌, max, ◌≡◌, Bool, ◌&&◌, List, [], ◌∷◌, ◌++◌, Result, eqb, ltb, length, take, drop, ⊤}
+use Rattle.laws.specs.Rows.{Row, first, ◌when◌, unless_refused, refused_or}
 use Rattle.laws.specs.Lists.{written_over}
 use Rattle.laws.specs.Octets.{number_of, octets_of}
+use Rattle.refusals.specs.Refusal.{on_paper, refusal_in}
+use Rattle.refusals.specs.declared.refusal.Refusal.{Refusal}
 use Rattle.defects.specs.declared.defect.Defect.{Defect}
-use Rattle.defects.specs.declared.defect.DefectRead.{DefectRead}
-use Rattle.defects.specs.declared.defect.Encoded.{Encoded}
 
 -- The number in so many octets from an index on. "The most significant octet is transferred first in multi-octet parameters".
 unfoldable pub number_at : ℕ → ℕ → List ℕ → ℕ
@@ -38,29 +38,13 @@ defect_rows slice = 10 when ltb (length slice) 12 ∷ []
 abbrev pub defect_refusal : List ℕ → ℕ
 defect_refusal slice = first (defect_rows slice)
 
--- The number that an answer refuses with, 0 where it refuses nothing.
-abbrev pub refusal_in : DefectRead → ℕ
-refusal_in (DefectRead.Decoded d) = 0
-refusal_in (DefectRead.Refused n) = n
-
-abbrev pub refusal_in_encoded : Encoded → ℕ
-refusal_in_encoded Encoded.Written = 0
-refusal_in_encoded (Encoded.Refused n) = n
-
--- What `decode_defect` answers, on paper: the number of the refusal, or the four numbers of the defect.
-abbrev pub paper : DefectRead → Paper Defect
-paper (DefectRead.Decoded d) = tells d
-paper (DefectRead.Refused n) = refused_with n
-
--- The promise of `decode_defect`.
-pub record DecodedDefect (octets : List ℕ) (r : DefectRead) : Type 0 where
-  pub answer : r ≡ unless_refused (defect_refusal octets) (DefectRead.Refused (defect_refusal octets)) (DefectRead.Decoded (defect_at 0 octets))
-  pub on_paper : paper r ≡ refused_or (defect_rows octets) (defect_at 0 octets)
+-- The promise of `decode_defect`: the number of the refusal, or the four numbers of the defect.
+pub record DecodedDefect (octets : List ℕ) (r : Result Defect Refusal) : Type 0 where
+  pub answer : on_paper r ≡ refused_or (defect_rows octets) (defect_at 0 octets)
 
 -- The promise of `encode_defect`.
-pub record EncodedDefect (d : Defect) (before after : List ℕ) (r : Encoded) : Type 0 where
-  pub answer : r ≡ unless_refused (defect_refusal before) (Encoded.Refused (defect_refusal before)) Encoded.Written
-  pub on_paper : refusal_in_encoded r ≡ defect_refusal before
+pub record EncodedDefect (d : Defect) (before after : List ℕ) (r : Result ⊤ Refusal) : Type 0 where
+  pub answer : refusal_in r ≡ defect_refusal before
   pub slice : after ≡ unless_refused (defect_refusal before) before (written_over before (defect_octets d))
 
 -- Twelve zeros are no defect: "the remainder following the last defect entry will be padded with zeros".

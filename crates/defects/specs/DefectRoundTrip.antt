@@ -1,12 +1,11 @@
 -- "Decoding and encoding of captures and status octets undo each other wherever the decoding succeeds": so do those of a defect, said
 -- of what the calls promise. `proofs/DefectRoundTrip` proves it.
-use Rattle.std.specs.Prelude.{ℕ, ◌^◌, ◌<◌, ◌≤◌, ◌≡◌, List, length, take}
+use Rattle.std.specs.Prelude.{ℕ, ◌^◌, ◌<◌, ◌≤◌, ◌≡◌, List, Result, Ok, length, take, ⊤}
 use Rattle.laws.specs.Lists.{written_over}
 use Rattle.laws.specs.Octets.{AllOctets}
+use Rattle.refusals.specs.declared.refusal.Refusal.{Refusal}
 use Rattle.defects.specs.Defect.{DecodedDefect, EncodedDefect}
 use Rattle.defects.specs.declared.defect.Defect.{Defect}
-use Rattle.defects.specs.declared.defect.DefectRead.{DefectRead}
-use Rattle.defects.specs.declared.defect.Encoded.{Encoded}
 
 -- The four numbers fit their 4, 2, 4 and 2 octets, as those that a call is handed always do.
 pub record Fitting (d : Defect) : Type 0 where
@@ -17,10 +16,10 @@ pub record Fitting (d : Defect) : Type 0 where
 
 pub record DefectRoundTrip : Type 0 where
   -- What was decoded, encoded into any slice long enough, gives the octets that were decoded.
-  pub encode_decode : (octets before after : List ℕ) (d : Defect) (answer : Encoded)
-      → AllOctets octets → DecodedDefect octets (DefectRead.Decoded d) → 12 ≤ length before → EncodedDefect d before after answer
-      → (answer ≡ Encoded.Written) × (after ≡ written_over before (take 12 octets))
+  pub encode_decode : (octets before after : List ℕ) (d : Defect) (answer : Result ⊤ Refusal)
+      → AllOctets octets → DecodedDefect octets (Ok d) → 12 ≤ length before → EncodedDefect d before after answer
+      → (answer ≡ Ok tt) × (after ≡ written_over before (take 12 octets))
   -- What was encoded into any slice long enough, decoded, gives the defect that was encoded.
-  pub decode_encode : (before after : List ℕ) (d : Defect) (answer : Encoded)
+  pub decode_encode : (before after : List ℕ) (d : Defect) (answer : Result ⊤ Refusal)
       → Fitting d → 12 ≤ length before → EncodedDefect d before after answer
-      → (answer ≡ Encoded.Written) × DecodedDefect after (DefectRead.Decoded d)
+      → (answer ≡ Ok tt) × DecodedDefect after (Ok d)

@@ -1,6 +1,6 @@
 -- What the private functions of the encoder ask and promise.
-use Rattle.std.specs.Prelude.{ℕ, ◌+◌, ◌-◌, ◌*◌, ◌/◌, ◌<◌, ◌≤◌, ◌^◌, min, ◌≡◌, Bool, true, false, List, [], ◌∷◌, ◌++◌, length, take, set}
-use Rattle.laws.specs.Lists.{written_over, written_at}
+use Rattle.std.specs.Prelude.{ℕ, zero, suc, ◌+◌, ◌-◌, ◌*◌, ◌/◌, ◌<◌, ◌≤◌, ◌^◌, min, ◌≡◌, true, List, [], ◌∷◌, ◌++◌, length, take, set}
+use Rattle.laws.specs.Lists.{written_at}
 use Rattle.laws.specs.Octets.{octets_of}
 use Rattle.parts.specs.Setup.{within_limits, all_words}
 use Rattle.parts.specs.declared.setup.Setup.{Setup}
@@ -8,8 +8,8 @@ use Rattle.defects.specs.Crc.{crc_of}
 use Rattle.defects.specs.Defect.{behind_all}
 use Rattle.defects.specs.Field.{slots}
 use Rattle.defects.specs.Place.{field_octets, data_fields}
-use Rattle.defects.specs.Encoding.{Value, defects_listed, sets_for, defects_before_set, is_unordered, body_octets, map_octets, is_encodable}
-use Rattle.defects.specs.Sectors.{octet_words, field_start, stored_fields}
+use Rattle.defects.specs.Encoding.{Value, defects_listed, sets_for, defects_before_set, is_unordered, body_octets, is_encodable}
+use Rattle.defects.specs.Walk.{field_at}
 use Rattle.defects.specs.declared.body.Job.{Job}
 use Rattle.defects.specs.declared.body.Order.{Order}
 use Rattle.defects.specs.declared.body.Run.{Run}
@@ -70,33 +70,21 @@ pub record Filled (s : Setup) (job : Job) (octets : List ℕ) (set : ℕ) (field
 unfoldable pub finished : ℕ → List ℕ → List ℕ
 finished copy field = let body = set (take (length field - 2) field) 3 copy in body ++ octets_of 2 (crc_of body)
 
--- ---- a data field put into its place
+-- ---- data fields put into their places
 
--- The octets lent, or the sector words, have the place of data field k.
-pub record HasPlace (s : Setup) (stored : Bool) (k : ℕ) (field out sectors : List ℕ) : Type 0 where
+-- In the octets of a map, and in the sector words: where data field k begins, and that so many of them have its place.
+abbrev pub octet_start : Setup → ℕ → ℕ
+octet_start s k = k * field_octets s
+
+pub record HasOctets (s : Setup) (k room : ℕ) : Type 0 where
+  pub whole : k * field_octets s + field_octets s ≤ room
+
+pub record HasSectors (s : Setup) (k room : ℕ) : Type 0 where
   pub limits : within_limits s ≡ true
-  pub size : length field ≡ field_octets s
-  pub in_octets : stored ≡ false → k * field_octets s + field_octets s ≤ length out
-  pub in_words : stored ≡ true → (k < data_fields s) × (all_words s ≤ length sectors)
+  pub inside : k < data_fields s
+  pub words : all_words s ≤ room
 
-pub record FieldPut (s : Setup) (stored : Bool) (k : ℕ) (field out out' sectors sectors' : List ℕ) : Type 0 where
-  pub octets : stored ≡ false → out' ≡ written_at out (k * field_octets s) field
-  pub words : stored ≡ true → sectors' ≡ written_at sectors (field_start s k) (octet_words field)
-
--- The first k data fields of a map are in their places.
-pub record FieldsPut (s : Setup) (stored : Bool) (map : List ℕ) (k : ℕ) (out out' sectors sectors' : List ℕ) : Type 0 where
-  pub octets : stored ≡ false → out' ≡ written_over out (take (k * field_octets s) map)
-  pub words : stored ≡ true → sectors' ≡ stored_fields s map sectors 0 k
-
--- ---- the walk over the sets
-
--- The octets lent, or the sector words, have room for all data fields.
-pub record HasRoom (s : Setup) (job : Job) (out sectors : List ℕ) : Type 0 where
-  pub octets : job.stored ≡ false → 3 * job.sets * field_octets s ≤ length out
-  pub words : job.stored ≡ true → all_words s ≤ length sectors
-
--- A set behind those before it.
-pub record SetPut (s : Setup) (job : Job) (octets : List ℕ) (set : ℕ) (out out' sectors sectors' : List ℕ) (r : ℕ) : Type 0 where
-  pub next : r ≡ behind_all 0 (defects_before_set s (value_in job octets) (set + 1))
-  pub put : (out₀ sectors₀ : List ℕ) → FieldsPut s job.stored (map_octets s (value_in job octets)) (3 * set) out₀ out sectors₀ sectors
-      → FieldsPut s job.stored (map_octets s (value_in job octets)) (3 * set + 3) out₀ out' sectors₀ sectors'
+-- So many data fields of a map in their places, from data field k on.
+unfoldable pub put_fields : {A : Type 0} → (Setup → ℕ → ℕ) → (List ℕ → List A) → Setup → List ℕ → List A → ℕ → ℕ → List A
+put_fields start units s map out k zero = out
+put_fields start units s map out k (suc count) = put_fields start units s map (written_at out (start s k) (units (field_at s map k))) (suc k) count

@@ -1,19 +1,19 @@
 -- A map encoded, in the plain spelling: no ignored data field, every set but the last full, and bit 3 exactly where an entry is out of
 -- sequence.
-use Rattle.std.specs.Prelude.{ℕ, zero, suc, ◌+◌, ◌-◌, ◌*◌, ◌/◌, ◌%◌, max, ◌≡◌, Bool, true, false, not, ◌&&◌, ◌||◌, List, [], ◌∷◌, ◌++◌, eqb, ltb, leb, length, take, drop, replicate}
+use Rattle.std.specs.Prelude.{ℕ, zero, suc, ◌+◌, ◌-◌, ◌*◌, ◌/◌, ◌%◌, max, ◌≡◌, Bool, true, false, not, ◌&&◌, ◌||◌, List, [], ◌∷◌, ◌++◌, Result, eqb, ltb, leb, length, take, drop, replicate}
 use Rattle.laws.specs.Pick.{pick}
 use Rattle.laws.specs.Octets.{octets_of}
 use Rattle.laws.specs.Lists.{written_over}
-use Rattle.laws.specs.Rows.{Row, first, ◌when◌, unless_refused, Paper, refused_with, tells, refused_or}
+use Rattle.laws.specs.Rows.{Row, first, ◌when◌, unless_refused, refused_or}
 use Rattle.parts.specs.Setup.{within_limits}
 use Rattle.parts.specs.declared.setup.Setup.{Setup}
 use Rattle.defects.specs.Crc.{crc_of}
 use Rattle.defects.specs.Defect.{defect_at, list_octets, is_blank, behind, behind_all, is_out_of_sequence}
 use Rattle.defects.specs.Field.{slots}
 use Rattle.defects.specs.Place.{field_octets, data_fields}
+use Rattle.refusals.specs.Refusal.{on_paper}
+use Rattle.refusals.specs.declared.refusal.Refusal.{Refusal}
 use Rattle.defects.specs.declared.defect.Defect.{Defect}
-use Rattle.defects.specs.declared.encoding.MapEncoded.{MapEncoded}
-use Rattle.defects.specs.declared.encoding.MapEncoded.TheVariants.{Written, Refused}
 
 -- The value of a map: the track of Format Specification Storage, and the defects.
 pub record Value : Type 0 where
@@ -121,18 +121,7 @@ encode_rows s cylinder head defects room =
 abbrev pub encode_refusal : Setup → ℕ → ℕ → List ℕ → ℕ → ℕ
 encode_refusal s cylinder head defects room = first (encode_rows s cylinder head defects room)
 
--- The number that an answer refuses with, 0 where it refuses nothing.
-abbrev pub refusal_in : MapEncoded → ℕ
-refusal_in (Written size) = 0
-refusal_in (Refused n) = n
-
--- The answer on paper: the number of the refusal, or how many octets the map has.
-abbrev pub paper : MapEncoded → Paper ℕ
-paper (Written size) = tells size
-paper (Refused n) = refused_with n
-
--- The promise of `encode_map`.
-pub record EncodedMap (s : Setup) (cylinder head : ℕ) (defects before after : List ℕ) (r : MapEncoded) : Type 0 where
-  pub answer : r ≡ unless_refused (encode_refusal s cylinder head defects (length before)) (Refused (encode_refusal s cylinder head defects (length before))) (Written (map_length s (length defects / 12)))
-  pub on_paper : paper r ≡ refused_or (encode_rows s cylinder head defects (length before)) (map_length s (length defects / 12))
+-- The promise of `encode_map`: the number of the refusal, or how many octets the map has.
+pub record EncodedMap (s : Setup) (cylinder head : ℕ) (defects before after : List ℕ) (r : Result ℕ Refusal) : Type 0 where
+  pub answer : on_paper r ≡ refused_or (encode_rows s cylinder head defects (length before)) (map_length s (length defects / 12))
   pub slice : after ≡ unless_refused (encode_refusal s cylinder head defects (length before)) before (written_over before (map_octets s (record { cylinder = cylinder; head = head; defects = defects_listed defects })))

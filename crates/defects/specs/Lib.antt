@@ -20,6 +20,7 @@ pub mod RoundTrip
 pub mod Sectors
 pub mod OnTheCylinder
 pub mod CallRoundTrip
+pub mod Source
 pub mod Steps
 pub mod EncodeSteps
 pub mod Cases

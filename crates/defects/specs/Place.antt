@@ -1,12 +1,12 @@
 -- "The Defect Map is written starting on the last track of the cylinder .. The map continues on tracks of decreasing address".
-use Rattle.std.specs.Prelude.{ℕ, ◌-◌, ◌*◌, ◌/◌, ◌%◌, ◌≡◌, not, List, [], ◌∷◌, ltb, leb}
+use Rattle.std.specs.Prelude.{ℕ, ◌-◌, ◌*◌, ◌/◌, ◌%◌, ◌≡◌, not, List, [], ◌∷◌, Result, ltb, leb}
 use Rattle.laws.specs.Pick.{pick}
-use Rattle.laws.specs.Rows.{Row, first, ◌when◌, unless_refused, Paper, refused_with, tells, refused_or}
+use Rattle.laws.specs.Rows.{Row, first, ◌when◌, refused_or}
 use Rattle.parts.specs.Setup.{within_limits}
 use Rattle.parts.specs.declared.setup.Setup.{Setup}
 use Rattle.parts.specs.declared.setup.Place.{Place}
-use Rattle.defects.specs.declared.place.MapPlace.{MapPlace}
-use Rattle.defects.specs.declared.place.MapPlace.TheVariants.{At, Refused}
+use Rattle.refusals.specs.Refusal.{on_paper}
+use Rattle.refusals.specs.declared.refusal.Refusal.{Refusal}
 
 -- A data field is field 1 of a sector, two octets a word.
 abbrev pub field_octets : Setup → ℕ
@@ -27,20 +27,6 @@ place_rows s k = 9 when not (within_limits s) ∷ 16 when leb (data_fields s) k 
 abbrev pub place_refusal : Setup → ℕ → ℕ
 place_refusal s k = first (place_rows s k)
 
--- The number that an answer refuses with, 0 where it refuses nothing.
-abbrev pub refusal_in : MapPlace → ℕ
-refusal_in (At place) = 0
-refusal_in (Refused n) = n
-
--- The answer on paper: the number of the refusal, or the place.
-abbrev pub paper : MapPlace → Paper Place
-paper (At place) = tells place
-paper (Refused n) = refused_with n
-
-abbrev pub place_in : Setup → ℕ → MapPlace
-place_in s k = unless_refused (place_refusal s k) (Refused (place_refusal s k)) (At (place_of s k))
-
--- The promise of `map_place`.
-pub record Placed (s : Setup) (k : ℕ) (r : MapPlace) : Type 0 where
-  pub answer : r ≡ place_in s k
-  pub on_paper : paper r ≡ refused_or (place_rows s k) (place_of s k)
+-- The promise of `map_place`: the number of the refusal, or the place.
+pub record Placed (s : Setup) (k : ℕ) (r : Result Place Refusal) : Type 0 where
+  pub answer : on_paper r ≡ refused_or (place_rows s k) (place_of s k)

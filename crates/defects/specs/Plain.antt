@@ -1,5 +1,5 @@
 -- The plain spelling of a map, which is the one that an encoding gives, and what a decoded map encodes to. `proofs/EncodeDecode` proves it.
-use Rattle.std.specs.Prelude.{ℕ, ◌*◌, ◌<◌, ◌≤◌, ◌≡◌, Bool, true, false, List, ◌↔◌, length, take}
+use Rattle.std.specs.Prelude.{ℕ, ◌*◌, ◌<◌, ◌≤◌, ◌≡◌, Bool, true, false, List, Result, Ok, ◌↔◌, length, take}
 use Rattle.laws.specs.Octets.{AllOctets}
 use Rattle.parts.specs.Setup.{within_limits}
 use Rattle.parts.specs.declared.setup.Setup.{Setup}
@@ -7,11 +7,10 @@ use Rattle.defects.specs.Defect.{behind_all}
 use Rattle.defects.specs.Field.{front_of, is_last, is_flagged, is_ignored, slots, defects_in}
 use Rattle.defects.specs.Place.{field_octets, data_fields}
 use Rattle.defects.specs.Walk.{is_ended, field_at, walk_at, is_original, defects_before}
-use Rattle.defects.specs.Decoding.{defects_of, DecodedMap}
+use Rattle.refusals.specs.declared.refusal.Refusal.{Refusal}
+use Rattle.defects.specs.Decoding.{tells, defects_of, DecodedMap}
 use Rattle.defects.specs.Decoded.{WithoutOffence}
 use Rattle.defects.specs.Encoding.{Value, is_unordered, is_encodable, map_octets, map_length, EncodedMap}
-use Rattle.defects.specs.declared.decoding.MapRead.{MapRead}
-use Rattle.defects.specs.declared.encoding.MapEncoded.{MapEncoded}
 
 -- The value that a decoded map tells.
 abbrev pub value_of : Setup → List ℕ → Value
@@ -42,7 +41,7 @@ pub record EncodeDecode : Type 0 where
       → map_octets s (value_of s octets) ≡ octets ↔ Plain s octets
   -- The same of the calls: what `decode_map` told, handed to `encode_map` with room enough, is written, and what is written are the octets
   -- that were decoded if and only if those are in the plain spelling.
-  pub of_the_calls : (s : Setup) (octets lent lent' before after : List ℕ) (count cylinder head : ℕ) (answer : MapEncoded)
-      → AllOctets octets → DecodedMap s octets lent lent' (MapRead.Map count cylinder head)
+  pub of_the_calls : (s : Setup) (octets lent lent' before after : List ℕ) (count cylinder head : ℕ) (answer : Result ℕ Refusal)
+      → AllOctets octets → DecodedMap s octets lent lent' (Ok (tells count cylinder head))
       → map_length s count ≤ length before → EncodedMap s cylinder head (take (12 * count) lent') before after answer
-      → (answer ≡ MapEncoded.Written (map_length s count)) × (take (map_length s count) after ≡ octets ↔ Plain s octets)
+      → (answer ≡ Ok (map_length s count)) × (take (map_length s count) after ≡ octets ↔ Plain s octets)

@@ -1,19 +1,20 @@
 -- "read off the last cylinder": the data fields of a map in a drive's sector words, and a map put there.
-use Rattle.std.specs.Prelude.{ℕ, zero, suc, ◌+◌, ◌*◌, ◌/◌, ◌%◌, ◌≡◌, false, not, ◌||◌, List, [], ◌∷◌, ◌++◌, eqb, ltb, length, take, drop}
-use Rattle.laws.specs.Pick.{pick}
+use Rattle.std.specs.Prelude.{ℕ, zero, suc, ◌+◌, ◌*◌, ◌/◌, ◌%◌, ◌≡◌, false, not, ◌||◌, List, [], ◌∷◌, ◌++◌, Result, eqb, ltb, length, take, drop, ⊤}
+use Rattle.std.proofs.Math.Option.{Option}
 use Rattle.laws.specs.Lists.{written_over, written_at}
 use Rattle.laws.specs.Rows.{Row, first, ◌when◌, unless_refused}
 use Rattle.parts.specs.Setup.{within_limits, all_words, sector_start}
 use Rattle.parts.specs.declared.setup.Setup.{Setup}
-use Rattle.defects.specs.Offence.{Test, ◌at◌when◌, first_of}
-use Rattle.defects.specs.Defect.{list_octets, refusal_in_encoded}
+use Rattle.refusals.specs.Refusal.{refusal_in}
+use Rattle.refusals.specs.declared.refusal.Refusal.{Refusal}
+use Rattle.defects.specs.Offence.{Test, ◌at◌when◌, Found, first_of, on_paper, offence_or, unless_found}
+use Rattle.defects.specs.Defect.{list_octets}
 use Rattle.defects.specs.Place.{field_octets, data_fields, place_of}
 use Rattle.defects.specs.Walk.{field_at, map_tests}
-use Rattle.defects.specs.Decoding.{defects_of, map_of, paper, paper_of}
+use Rattle.defects.specs.Decoding.{defects_of, map_of}
 use Rattle.defects.specs.Encoding.{defects_listed, sets_for, map_octets, is_encodable}
 use Rattle.defects.specs.declared.offence.Offence.{Offence}
 use Rattle.defects.specs.declared.decoding.MapRead.{MapRead}
-use Rattle.defects.specs.declared.defect.Encoded.{Encoded}
 
 -- ---- words and octets
 
@@ -55,19 +56,16 @@ read_tests s sectors lent =
     ∷ 10 at 0 when (ltb (length sectors) (all_words s) || ltb (length lent) (data_fields s * field_octets s / 3))
     ∷ map_tests false s (last_cylinder s sectors)
 
-abbrev pub read_offence : Setup → List ℕ → List ℕ → Offence
+abbrev pub read_offence : Setup → List ℕ → List ℕ → Option Found
 read_offence s sectors lent = first_of (read_tests s sectors lent)
 
-abbrev pub read_in : Setup → List ℕ → List ℕ → MapRead
-read_in s sectors lent =
-    let offence = read_offence s sectors lent in
-    pick offence.found (MapRead.Refused offence.number offence.offset) (map_of s (last_cylinder s sectors))
+abbrev pub read_in : Setup → List ℕ → List ℕ → Result MapRead Found
+read_in s sectors lent = offence_or (read_offence s sectors lent) (map_of s (last_cylinder s sectors))
 
 -- The promise of `read_map`.
-pub record ReadMap (s : Setup) (sectors before after : List ℕ) (r : MapRead) : Type 0 where
-  pub answer : r ≡ read_in s sectors before
-  pub on_paper : paper r ≡ paper_of (read_offence s sectors before) s (last_cylinder s sectors)
-  pub slice : after ≡ pick (read_offence s sectors before).found before (written_over before (list_octets (defects_of s (last_cylinder s sectors))))
+pub record ReadMap (s : Setup) (sectors before after : List ℕ) (r : Result MapRead Offence) : Type 0 where
+  pub answer : on_paper r ≡ read_in s sectors before
+  pub slice : after ≡ unless_found (read_offence s sectors before) before (written_over before (list_octets (defects_of s (last_cylinder s sectors))))
 
 -- ---- a map put there
 
@@ -88,9 +86,8 @@ abbrev pub write_refusal : Setup → ℕ → ℕ → List ℕ → List ℕ → �
 write_refusal s cylinder head defects sectors = first (write_rows s cylinder head defects sectors)
 
 -- The promise of `write_map`.
-pub record WroteMap (s : Setup) (cylinder head : ℕ) (defects before after : List ℕ) (r : Encoded) : Type 0 where
-  pub answer : r ≡ unless_refused (write_refusal s cylinder head defects before) (Encoded.Refused (write_refusal s cylinder head defects before)) Encoded.Written
-  pub on_paper : refusal_in_encoded r ≡ write_refusal s cylinder head defects before
+pub record WroteMap (s : Setup) (cylinder head : ℕ) (defects before after : List ℕ) (r : Result ⊤ Refusal) : Type 0 where
+  pub answer : refusal_in r ≡ write_refusal s cylinder head defects before
   pub sectors : after
       ≡ unless_refused (write_refusal s cylinder head defects before) before
       (stored_fields s (map_octets s (record { cylinder = cylinder; head = head; defects = defects_listed defects })) before 0 (3 * sets_for s (length defects / 12)))

@@ -1,9 +1,9 @@
 -- What the private functions of the decoder ask and promise.
-use Rattle.std.specs.Prelude.{ℕ, ◌+◌, ◌*◌, ◌^◌, ◌≤◌, ◌<◌, ◌≡◌, Bool, true, false, not, ◌&&◌, List, [], ◌∷◌, eqb, ltb, length}
+use Rattle.std.specs.Prelude.{ℕ, ◌+◌, ◌*◌, ◌^◌, ◌≤◌, ◌<◌, ◌≡◌, Bool, true, false, not, ◌&&◌, List, [], ◌∷◌, Result, IfOk, eqb, ltb, length}
 use Rattle.laws.specs.Pick.{pick}
-use Rattle.parts.specs.Setup.{within_limits, all_words}
+use Rattle.parts.specs.Setup.{within_limits}
 use Rattle.parts.specs.declared.setup.Setup.{Setup}
-use Rattle.defects.specs.Offence.{Test, ◌at◌when◌, no_offence, first_of, tests_over}
+use Rattle.defects.specs.Offence.{Test, ◌at◌when◌, no_offence, first_of, tests_over, on_paper, offence_in, offence_or, unless_found}
 use Rattle.laws.specs.Lists.{written_over, written_at}
 use Rattle.defects.specs.Defect.{behind, behind_all, list_octets}
 use Rattle.defects.specs.Field.{is_ignored, defects_in}
@@ -11,14 +11,14 @@ use Rattle.defects.specs.Judging.{entry_tests, list_tests, same_test, original_t
 use Rattle.defects.specs.Place.{field_octets, data_fields}
 use Rattle.defects.specs.Walk.{after, is_ended, walk_at, defects_before, map_tests}
 use Rattle.defects.specs.Decoding.{defects_of, map_of}
-use Rattle.defects.specs.Sectors.{last_cylinder}
+use Rattle.defects.specs.Source.{string_in, is_alone, Readable}
 use Rattle.defects.specs.declared.defect.Defect.{Defect}
 use Rattle.defects.specs.declared.entries.Entries.{Entries}
-use Rattle.defects.specs.declared.judging.Judged.{Judged}
 use Rattle.defects.specs.declared.gathering.Gathered.{Gathered}
 use Rattle.defects.specs.declared.walking.Judgement.{Judgement}
 use Rattle.defects.specs.declared.decoding.MapRead.{MapRead}
-use Rattle.defects.specs.declared.decoding.MapRead.TheVariants.{Refused}
+use Rattle.defects.specs.declared.offence.Offence.{Offence}
+use Rattle.defects.specs.declared.source.Source.{Source}
 use Rattle.defects.specs.declared.walk.Walk.{Walk}
 use Rattle.defects.specs.declared.walk.Stepped.{Stepped}
 
@@ -29,25 +29,20 @@ pub record Sized (s : Setup) (start : ℕ) (field : List ℕ) : Type 0 where
   pub most : length field ≤ 2048
   pub within : start ≤ 2 ^ 32
 
--- No offence in so many entries.
-abbrev pub none_after : ℕ → ℕ → Entries
-none_after count least = record { offence = no_offence; count = count; least = least }
-
 -- An entry: its offence, or the least address that is higher than all up to it.
-pub record EntryJudged (s : Setup) (flagged : Bool) (least offset : ℕ) (d : Defect) (r : Judged) : Type 0 where
-  pub offence : r.offence ≡ first_of (entry_tests s flagged least offset d)
-  pub next : r.offence.found ≡ false → r.least ≡ behind least d
+pub record EntryJudged (s : Setup) (flagged : Bool) (least offset : ℕ) (d : Defect) (r : Result ℕ Offence) : Type 0 where
+  pub offence : offence_in r ≡ first_of (entry_tests s flagged least offset d)
+  pub next : IfOk r (λ above. above ≡ behind least d)
 
--- All entries: how many they are, too.
-pub record EntriesJudged (s : Setup) (flagged : Bool) (least start : ℕ) (field : List ℕ) (r : Entries) : Type 0 where
-  pub offence : r.offence ≡ first_of (list_tests s flagged least (start + 14) (defects_in field))
-  pub count : r.offence.found ≡ false → r.count ≡ length (defects_in field)
-  pub next : r.offence.found ≡ false → r.least ≡ behind_all least (defects_in field)
+-- All entries: their offence, or how many they are and that address.
+pub record EntriesJudged (s : Setup) (flagged : Bool) (least start : ℕ) (field : List ℕ) (r : Result Entries Offence) : Type 0 where
+  pub offence : offence_in r ≡ first_of (list_tests s flagged least (start + 14) (defects_in field))
+  pub entries : IfOk r (λ entries. entries ≡ record { count = length (defects_in field); least = behind_all least (defects_in field) })
 
 -- Copy 0 of a set.
-pub record OriginalJudged (s : Setup) (w : Walk) (least start : ℕ) (field : List ℕ) (r : Judged) : Type 0 where
-  pub offence : r.offence ≡ first_of (original_tests s w least start field)
-  pub next : r.offence.found ≡ false → r.least ≡ behind_all least (defects_in field)
+pub record OriginalJudged (s : Setup) (w : Walk) (least start : ℕ) (field : List ℕ) (r : Result ℕ Offence) : Type 0 where
+  pub offence : offence_in r ≡ first_of (original_tests s w least start field)
+  pub next : IfOk r (λ above. above ≡ behind_all least (defects_in field))
 
 -- No one of so many octets from an index on is told as unlike that of copy 0.
 abbrev pub NoneUnlike : List ℕ → List ℕ → ℕ → ℕ → Bool → Type 0
@@ -64,27 +59,9 @@ abbrev pub own_defects : ℕ → List ℕ → List Defect
 own_defects copy field = pick (not (is_ignored field) && eqb copy 0) (defects_in field) []
 
 -- Data field k: its offence, or what is due behind it.
-pub record StepTaken (s : Setup) (w : Walk) (least k start : ℕ) (original field : List ℕ) (r : Stepped) : Type 0 where
-  pub offence : r.offence ≡ first_of (pick (is_ignored field) [] (field_tests s w least start original field))
-  pub walk : r.offence.found ≡ false → r.walk ≡ after w k field
-  pub least' : r.offence.found ≡ false → r.least ≡ behind_all least (own_defects w.copy field)
-
--- The map's octets: those of the last cylinder in a drive's sector words, or a string.
-abbrev pub string_in : Setup → Bool → List ℕ → List ℕ → List ℕ
-string_in s inSectors octets sectors = pick inSectors (last_cylinder s sectors) octets
-
--- A drive within its limits, whose sector words are all there where the map is read off them, and how many octets the map may have.
-pub record Readable (s : Setup) (inSectors : Bool) (octets sectors : List ℕ) (size : ℕ) : Type 0 where
-  pub limits : within_limits s ≡ true
-  pub room : inSectors ≡ true → all_words s ≤ length sectors
-  pub sized : size ≡ length (string_in s inSectors octets sectors)
-
--- Data field k is there, whole.
-pub record Loadable (s : Setup) (inSectors : Bool) (octets sectors : List ℕ) (k : ℕ) : Type 0 where
-  pub limits : within_limits s ≡ true
-  pub room : inSectors ≡ true → all_words s ≤ length sectors
-  pub inside : k < data_fields s
-  pub whole : k * field_octets s + field_octets s ≤ length (string_in s inSectors octets sectors)
+pub record StepTaken (s : Setup) (w : Walk) (least k start : ℕ) (original field : List ℕ) (r : Result Stepped Offence) : Type 0 where
+  pub offence : offence_in r ≡ first_of (pick (is_ignored field) [] (field_tests s w least start original field))
+  pub next : IfOk r (λ next. next ≡ record { walk = after w k field; least = behind_all least (own_defects w.copy field) })
 
 -- A map without an offence ends before this data field, and these are what is due there and what it lists.
 pub record EndsAt (s : Setup) (octets : List ℕ) (fields : ℕ) (w : Walk) : Type 0 where
@@ -96,14 +73,14 @@ pub record EndsAt (s : Setup) (octets : List ℕ) (fields : ℕ) (w : Walk) : Ty
   pub defects : defects_before s octets fields ≡ defects_of s octets
 
 -- The map: its offence, or where it ends.
-pub record MapJudged (s : Setup) (inSectors : Bool) (octets : List ℕ) (r : Judgement) : Type 0 where
-  pub offence : r.offence ≡ first_of (map_tests (not inSectors) s octets)
-  pub ends : r.offence.found ≡ false → EndsAt s octets r.fields r.walk
+pub record MapJudged (s : Setup) (source : Source) (r : Result Judgement Offence) : Type 0 where
+  pub offence : offence_in r ≡ first_of (map_tests (is_alone source) s (string_in s source))
+  pub ends : IfOk r (λ judged. EndsAt s (string_in s source) judged.fields judged.walk)
 
 -- The map decoded, once 9 and 10 are passed.
-pub record MapListed (s : Setup) (inSectors : Bool) (octets before after : List ℕ) (r : MapRead) : Type 0 where
-  pub answer : r ≡ (let offence = first_of (map_tests (not inSectors) s octets) in pick offence.found (Refused offence.number offence.offset) (map_of s octets))
-  pub slice : after ≡ pick (first_of (map_tests (not inSectors) s octets)).found before (written_over before (list_octets (defects_of s octets)))
+pub record MapListed (s : Setup) (source : Source) (before after : List ℕ) (r : Result MapRead Offence) : Type 0 where
+  pub answer : on_paper r ≡ offence_or (first_of (map_tests (is_alone source) s (string_in s source))) (map_of s (string_in s source))
+  pub slice : after ≡ unless_found (first_of (map_tests (is_alone source) s (string_in s source))) before (written_over before (list_octets (defects_of s (string_in s source))))
 
 -- Behind the last data field of the cylinder.
 abbrev pub last_tests : Walk → Bool → ℕ → ℕ → List Test
@@ -116,10 +93,9 @@ pub record FieldListed (copy count : ℕ) (field before after : List ℕ) (r : G
   pub slice : after ≡ written_at before (12 * count) (list_octets (own_defects copy field))
 
 -- So many data fields of a map are there, it has not ended before them, and their defects have room.
-pub record Listable (s : Setup) (inSectors : Bool) (octets sectors : List ℕ) (fields : ℕ) (defects : List ℕ) : Type 0 where
-  pub limits : within_limits s ≡ true
-  pub room : inSectors ≡ true → all_words s ≤ length sectors
+pub record Listable (s : Setup) (source : Source) (fields : ℕ) (defects : List ℕ) : Type 0 where
+  pub readable : Readable s source
   pub within : fields ≤ data_fields s
-  pub whole : fields * field_octets s ≤ length (string_in s inSectors octets sectors)
-  pub going : (k : ℕ) → k < fields → is_ended (walk_at s (string_in s inSectors octets sectors) k) ≡ false
-  pub held : 12 * length (defects_before s (string_in s inSectors octets sectors) fields) ≤ length defects
+  pub whole : fields * field_octets s ≤ length (string_in s source)
+  pub going : (k : ℕ) → k < fields → is_ended (walk_at s (string_in s source) k) ≡ false
+  pub held : 12 * length (defects_before s (string_in s source) fields) ≤ length defects

@@ -15,14 +15,13 @@ use crate::place::field_octets;
 use crate::storing::put_padded;
 use parts::Setup;
 
-// What a map tells besides its defects, and where it goes: stored in the sector words, or to octets that are lent.
+// What a map tells besides its defects.
 #[derive(Clone, Copy)]
 pub(crate) struct Job {
     pub sets: u16,
     // The track of Format Specification Storage.
     pub cylinder: u16,
     pub head: u16,
-    pub stored: bool,
 }
 
 // Where the octets of a set's defects start, and how many defects they are.

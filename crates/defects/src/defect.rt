@@ -3,6 +3,8 @@ ghost use Rattle.std.specs.Prelude.{◌+◌, ◌≤◌, ◌≡◌, length};
 ghost use Rattle.laws.specs.Lists.{written_over};
 ghost use Rattle.defects.specs.Defect.{number_at, defect_at, defect_octets, is_blank, DecodedDefect, EncodedDefect};
 
+use refusals::Refusal;
+
 #[derive(Clone, Copy)]
 pub struct Defect {
     pub cylinder: u32,
@@ -11,40 +13,28 @@ pub struct Defect {
     pub length: u16,
 }
 
-#[derive(Clone, Copy)]
-pub enum DefectRead {
-    Decoded(Defect),
-    Refused(u8),
-}
-
-#[derive(Clone, Copy)]
-pub enum Encoded {
-    Written,
-    Refused(u8),
-}
-
 pub(crate) const ENTRY_LENGTH: usize = 12;
 
 // The defect in the first 12 octets. 10 where there are fewer. Any 12 octets are a defect, so there is no 8.
-pub fn decode_defect(octets: &[u8]) -> DefectRead
+pub fn decode_defect(octets: &[u8]) -> Result<Defect, Refusal>
     ensures { DecodedDefect octets.now result }
 {
     if octets.len() < ENTRY_LENGTH {
-        return DefectRead::Refused(parts::SLICE_TOO_SHORT);
+        return Err(Refusal::SliceTooShort);
     }
-    DefectRead::Decoded(defect_at(octets, 0))
+    Ok(defect_at(octets, 0))
 }
 
 // The defect as the first 12 octets, the others as they were. 10 where there are fewer. Every defect is what a decoding
 // yields, so there is no 8.
-pub fn encode_defect(defect: Defect, octets: &mut [u8]) -> Encoded
+pub fn encode_defect(defect: Defect, octets: &mut [u8]) -> Result<(), Refusal>
     ensures { EncodedDefect defect octets.old octets.new result }
 {
     if octets.len() < ENTRY_LENGTH {
-        return Encoded::Refused(parts::SLICE_TOO_SHORT);
+        return Err(Refusal::SliceTooShort);
     }
     write_defect(defect, octets);
-    Encoded::Written
+    Ok(())
 }
 
 pub(crate) fn write_defect(defect: Defect, octets: &mut [u8])

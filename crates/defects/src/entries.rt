@@ -3,97 +3,74 @@ ghost use Rattle.std.specs.Prelude.{◌+◌, ◌≤◌, ◌<◌, ◌^◌, ◌≡
 ghost use Rattle.parts.specs.Setup.{within_limits};
 ghost use Rattle.defects.specs.Defect.{address};
 ghost use Rattle.defects.specs.Field.{slots};
-ghost use Rattle.defects.specs.Steps.{Sized, none_after, EntryJudged, EntriesJudged};
+ghost use Rattle.defects.specs.Steps.{Sized, EntryJudged, EntriesJudged};
 
 use crate::defect::{Defect, ENTRY_LENGTH, defect_at, is_blank};
-use crate::judging::{CRC_LENGTH, Judged};
-use crate::offence::{Offence, no_offence, offence_at};
+use crate::judging::CRC_LENGTH;
+use crate::offence::{Offence, refuse_if};
 use parts::Setup;
+use refusals::Refusal;
 
 // Where the first entry of a data field stands.
 pub(crate) const ENTRIES: usize = 14;
 
-// What was found of all entries.
+// Entries without an offence.
 #[derive(Clone, Copy)]
 pub(crate) struct Entries {
-    pub offence: Offence,
     pub count: usize,
+    // The least address that is higher than all up to the last.
     pub least: u64,
 }
 
-pub(crate) fn entries_offence(
+pub(crate) fn judge_entries(
     setup: Setup,
     flagged: bool,
     least: u64,
     start: usize,
     field: &[u8],
-) -> Entries
+) -> Result<Entries, Offence>
     requires { Sized setup start field.now }
     ensures { EntriesJudged setup flagged least start field.now result }
 {
     let slots = slots_of(field.len());
-    let mut i = 0;
-    let mut at = ENTRIES;
     let mut above = least;
-    while i < slots {
+    for i in 0..slots {
+        let at = ENTRIES + ENTRY_LENGTH * i;
         let d = defect_at(field, at);
         if is_blank(d) {
-            return none_after(i, above);
-        }
-        let entry = judge_entry(setup, flagged, above, start + at, d);
-        let offence = entry.offence;
-        if offence.found {
-            return Entries {
-                offence,
+            return Ok(Entries {
                 count: i,
                 least: above,
-            };
+            });
         }
-        above = entry.least;
-        at += ENTRY_LENGTH;
-        i += 1;
+        above = judge_entry(setup, flagged, above, start + at, d)?;
     }
-    none_after(i, above)
+    Ok(Entries {
+        count: slots,
+        least: above,
+    })
 }
 
-fn none_after(count: usize, least: u64) -> Entries
-    ensures { result ≡ none_after count least }
-{
-    Entries {
-        offence: no_offence(),
-        count,
-        least,
-    }
-}
-
-fn judge_entry(setup: Setup, flagged: bool, least: u64, offset: usize, d: Defect) -> Judged
+// The least address that is higher than all up to this entry.
+fn judge_entry(
+    setup: Setup,
+    flagged: bool,
+    least: u64,
+    offset: usize,
+    d: Defect,
+) -> Result<u64, Offence>
     requires { (within_limits setup ≡ true) × (offset < 2 ^ 63) }
     ensures { EntryJudged setup flagged least offset d result }
 {
-    if setup.cylinders as u32 <= d.cylinder {
-        return Judged {
-            offence: offence_at(23, offset),
-            least,
-        };
-    }
+    refuse_if(
+        setup.cylinders as u32 <= d.cylinder,
+        Refusal::OutsideTheDrive,
+        offset,
+    )?;
     let address = address_of(d);
-    if !flagged & (address < least) {
-        return Judged {
-            offence: offence_at(24, offset),
-            least,
-        };
-    }
-    if setup.heads <= d.head {
-        return Judged {
-            offence: offence_at(23, offset + 4),
-            least,
-        };
-    }
-    let next = if address < least { least } else { address + 1 };
-    Judged {
-        offence: no_offence(),
-        least: next,
-    }
+    refuse_if(!flagged & (address < least), Refusal::OutOfSequence, offset)?;
+    refuse_if(setup.heads <= d.head, Refusal::OutsideTheDrive, offset + 4)?;
+    Ok(least.max(address + 1))
 }
 
 pub(crate) fn slots_of(octets: usize) -> usize

@@ -1,13 +1,14 @@
 // The octets in front of the entries of a data field.
 ghost use Rattle.std.specs.Prelude.{◌≤◌, ◌<◌, ◌^◌, ◌≡◌, length};
-ghost use Rattle.defects.specs.Offence.{first_of};
+ghost use Rattle.defects.specs.Offence.{first_of, offence_in};
 ghost use Rattle.defects.specs.Field.{front_of};
 ghost use Rattle.defects.specs.Judging.{has_wrong_flags, opening_tests, later_tests, front_tests};
 
 use crate::defect::{long_at, word_at};
-use crate::offence::{Offence, no_offence, offence_at};
+use crate::offence::{Offence, refuse_if};
 use crate::walk::Walk;
 use parts::Setup;
+use refusals::Refusal;
 
 #[derive(Clone, Copy)]
 pub(crate) struct Front {
@@ -52,75 +53,64 @@ pub(crate) fn front_of(field: &[u8]) -> Front
 }
 
 // `size` is the number of octets of the data field.
-pub(crate) fn front_offence(
+pub(crate) fn judge_front(
     setup: Setup,
     walk: Walk,
     start: usize,
     size: usize,
     front: Front,
-) -> Offence
+) -> Result<(), Offence>
     requires { (start < 2 ^ 63) × (2 ≤ size) × (walk.set < 2 ^ 32) }
-    ensures { result ≡ first_of (front_tests setup walk start size front) }
+    ensures { offence_in result ≡ first_of (front_tests setup walk start size front) }
 {
-    if front.count as usize != size - 2 {
-        return offence_at(18, start);
-    }
+    refuse_if(front.count as usize != size - 2, Refusal::WrongCount, start)?;
     if walk.set == 0 {
-        return opening_offence(setup, start, front);
+        return judge_opening(setup, start, front);
     }
-    later_offence(walk, start, front)
+    judge_later(walk, start, front)
 }
 
 // The first data field of the map.
-fn opening_offence(setup: Setup, start: usize, front: Front) -> Offence
+fn judge_opening(setup: Setup, start: usize, front: Front) -> Result<(), Offence>
     requires { start < 2 ^ 63 }
-    ensures { result ≡ first_of (opening_tests setup start front) }
+    ensures { offence_in result ≡ first_of (opening_tests setup start front) }
 {
-    if has_wrong_flags(front.flags, front.sets == 1) {
-        return offence_at(19, start + FLAGS);
-    }
-    if front.copy != 0 {
-        return offence_at(20, start + COPY);
-    }
-    if front.sets == 0 {
-        return offence_at(21, start + SETS);
-    }
-    if front.set != 0 {
-        return offence_at(22, start + SET);
-    }
-    if setup.cylinders as u32 <= front.cylinder {
-        return offence_at(23, start + STORAGE_CYLINDER);
-    }
-    if setup.heads <= front.head {
-        return offence_at(23, start + STORAGE_HEAD);
-    }
-    no_offence()
+    let wrong_flags = has_wrong_flags(front.flags, front.sets == 1);
+    refuse_if(wrong_flags, Refusal::WrongFlags, start + FLAGS)?;
+    refuse_if(front.copy != 0, Refusal::WrongCopy, start + COPY)?;
+    refuse_if(front.sets == 0, Refusal::WrongSets, start + SETS)?;
+    refuse_if(front.set != 0, Refusal::WrongSet, start + SET)?;
+    let no_cylinder = setup.cylinders as u32 <= front.cylinder;
+    refuse_if(
+        no_cylinder,
+        Refusal::OutsideTheDrive,
+        start + STORAGE_CYLINDER,
+    )?;
+    let no_head = setup.heads <= front.head;
+    refuse_if(no_head, Refusal::OutsideTheDrive, start + STORAGE_HEAD)
 }
 
 // Copy 0 of a later set.
-fn later_offence(walk: Walk, start: usize, front: Front) -> Offence
+fn judge_later(walk: Walk, start: usize, front: Front) -> Result<(), Offence>
     requires { (start < 2 ^ 63) × (walk.set < 2 ^ 32) }
-    ensures { result ≡ first_of (later_tests walk start front) }
+    ensures { offence_in result ≡ first_of (later_tests walk start front) }
 {
-    if has_wrong_flags(front.flags, walk.sets as usize == walk.set + 1) {
-        return offence_at(19, start + FLAGS);
-    }
-    if front.copy != 0 {
-        return offence_at(20, start + COPY);
-    }
-    if front.sets != walk.sets {
-        return offence_at(21, start + SETS);
-    }
-    if front.set as usize != walk.set {
-        return offence_at(22, start + SET);
-    }
-    if front.cylinder != walk.cylinder {
-        return offence_at(21, start + STORAGE_CYLINDER);
-    }
-    if front.head != walk.head {
-        return offence_at(21, start + STORAGE_HEAD);
-    }
-    no_offence()
+    let wrong_flags = has_wrong_flags(front.flags, walk.sets as usize == walk.set + 1);
+    refuse_if(wrong_flags, Refusal::WrongFlags, start + FLAGS)?;
+    refuse_if(front.copy != 0, Refusal::WrongCopy, start + COPY)?;
+    refuse_if(front.sets != walk.sets, Refusal::WrongSets, start + SETS)?;
+    refuse_if(
+        front.set as usize != walk.set,
+        Refusal::WrongSet,
+        start + SET,
+    )?;
+    let other_cylinder = front.cylinder != walk.cylinder;
+    refuse_if(other_cylinder, Refusal::WrongSets, start + STORAGE_CYLINDER)?;
+    refuse_if(
+        front.head != walk.head,
+        Refusal::WrongSets,
+        start + STORAGE_HEAD,
+    )
 }
 
 fn has_wrong_flags(flags: u8, last: bool) -> bool

@@ -4,14 +4,15 @@ ghost use Rattle.laws.specs.Pick.{pick};
 ghost use Rattle.laws.specs.Lists.{written_over, written_at};
 ghost use Rattle.defects.specs.Defect.{list_octets};
 ghost use Rattle.defects.specs.Field.{defects_in};
-ghost use Rattle.defects.specs.Walk.{field_at, defects_before};
-ghost use Rattle.defects.specs.Steps.{string_in, own_defects, Loadable, FieldListed, Listable};
+ghost use Rattle.defects.specs.Walk.{defects_before};
+ghost use Rattle.defects.specs.Source.{string_in};
+ghost use Rattle.defects.specs.Steps.{own_defects, FieldListed, Listable};
 
 use crate::defect::{ENTRY_LENGTH, defect_at, is_blank, write_defect};
 use crate::entries::{ENTRIES, slots_of};
 use crate::front::COPY;
-use crate::place::field_octets;
-use crate::sectors::load;
+use crate::place::MOST_OCTETS;
+use crate::source::Source;
 use crate::walk::{IGNORED, LAST_COPY};
 use parts::Setup;
 
@@ -23,63 +24,27 @@ pub(crate) struct Gathered {
 }
 
 // The defects of so many data fields, each set once: how many they are.
-pub(crate) fn gather(
-    setup: Setup,
-    in_sectors: bool,
-    octets: &[u8],
-    sectors: &[u16],
-    fields: usize,
-    field: &mut [u8],
-    defects: &mut [u8],
-) -> usize
-    requires { Listable setup in_sectors octets.now sectors.now fields defects.old × (2048 ≤ length field.old) }
-    ensures { (result ≡ length (defects_before setup (string_in setup in_sectors octets.now sectors.now) fields)) × (defects.new ≡ written_over defects.old (list_octets (defects_before setup (string_in setup in_sectors octets.now sectors.now) fields))) }
+pub(crate) fn gather(setup: Setup, source: Source, fields: usize, defects: &mut [u8]) -> usize
+    requires { Listable setup source fields defects.old }
+    ensures { (result ≡ length (defects_before setup (string_in setup source.entry) fields)) × (defects.new ≡ written_over defects.old (list_octets (defects_before setup (string_in setup source.entry) fields))) }
 {
-    let mut count = 0;
-    let mut copy: u8 = 0;
-    let mut k = 0;
-    while k < fields {
-        let listed = list_at(
-            setup, in_sectors, octets, sectors, k, copy, count, field, defects,
-        );
-        count = listed.count;
-        copy = listed.copy;
-        k += 1;
+    let mut room = [0u8; MOST_OCTETS];
+    let mut gathered = Gathered { count: 0, copy: 0 };
+    for k in 0..fields {
+        let field = source.field(setup, k, &mut room);
+        gathered = list_field(gathered, field, defects);
     }
-    count
-}
-
-// Data field k, behind so many defects.
-fn list_at(
-    setup: Setup,
-    in_sectors: bool,
-    octets: &[u8],
-    sectors: &[u16],
-    k: usize,
-    copy: u8,
-    count: usize,
-    field: &mut [u8],
-    defects: &mut [u8],
-) -> Gathered
-    requires { Loadable setup in_sectors octets.now sectors.now k × (12 * (count + length (own_defects copy (field_at setup (string_in setup in_sectors octets.now sectors.now) k))) ≤ length defects.old) × (2048 ≤ length field.old) }
-    ensures { FieldListed copy count (field_at setup (string_in setup in_sectors octets.now sectors.now) k) defects.old defects.new result }
-{
-    let each = field_octets(setup);
-    if in_sectors {
-        load(setup, sectors, k, field);
-        return list_field(copy, count, &field[..each], defects);
-    }
-    let at = k * each;
-    list_field(copy, count, &octets[at..at + each], defects)
+    gathered.count
 }
 
 // A data field behind so many defects: its own are listed where copy 0 is due and it is not ignored.
-fn list_field(copy: u8, count: usize, field: &[u8], defects: &mut [u8]) -> Gathered
-    requires { (16 ≤ length field.now) × (12 * (count + length (own_defects copy field.now)) ≤ length defects.old) }
-    ensures { FieldListed copy count field.now defects.old defects.new result }
+fn list_field(gathered: Gathered, field: &[u8], defects: &mut [u8]) -> Gathered
+    requires { (16 ≤ length field.now) × (12 * (gathered.count + length (own_defects gathered.copy field.now)) ≤ length defects.old) }
+    ensures { FieldListed gathered.copy gathered.count field.now defects.old defects.new result }
 {
+    let Gathered { count, copy } = gathered;
     if field[COPY] == IGNORED {
-        return Gathered { count, copy };
+        return gathered;
     }
     if copy != 0 {
         return Gathered {
@@ -99,17 +64,15 @@ fn list_entries(field: &[u8], count: usize, defects: &mut [u8]) -> usize
     ensures { (result ≡ count + length (defects_in field.now)) × (defects.new ≡ written_at defects.old (12 * count) (list_octets (defects_in field.now))) }
 {
     let slots = slots_of(field.len());
-    let mut i = 0;
-    while i < slots {
+    for i in 0..slots {
         let d = defect_at(field, ENTRIES + ENTRY_LENGTH * i);
         if is_blank(d) {
             return count + i;
         }
         let at = ENTRY_LENGTH * (count + i);
         write_defect(d, &mut defects[at..]);
-        i += 1;
     }
-    count + i
+    count + slots
 }
 
 // Behind copy 1 or 2.

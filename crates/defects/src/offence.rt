@@ -1,30 +1,23 @@
-// An offence of a map: its number and where it lies, or none.
-ghost use Rattle.std.specs.Prelude.{◌≡◌};
-ghost use Rattle.defects.specs.Offence.{no_offence, offence_at};
+// An offence of a map: why it is refused, and where.
+ghost use Rattle.std.specs.Prelude.{◌≡◌, [], ◌∷◌};
+ghost use Rattle.refusals.specs.Refusal.{number};
+ghost use Rattle.defects.specs.Offence.{◌at◌when◌, first_of, offence_in};
 
-#[derive(Clone, Copy)]
-pub(crate) struct Offence {
-    pub found: bool,
-    pub number: u8,
+use refusals::Refusal;
+
+#[derive(Clone, Copy, Debug, PartialEq, Eq)]
+pub struct Offence {
+    pub refusal: Refusal,
+    // In the octets of the map; 0 for what is refused before they are read.
     pub offset: usize,
 }
 
-pub(crate) fn no_offence() -> Offence
-    ensures { result ≡ no_offence }
+// One test.
+pub(crate) fn refuse_if(holds: bool, refusal: Refusal, offset: usize) -> Result<(), Offence>
+    ensures { offence_in result ≡ first_of (number refusal at offset when holds ∷ []) }
 {
-    Offence {
-        found: false,
-        number: 0,
-        offset: 0,
+    if holds {
+        return Err(Offence { refusal, offset });
     }
-}
-
-pub(crate) fn offence_at(number: u8, offset: usize) -> Offence
-    ensures { result ≡ offence_at number offset }
-{
-    Offence {
-        found: true,
-        number,
-        offset,
-    }
+    Ok(())
 }

@@ -4,30 +4,25 @@ ghost use Rattle.parts.specs.Setup.{within_limits};
 ghost use Rattle.defects.specs.Place.{field_octets, data_fields, place_of, Placed};
 
 use parts::{Place, Setup};
+use refusals::Refusal;
 
-#[derive(Clone, Copy)]
-pub enum MapPlace {
-    At(Place),
-    Refused(u8),
-}
-
-// No data field of the last cylinder is left.
-pub(crate) const NO_DATA_FIELD: u8 = 16;
+// The longest data field.
+pub(crate) const MOST_OCTETS: usize = 2048;
 
 // The least words of field 1 that hold the octets in front and the CRC.
 const LEAST_FIELD_WORDS: u16 = 8;
 
 // The place of data field k of the map. 9 where a number of the set-up is outside its limits, 16 where the last cylinder has no such data field.
-pub fn map_place(setup: Setup, k: usize) -> MapPlace
+pub fn map_place(setup: Setup, k: usize) -> Result<Place, Refusal>
     ensures { Placed setup k result }
 {
     if !setup.within_limits() {
-        return MapPlace::Refused(parts::OUTSIDE_ITS_LIMITS);
+        return Err(Refusal::OutsideItsLimits);
     }
     if data_fields(setup) <= k {
-        return MapPlace::Refused(NO_DATA_FIELD);
+        return Err(Refusal::NoDataField);
     }
-    MapPlace::At(place_of(setup, k))
+    Ok(place_of(setup, k))
 }
 
 pub(crate) fn place_of(setup: Setup, k: usize) -> Place

@@ -5,12 +5,12 @@ ghost use Rattle.defects.specs.Place.{field_octets, data_fields};
 ghost use Rattle.defects.specs.Walk.{field_at};
 ghost use Rattle.defects.specs.Sectors.{word_octets, field_start, last_cylinder};
 
-use crate::place::place_of;
+use crate::place::{MOST_OCTETS, place_of};
 use parts::{Place, Setup};
 
-// Data field k of the map, at the front of a lent slice.
-pub(crate) fn load(setup: Setup, sectors: &[u16], k: usize, field: &mut [u8])
-    requires { (within_limits setup ≡ true) × (all_words setup ≤ length sectors.now) × (k < data_fields setup) × (2048 ≤ length field.old) }
+// Data field k of the map, at the front of the room.
+pub(crate) fn load(setup: Setup, sectors: &[u16], k: usize, field: &mut [u8; MOST_OCTETS])
+    requires { (within_limits setup ≡ true) × (all_words setup ≤ length sectors.now) × (k < data_fields setup) }
     ensures { take (field_octets setup) field.new ≡ field_at setup (last_cylinder setup sectors.now) k }
 {
     load_words(sectors, field_start(setup, k), setup.field1 as usize, field);

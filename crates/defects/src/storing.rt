@@ -1,29 +1,53 @@
 // A data field put into its place: into the octets of a map, or into the sector words.
-ghost use Rattle.std.specs.Prelude.{◌+◌, ◌-◌, ◌%◌, ◌≤◌, ◌≡◌, ◌++◌, length, replicate, get_or};
+ghost use Rattle.std.specs.Prelude.{ℕ, ◌+◌, ◌-◌, ◌%◌, ◌≤◌, ◌≡◌, List, ◌++◌, length, replicate, get_or};
 ghost use Rattle.laws.specs.Lists.{written_at};
-ghost use Rattle.defects.specs.Sectors.{octet_words};
-ghost use Rattle.defects.specs.EncodeSteps.{FieldPut, HasPlace};
+ghost use Rattle.parts.specs.declared.setup.Setup.{Setup};
+ghost use Rattle.defects.specs.Place.{field_octets};
+ghost use Rattle.defects.specs.Sectors.{octet_words, field_start};
+ghost use Rattle.defects.specs.EncodeSteps.{octet_start, HasOctets, HasSectors};
 
 use crate::defect::word_at;
 use crate::sectors::field_start;
 use parts::Setup;
 
-// Data field k of a map.
-pub(crate) fn put_field(
-    setup: Setup,
-    stored: bool,
-    k: usize,
-    field: &[u8],
-    out: &mut [u8],
-    sectors: &mut [u16],
-)
-    requires { HasPlace setup stored k field.now out.old sectors.old }
-    ensures { FieldPut setup stored k field.now out.old out.new sectors.old sectors.new }
-{
-    if stored {
-        store(sectors, field_start(setup, k), field);
-    } else {
+// What a map is put into: the octets of a string, or the sector words of a drive.
+pub(crate) trait MapUnit: Copy {
+    // Where data field k begins.
+    ghost start: { Setup → ℕ → ℕ };
+
+    // Its octets, put there.
+    ghost units: { List ℕ → List Self };
+
+    // So many units have its place.
+    ghost Fits: { Setup → ℕ → ℕ → Type 0 };
+
+    // Data field k of a map.
+    fn put_field(out: &mut [Self], setup: Setup, k: usize, field: &[u8])
+        requires { (length field.now ≡ field_octets setup) × Fits setup k (length out.old) }
+        ensures { out.new ≡ written_at out.old (start setup k) (units field.now) };
+}
+
+impl MapUnit for u8 {
+    ghost start = { octet_start };
+
+    ghost units = { λ octets. octets };
+
+    ghost Fits = { HasOctets };
+
+    fn put_field(out: &mut [u8], _setup: Setup, k: usize, field: &[u8]) {
         put(out, k * field.len(), field);
+    }
+}
+
+impl MapUnit for u16 {
+    ghost start = { field_start };
+
+    ghost units = { octet_words };
+
+    ghost Fits = { HasSectors };
+
+    fn put_field(out: &mut [u16], setup: Setup, k: usize, field: &[u8]) {
+        store(out, field_start(setup, k), field);
     }
 }
 

@@ -4,8 +4,8 @@ ghost use Rattle.defects.specs.Walk.{outset, is_ended, after_original, after_cop
 ghost use Rattle.defects.specs.Steps.{Judgeable, StepTaken};
 
 use crate::front::{COPY, Front, front_of};
-use crate::judging::{copy_offence, judge_original};
-use crate::offence::{Offence, no_offence};
+use crate::judging::{judge_copy, judge_original};
+use crate::offence::Offence;
 use parts::Setup;
 
 // What is due at a data field.
@@ -23,10 +23,9 @@ pub(crate) struct Walk {
     pub last: bool,
 }
 
-// What was found of a data field, and what is due behind it.
+// What is due behind a data field without an offence.
 #[derive(Clone, Copy)]
 pub(crate) struct Stepped {
-    pub offence: Offence,
     pub walk: Walk,
     pub least: u64,
 }
@@ -64,32 +63,26 @@ pub(crate) fn step(
     start: usize,
     original: &[u8],
     field: &[u8],
-) -> Stepped
+) -> Result<Stepped, Offence>
     requires { Judgeable setup walk start original.now field.now }
     ensures { StepTaken setup walk least k start original.now field.now result }
 {
     if field[COPY] == IGNORED {
-        return Stepped {
-            offence: no_offence(),
-            walk,
-            least,
-        };
+        return Ok(Stepped { walk, least });
     }
     if walk.copy != 0 {
-        return Stepped {
-            offence: copy_offence(walk, start, original, field),
+        judge_copy(walk, start, original, field)?;
+        return Ok(Stepped {
             walk: after_copy(walk),
             least,
-        };
+        });
     }
     let front = front_of(field);
-    let judged = judge_original(setup, walk, least, start, front, field);
-    let offence = judged.offence;
-    Stepped {
-        offence,
+    let above = judge_original(setup, walk, least, start, front, field)?;
+    Ok(Stepped {
         walk: after_original(walk, k, front),
-        least: judged.least,
-    }
+        least: above,
+    })
 }
 
 fn after_original(walk: Walk, k: usize, front: Front) -> Walk

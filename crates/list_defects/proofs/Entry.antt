@@ -5,13 +5,12 @@ use mathlib.Core.Path.{◌≡◌}
 use mathlib.Core.List.{List}
 use lib.ListN.{length}
 use borrow.Author.Tests.{le-ltb}
-use Rattle.laws.proofs.Differ.{never}
+use Rattle.std.specs.Prelude.{Result, Ok}
 use Rattle.laws.proofs.Rows.{none_given}
-use Rattle.defects.specs.Defect.{defect_rows, defect_refusal, DecodedDefect}
-use Rattle.defects.specs.declared.defect.DefectRead.TheVariants.{Refused}
+use Rattle.refusals.specs.declared.refusal.Refusal.{Refusal}
+use Rattle.refusals.proofs.OnPaper.{answer_only}
+use Rattle.defects.specs.Defect.{defect_at, defect_rows, DecodedDefect}
+use Rattle.defects.specs.declared.defect.Defect.{Defect}
 
-pub never_refused : {octets : List ℕ} {n : ℕ} → 12 ≤ length octets → DecodedDefect octets (Refused n) → ⊥
-never_refused {octets} {n} room told =
-    let passed : defect_refusal octets ≡ 0 = none_given (defect_rows octets) (le-ltb (length octets) 12 room, tt) in
-    let answer = rw passed at told.answer in
-    never (cc)
+pub never_refused : {octets : List ℕ} {r : Result Defect Refusal} → 12 ≤ length octets → DecodedDefect octets r → r ≡ Ok (defect_at 0 octets)
+never_refused {octets} room told = answer_only told.answer (rw (none_given (defect_rows octets) (le-ltb (length octets) 12 room, tt)))

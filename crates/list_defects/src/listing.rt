@@ -1,7 +1,7 @@
 // The list of a map's defects, from standard input to standard output.
 ghost use Rattle.std.specs.Prelude.{◌*◌, ◌≤◌, length};
 
-use defects::{Defect, DefectRead, MapRead};
+use defects::{Defect, MapRead};
 use parts::Setup;
 use std::io;
 use std::io::Read;
@@ -68,12 +68,20 @@ pub(crate) fn tell_unless(rt: &impl Eprint, written: io::Result<()>) {
 // The list of the map in the octets, or the refusal.
 fn list(rt: &impl Print, setup: Setup, octets: &[u8], defects: &mut [u8]) -> io::Result<()> {
     match defects::decode_map(setup, octets, defects) {
-        MapRead::Map {
-            count,
-            storage_cylinder,
-            storage_head,
-        } => say_map(rt, storage_cylinder, storage_head, count, defects),
-        MapRead::Refused { number, offset } => println!(rt; "refused {number} at {offset}"),
+        Ok(
+            MapRead {
+                count,
+                storage_cylinder,
+                storage_head,
+            },
+        ) => say_map(rt, storage_cylinder, storage_head, count, defects),
+        Err(offence) => {
+            println!(rt;
+                "refused {} at {}",
+                u8::from(offence.refusal),
+                offence.offset
+            )
+        }
     }
 }
 
@@ -97,11 +105,8 @@ fn say_each(rt: &impl Print, count: usize, defects: &[u8]) -> io::Result<()>
     for i in 0..count {
         let at = DEFECT_LENGTH * i;
         let end = at + DEFECT_LENGTH;
-        match defects::decode_defect(&defects[at..end]) {
-            DefectRead::Decoded(defect) => say_defect(rt, defect)?,
-            // Twelve octets are never refused.
-            DefectRead::Refused(_) => unreachable!(),
-        }
+        // Twelve octets are never refused.
+        say_defect(rt, defects::decode_defect(&defects[at..end]).unwrap())?;
     }
     Ok(())
 }

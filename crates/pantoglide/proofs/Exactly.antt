@@ -4,8 +4,7 @@
 use Prim.Native.Nat.{ℕ, zero, suc, ◌≤◌}
 use mathlib.Core.Path.{◌≡◌, refl, sym, ◌∙◌}
 use mathlib.Core.Logic.{◌↔◌}
-use mathlib.Core.Bool.{Bool, true, false}
-use mathlib.Core.List.{List, [], ◌∷◌}
+use mathlib.Core.List.{List}
 use native.Mathlib.Omega.{arith}
 use borrow.Author.Tests.{lt-ltb, le-ltb}
 use lib.Dec.{ltb}
@@ -20,7 +19,8 @@ use Rattle.pantoglide.specs.Lines.{lines_rows}
 use Rattle.pantoglide.specs.Line.{follower_in, line_rows, line_refusal, LineFollowed, refusal_in}
 use Rattle.capture.specs.Capture.{capture_rows}
 use Rattle.capture.specs.Encoding.{encode_rows}
-use Rattle.defects.specs.Offence.{Test, offence_at, first_of}
+use Rattle.std.proofs.Math.Option.{Option, some, none}
+use Rattle.defects.specs.Offence.{Test, Found, offence_at, first_of, number_in, offset_in}
 use Rattle.defects.specs.Defect.{defect_rows}
 use Rattle.defects.specs.Place.{place_rows}
 use Rattle.defects.specs.Decoding.{decode_tests}
@@ -45,24 +45,16 @@ line_refusal_lem {follower} {setting} w =
     (λ z. from_sixteen f setting (rows_rest (ltb (length follower) 1) 9 _ z)))
 
 -- a number that is not 0 is that of an offence that was found
-found_at : (tests : List Test) {n offset : ℕ} → (first_of tests).number ≡ suc n → (first_of tests).offset ≡ offset → first_of tests ≡ offence_at (suc n) offset
-unfolding first_of pick
-found_at [] e f = absurd (omega arith)
-found_at (test ∷ tests) {n} {offset} e f = by_test test.holds e f (found_at tests)
-  where
-    by_test : (holds : Bool) → (pick holds (offence_at test.number test.offset) (first_of tests)).number ≡ suc n
-        → (pick holds (offence_at test.number test.offset) (first_of tests)).offset ≡ offset
-        → ((first_of tests).number ≡ suc n → (first_of tests).offset ≡ offset → first_of tests ≡ offence_at (suc n) offset)
-        → pick holds (offence_at test.number test.offset) (first_of tests) ≡ offence_at (suc n) offset
-    by_test true e f below = rw (e, f)
-    by_test false e f below = below e f
+found_at : (x : Option Found) {n offset : ℕ} → number_in x ≡ suc n → offset_in x ≡ offset → x ≡ offence_at (suc n) offset
+found_at none e f = absurd (omega arith)
+found_at (some found) e f = rw (← e, ← f)
 
 -- the number of the first offence, and where it lies if there is one
-offence_is_exact : (tests : List Test) (offset₀ r offset₁ : ℕ) → r ≡ (first_of tests).number → offset₁ ≡ unless_refused r (first_of tests).offset offset₀
+offence_is_exact : (tests : List Test) (offset₀ r offset₁ : ℕ) → r ≡ number_in (first_of tests) → offset₁ ≡ unless_refused r (offset_in (first_of tests)) offset₀
     → (n offset : ℕ) → (r ≡ suc n) × (offset₁ ≡ offset) ↔ GivenAt (suc n) offset tests
 offence_is_exact tests offset₀ r offset₁ e f n offset =
     let (to, from) = exact_offence.first_offence_is_exact tests (suc n) offset in (
-      λ p. to (found_at tests (sym e ∙ p.0) (sym (rw p.0 at f) ∙ p.1)),
+      λ p. to (found_at (first_of tests) (sym e ∙ p.0) (sym (rw p.0 at f) ∙ p.1)),
       λ g. let same = from g in let number : r ≡ suc n = e ∙ rw same in (number, rw number at f ∙ rw same),
     )
 

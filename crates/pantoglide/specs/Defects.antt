@@ -3,6 +3,7 @@ use Rattle.std.specs.Prelude.{ℕ, ◌*◌, ◌/◌, ◌≡◌, List, length}
 use Rattle.laws.specs.Rows.{unless_refused}
 use Rattle.laws.specs.Lists.{written_over}
 use Rattle.parts.specs.declared.setup.Setup.{Setup}
+use Rattle.defects.specs.Offence.{number_in, offset_in}
 use Rattle.defects.specs.Defect.{defect_at, defect_octets, list_octets, defect_refusal}
 use Rattle.defects.specs.Place.{data_fields, place_of, place_refusal}
 use Rattle.defects.specs.Walk.{walk_at}
@@ -37,12 +38,12 @@ pub record PlaceTold (s : Setup) (k cylinder₀ head₀ sector₀ r cylinder₁ 
 
 -- The promise of `pg_decode_map`: the first offence and where it lies; or the defects at the front, how many they are, and the storage track.
 pub record MapTold (s : Setup) (octets defects₀ : List ℕ) (count₀ cylinder₀ head₀ offset₀ r : ℕ) (defects₁ : List ℕ) (count₁ cylinder₁ head₁ offset₁ : ℕ) : Type 0 where
-  pub refusal : r ≡ (decode_offence s octets defects₀).number
+  pub refusal : r ≡ number_in (decode_offence s octets defects₀)
   pub defects : defects₁ ≡ unless_refused r defects₀ (written_over defects₀ (list_octets (defects_of s octets)))
   pub count : count₁ ≡ unless_refused r count₀ (length (defects_of s octets))
   pub cylinder : cylinder₁ ≡ unless_refused r cylinder₀ (walk_at s octets (data_fields s)).cylinder
   pub head : head₁ ≡ unless_refused r head₀ (walk_at s octets (data_fields s)).head
-  pub offset : offset₁ ≡ unless_refused r (decode_offence s octets defects₀).offset offset₀
+  pub offset : offset₁ ≡ unless_refused r (offset_in (decode_offence s octets defects₀)) offset₀
 
 -- The promise of `pg_encode_map`: "all encoders 10, then 8", behind 9; or the map at the front of `out`, and how many octets it has.
 pub record MapMade (s : Setup) (cylinder head : ℕ) (defects out₀ : List ℕ) (size₀ r : ℕ) (out₁ : List ℕ) (size₁ : ℕ) : Type 0 where
@@ -52,12 +53,12 @@ pub record MapMade (s : Setup) (cylinder head : ℕ) (defects out₀ : List ℕ)
 
 -- The promise of `pg_read_map`: as `pg_decode_map`, "read off the last cylinder".
 pub record MapReadOff (s : Setup) (sectors defects₀ : List ℕ) (count₀ cylinder₀ head₀ offset₀ r : ℕ) (defects₁ : List ℕ) (count₁ cylinder₁ head₁ offset₁ : ℕ) : Type 0 where
-  pub refusal : r ≡ (read_offence s sectors defects₀).number
+  pub refusal : r ≡ number_in (read_offence s sectors defects₀)
   pub defects : defects₁ ≡ unless_refused r defects₀ (written_over defects₀ (list_octets (defects_of s (last_cylinder s sectors))))
   pub count : count₁ ≡ unless_refused r count₀ (length (defects_of s (last_cylinder s sectors)))
   pub cylinder : cylinder₁ ≡ unless_refused r cylinder₀ (walk_at s (last_cylinder s sectors) (data_fields s)).cylinder
   pub head : head₁ ≡ unless_refused r head₀ (walk_at s (last_cylinder s sectors) (data_fields s)).head
-  pub offset : offset₁ ≡ unless_refused r (read_offence s sectors defects₀).offset offset₀
+  pub offset : offset₁ ≡ unless_refused r (offset_in (read_offence s sectors defects₀)) offset₀
 
 -- The promise of `pg_write_map`: 9, 10, then 8; or the map's data fields in their places, all other words as they were.
 pub record MapPut (s : Setup) (cylinder head : ℕ) (defects sectors₀ : List ℕ) (r : ℕ) (sectors₁ : List ℕ) : Type 0 where

@@ -2,7 +2,7 @@
 ghost use Rattle.drive.specs.Power.{setup_of};
 ghost use Rattle.pantoglide.specs.Defects.{DefectTold, DefectMade, PlaceTold};
 
-use defects::{Defect, DefectRead, Encoded, MapPlace};
+use defects::Defect;
 use parts::Setup;
 
 // 0 and the four numbers of the defect; or the refusal and nothing changed.
@@ -16,14 +16,14 @@ pub fn pg_decode_defect(
     ensures { DefectTold octets.now cylinder.old head.old offset.old length.old result cylinder.new head.new offset.new length.new }
 {
     match defects::decode_defect(octets) {
-        DefectRead::Decoded(defect) => {
+        Ok(defect) => {
             *cylinder = defect.cylinder;
             *head = defect.head;
             *offset = defect.offset;
             *length = defect.length;
             0
         }
-        DefectRead::Refused(n) => n,
+        Err(refusal) => u8::from(refusal),
     }
 }
 
@@ -38,8 +38,8 @@ pub fn pg_encode_defect(cylinder: u32, head: u16, offset: u32, length: u16, octe
         length,
     };
     match defects::encode_defect(defect, octets) {
-        Encoded::Written => 0,
-        Encoded::Refused(n) => n,
+        Ok(()) => 0,
+        Err(refusal) => u8::from(refusal),
     }
 }
 
@@ -69,12 +69,12 @@ pub fn pg_map_place(
         address,
     };
     match defects::map_place(setup, data_field) {
-        MapPlace::At(place) => {
+        Ok(place) => {
             *cylinder = place.cylinder;
             *head = place.head;
             *sector = place.sector;
             0
         }
-        MapPlace::Refused(n) => n,
+        Err(refusal) => u8::from(refusal),
     }
 }

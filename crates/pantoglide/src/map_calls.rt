@@ -2,7 +2,6 @@
 ghost use Rattle.drive.specs.Power.{setup_of};
 ghost use Rattle.pantoglide.specs.Defects.{MapTold, MapMade, MapReadOff, MapPut};
 
-use defects::{Encoded, MapEncoded, MapRead};
 use parts::Setup;
 
 // 0, the defects at the front of `defects`, how many they are and the storage track; or the first offence and where it lies.
@@ -33,22 +32,15 @@ pub fn pg_decode_map(
         address,
     };
     match defects::decode_map(setup, octets, defects) {
-        MapRead::Map {
-            count: listed,
-            storage_cylinder: on_cylinder,
-            storage_head: on_head,
-        } => {
-            *count = listed;
-            *storage_cylinder = on_cylinder;
-            *storage_head = on_head;
+        Ok(map) => {
+            *count = map.count;
+            *storage_cylinder = map.storage_cylinder;
+            *storage_head = map.storage_head;
             0
         }
-        MapRead::Refused {
-            number,
-            offset: lies_at,
-        } => {
-            *offset = lies_at;
-            number
+        Err(offence) => {
+            *offset = offence.offset;
+            u8::from(offence.refusal)
         }
     }
 }
@@ -80,11 +72,11 @@ pub fn pg_encode_map(
         address,
     };
     match defects::encode_map(setup, storage_cylinder, storage_head, defects, out) {
-        MapEncoded::Written(octets) => {
+        Ok(octets) => {
             *size = octets;
             0
         }
-        MapEncoded::Refused(n) => n,
+        Err(refusal) => u8::from(refusal),
     }
 }
 
@@ -116,22 +108,15 @@ pub fn pg_read_map(
         address,
     };
     match defects::read_map(setup, sector_words, defects) {
-        MapRead::Map {
-            count: listed,
-            storage_cylinder: on_cylinder,
-            storage_head: on_head,
-        } => {
-            *count = listed;
-            *storage_cylinder = on_cylinder;
-            *storage_head = on_head;
+        Ok(map) => {
+            *count = map.count;
+            *storage_cylinder = map.storage_cylinder;
+            *storage_head = map.storage_head;
             0
         }
-        MapRead::Refused {
-            number,
-            offset: lies_at,
-        } => {
-            *offset = lies_at;
-            number
+        Err(offence) => {
+            *offset = offence.offset;
+            u8::from(offence.refusal)
         }
     }
 }
@@ -162,7 +147,7 @@ pub fn pg_write_map(
         address,
     };
     match defects::write_map(setup, storage_cylinder, storage_head, defects, sector_words) {
-        Encoded::Written => 0,
-        Encoded::Refused(n) => n,
+        Ok(()) => 0,
+        Err(refusal) => u8::from(refusal),
     }
 }

@@ -1,30 +1,28 @@
 -- `defects::encoding::encode_map` meets its contract: at each `return` the tests that led there say which row holds first, or that none does.
 -- Assumes nothing.
 use Prim.Native.Nat.{◌/◌}
-use mathlib.Core.Path.{refl, sym, ap, ◌∙◌}
-use mathlib.Core.Bool.{false}
+use mathlib.Core.Path.{sym, ap, ◌∙◌}
 use native.Mathlib.Nat.{le-div_iff_mul-le}
 use native.Mathlib.Omega.{arith}
 use lib.ListN.{length}
 use Rattle.laws.specs.Pick.{pick}
 use Rattle.defects.specs.EncodeSteps.{Planned}
-use Rattle.defects.specs.declared.encoding.MapEncoded.TheVariants.{Written}
+use Rattle.laws.specs.Rows.{tells}
 use Rattle.defects.proofs.Plans.{plan}
-use Rattle.defects.proofs.Promised.{map_encoded}
-use Rattle.defects.proofs.EncodeRows.{Told, some_octets, length_told, lacks_octets, has_octets, planned, room_in_octets, whole_map}
+use Rattle.defects.proofs.EncodeRows.{Told, some_octets, length_told, lacks_octets, has_octets, planned, octets_fit, whole_map}
 use Rattle.defects.proofs.encoding.encode_map.Goals as goal
 use Rattle.defects.proofs.encoding.encode_map.Goals.{After-field_octets-size, Else-defects-is_encodable}
 
 pub returns-then-not-within_limits : goal.returns-then-not-within_limits
 unfolding pick
-returns-then-not-within_limits c = let outside = sym c.within_limits.ensures ∙ c.if-not-within_limits.true in map_encoded (rw outside) (rw outside)
+returns-then-not-within_limits c = let outside = sym c.within_limits.ensures ∙ c.if-not-within_limits.true in record { answer = rw outside; slice = rw outside }
 
 told : (c : After-field_octets-size) → let a = c.args in
     Told a.setup (length a.defects.now / 12) c.field_octets-size.result c.sets_for-sets.result
 told c = record { limits = sym c.within_limits.ensures ∙ c.if-not-within_limits.false; sized = c.field_octets-size.ensures; counted = c.sets_for-sets.ensures }
 
 ready : (c : Else-defects-is_encodable) → let a = c.args in
-    Planned a.setup (record { sets = c.sets_for-sets.result; cylinder = a.storage_cylinder; head = a.storage_head; stored = false }) a.defects.now
+    Planned a.setup (record { sets = c.sets_for-sets.result; cylinder = a.storage_cylinder; head = a.storage_head }) a.defects.now
 ready c = planned (sym c.within_limits.ensures ∙ c.if-not-within_limits.false) c.sets_for-sets.ensures (rw c.is_encodable.ensures at c.if-defects-is_encodable.false)
 
 pub nonzero_div-out : goal.nonzero_div-out
@@ -37,7 +35,7 @@ returns-then-out-size c =
     let t = told (goal.at.returns-then-out-size c).After-field_octets-size in
     let small = t.limits in
     let short = lacks_octets t _ c.if-out-size.true in
-    map_encoded (rw (small, short)) (rw (small, short))
+    record { answer = rw (small, short); slice = rw (small, short) }
 
 pub returns-then-defects-is_encodable : goal.returns-then-defects-is_encodable
 unfolding pick
@@ -46,7 +44,7 @@ returns-then-defects-is_encodable c =
     let room = has_octets t _ c.if-out-size.false in
     let small = t.limits in
     let wrong = rw c.is_encodable.ensures at c.if-defects-is_encodable.true in
-    map_encoded (rw (small, room, wrong)) (rw (small, room, wrong))
+    record { answer = rw (small, room, wrong); slice = rw (small, room, wrong) }
 
 pub overflow_cast-job : goal.overflow_cast-job
 overflow_cast-job c =
@@ -58,7 +56,7 @@ put_sets-requires c =
     let here = goal.at.put_sets-requires c in
     let t = told here.After-field_octets-size in
     let room = has_octets t _ c.if-out-size.false in
-    ((ready here.Else-defects-is_encodable), room_in_octets (ready here.Else-defects-is_encodable) refl room)
+    (ready here.Else-defects-is_encodable, octets_fit (ready here.Else-defects-is_encodable) room)
 
 pub overflow_mul-result : goal.overflow_mul-result
 overflow_mul-result c =
@@ -72,4 +70,4 @@ returns c =
     let room = has_octets t _ c.if-out-size.false in
     let small = t.limits in
     let right = rw c.is_encodable.ensures at c.if-defects-is_encodable.false in
-    map_encoded (rw (small, room, right) (ap Written (length_told t))) (rw (small, room, right) (whole_map (ready here.Else-defects-is_encodable) c.put_sets.ensures))
+    record { answer = rw (small, room, right) (ap tells (length_told t)); slice = rw (small, room, right) (c.put_sets.ensures ∙ whole_map c.args.out.now (ready here.Else-defects-is_encodable)) }

@@ -1,31 +1,35 @@
--- `defects::entries::judge_entry` meets its contract: each way it goes is one row.
+-- `defects::entries::judge_entry` meets its contract: each test is a row.
 -- Assumes nothing.
 use native.Mathlib.Omega.{arith}
+use borrow.Author.Tests.{leb-false}
 use Rattle.parts.proofs.Bounds.{limits}
 use Rattle.defects.specs.Judging.{entry_tests}
-use Rattle.defects.proofs.Offences.{judged, found}
+use Rattle.defects.proofs.Offences.{one_holds, one_passed, not_held, passed_on}
 use Rattle.defects.proofs.entries.judge_entry.Goals as goal
-use Rattle.defects.proofs.entries.judge_entry.Goals.{then-address-least, else-address-least}
 
-pub returns-then-setup-d : goal.returns-then-setup-d
+pub returns-in_err-refuse_if : goal.returns-in_err-refuse_if
 unfolding entry_tests
-returns-then-setup-d c = record { offence = search judged; next = found c.offence_at.ensures }
+returns-in_err-refuse_if c = rw (passed_on c.from_residual.ensures) (record { offence = one_holds _ _ c.in_err-refuse_if.ensures; next = tt })
 
 pub address_of-address-requires : goal.address_of-address-requires
 address_of-address-requires c =
     let few = limits c.args.setup c.requires.0 in
-    omega arith
+    omega (arith, leb-false _ _ (not_held _ c.in_ok-refuse_if.ensures))
 
-pub returns-then-flagged-address : goal.returns-then-flagged-address
+pub returns-in_err-refuse_if-2 : goal.returns-in_err-refuse_if-2
 unfolding entry_tests
-returns-then-flagged-address c = record { offence = rw (← c.address_of-address.ensures.0) (search judged); next = found c.offence_at-then-flagged-address.ensures }
+returns-in_err-refuse_if-2 c =
+    rw (passed_on c.from_residual-in_err-refuse_if-2.ensures)
+    (record { offence = rw (← c.address_of-address.ensures.0) (one_passed _ _ c.in_ok-refuse_if.ensures (one_holds _ _ c.in_err-refuse_if-2.ensures)); next = tt })
 
-pub returns-then-setup-d-2 : goal.returns-then-setup-d-2
+pub returns-in_err-refuse_if-3 : goal.returns-in_err-refuse_if-3
 unfolding entry_tests
-returns-then-setup-d-2 c = record { offence = rw (← c.address_of-address.ensures.0) (search judged depth 9); next = found c.offence_at-then-setup-d-2.ensures }
+returns-in_err-refuse_if-3 c =
+    rw (passed_on c.from_residual-in_err-refuse_if-3.ensures)
+    (record { offence = rw (← c.address_of-address.ensures.0) (one_passed _ _ c.in_ok-refuse_if.ensures (one_passed _ _ c.in_ok-refuse_if-2.ensures c.in_err-refuse_if-3.ensures)); next = tt })
 
 pub returns : goal.returns
 unfolding entry_tests
 returns c =
     let told = c.address_of-address.ensures.0 in
-    record { offence = rw (← told) (search judged depth 9); next = λ none. rw (← told) (elim c.if-address-least.branch [ then-address-least w ↦ omega arith | else-address-least w ↦ omega arith ]) }
+    record { offence = rw (← told) (one_passed _ _ c.in_ok-refuse_if.ensures (one_passed _ _ c.in_ok-refuse_if-2.ensures c.in_ok-refuse_if-3.ensures)); next = rw (← told) c.max.ensures }

@@ -12,14 +12,14 @@ pub returns-then-field : goal.returns-then-field
 unfolding pick
 returns-then-field c =
     let ignored = eq-eqb _ _ c.if-field.true in
-    record { count' = rw (ignored, add-zero); copy' = rw ignored; slice = rw ignored (sym (written_none c.args.defects.now (12 * c.args.count))) }
+    record { count' = rw (ignored, add-zero); copy' = rw ignored; slice = rw ignored (sym (written_none c.args.defects.now (12 * c.args.gathered.count))) }
 
 pub returns-then-copy-ne0 : goal.returns-then-copy-ne0
 unfolding pick
 returns-then-copy-ne0 c =
     let judged = ne_eqb _ _ c.if-field.false in
     let copy = ne_eqb _ _ c.if-copy-ne0.true in
-    record { count' = rw (judged, copy, add-zero); copy' = rw (judged, copy) c.next_copy.ensures; slice = rw (judged, copy) (sym (written_none c.args.defects.now (12 * c.args.count))) }
+    record { count' = rw (judged, copy, add-zero); copy' = rw (judged, copy) c.next_copy.ensures; slice = rw (judged, copy) (sym (written_none c.args.defects.now (12 * c.args.gathered.count))) }
 
 pub list_entries-requires : goal.list_entries-requires
 unfolding pick

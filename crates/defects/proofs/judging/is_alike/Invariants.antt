@@ -1,6 +1,6 @@
 -- `defects::judging::is_alike` meets its contract: as long as all octets were alike, the tests left are all that can hold.
 -- Assumes nothing.
-use Prim.Native.Nat.{ℕ, ◌+◌, ◌-◌, ◌≤◌}
+use Prim.Native.Nat.{ℕ, ◌+◌, ◌-◌}
 use mathlib.Core.Path.{◌≡◌}
 use mathlib.Core.Bool.{true}
 use Rattle.defects.specs.Offence.{first_of, tests_over}
@@ -8,11 +8,4 @@ use Rattle.defects.specs.Judging.{same_test}
 use Rattle.defects.proofs.judging.is_alike.Given as goal
 
 abbrev pub invariant-loop-i : goal.invariant-loop-i
-invariant-loop-i l =
-    (l.from ≤ l.i)
-    × (l.i ≤ l.end)
-    × (l.end ≡ l.from + l.count)
-    × ((start : ℕ) → l.alike ≡ true → first_of (tests_over (same_test start l.field l.original) l.from l.count) ≡ first_of (tests_over (same_test start l.field l.original) l.i (l.end - l.i)))
-
-abbrev pub decreases-loop-i : goal.decreases-loop-i
-decreases-loop-i l = l.end - l.i
+invariant-loop-i l = (start : ℕ) → l.alike ≡ true → first_of (tests_over (same_test start l.field l.original) l.from l.count) ≡ first_of (tests_over (same_test start l.field l.original) l.i (l.from + l.count - l.i))

@@ -2,49 +2,63 @@
 -- Assumes nothing.
 use Prim.Native.Nat.{ℕ}
 use native.Mathlib.Omega.{arith}
+use mathlib.Core.Path.{◌≡◌, ap}
+use mathlib.Core.List.{List}
 use lib.ListN.{length}
-use Rattle.defects.specs.Offence.{first_of}
+use Rattle.std.proofs.Math.Option.{Option}
+use Rattle.defects.specs.Offence.{Found, first_of}
 use Rattle.defects.specs.Field.{slots, defects_in}
 use Rattle.defects.specs.Judging.{padding_tests}
+use Rattle.defects.specs.declared.entries.Entries.{Entries}
 use Rattle.defects.proofs.EntriesLeft.{entries_few}
+use Rattle.defects.proofs.Offences.{passed_on}
 use Rattle.defects.proofs.Originals.{in_front, in_entries, in_padding, in_crc}
-use mathlib.Core.Path.{◌≡◌, refl, ap, ◌∙◌}
-use Rattle.defects.proofs.Offences.{caught}
 use Rattle.defects.proofs.judging.judge_original.Goals as goal
+use Rattle.defects.proofs.judging.judge_original.Goals.{In_ok-entries}
 
-pub returns-then-fore : goal.returns-then-fore
-returns-then-fore c =
-    let front = c.front_offence-fore in
-    record { offence = in_front _ _ _ _ _ _ c.requires.2 _ front.ensures c.if-fore.true; next = caught {x = front.result} refl c.if-fore.true }
+many : (c : In_ok-entries) → c.in_ok-entries.entries.count ≡ length (defects_in c.args.field.now)
+many c = ap (λ (e : Entries). e.count) c.in_ok-entries.ensures.entries
 
-pub returns-then-offence : goal.returns-then-offence
-returns-then-offence c =
-    record {
-      offence = in_entries _ _ _ _ _ _ c.requires.2 _ c.front_offence-fore.ensures c.if-fore.false _ c.entries_offence-entries.ensures.offence c.if-offence.true;
-      next = caught {x = c.entries_offence-entries.result.offence} refl c.if-offence.true;
-    }
+padding : (field : List ℕ) (start count : ℕ) → count ≡ length (defects_in field) → {x : Option Found} → x ≡ first_of (padding_tests start field count)
+    → x ≡ first_of (padding_tests start field (length (defects_in field)))
+padding field start count e p = rw (← e) p
 
-pub padding_offence-padding-requires : goal.padding_offence-padding-requires
-padding_offence-padding-requires c =
-    let field = c.args.field.now in
-    let many = c.entries_offence-entries.ensures.count c.if-offence.false in
-    let few = entries_few field 14 (slots (length field)) in
+pub returns-in_err-judge_front : goal.returns-in_err-judge_front
+returns-in_err-judge_front c = rw (passed_on c.from_residual.ensures) (record { offence = in_front _ _ _ _ _ _ c.requires.2 c.in_err-judge_front.ensures; next = tt })
+
+pub returns-in_err-entries : goal.returns-in_err-entries
+returns-in_err-entries c =
+    rw (passed_on c.from_residual-in_err-entries.ensures) (record { offence = in_entries _ _ _ _ _ _ c.requires.2 c.in_ok-judge_front.ensures c.in_err-entries.ensures.offence; next = tt })
+
+pub judge_padding-requires : goal.judge_padding-requires
+judge_padding-requires c =
+    let few = entries_few c.args.field.now 14 (slots (length c.args.field.now)) in
     let sized = c.requires.0 in
-    (omega (arith, many, few, sized.least), omega (arith, sized.within, sized.most))
+    let count = many (goal.at.judge_padding-requires c).In_ok-entries in
+    (omega (arith, count, few, sized.least), omega (arith, sized.within, sized.most))
 
-pub returns-then-padding : goal.returns-then-padding
-returns-then-padding c =
-    let padded : c.padding_offence-padding.result ≡ first_of (padding_tests c.args.start c.args.field.now (length (defects_in c.args.field.now))) = c.padding_offence-padding.ensures ∙ ap (λ (n : ℕ). first_of (padding_tests c.args.start c.args.field.now n)) (c.entries_offence-entries.ensures.count c.if-offence.false) in
-    record {
-      offence = in_padding _ _ _ _ _ _ c.requires.2 _ c.front_offence-fore.ensures c.if-fore.false _ c.entries_offence-entries.ensures.offence c.if-offence.false _ (padded) c.if-padding.true;
-      next = caught {x = c.padding_offence-padding.result} refl c.if-padding.true;
-    }
+pub returns-in_err-judge_padding : goal.returns-in_err-judge_padding
+returns-in_err-judge_padding c =
+    let count = many (goal.at.returns-in_err-judge_padding c).In_ok-entries in
+    rw (passed_on c.from_residual-in_err-judge_padding.ensures)
+    (record {
+      offence = in_padding _ _ _ _ _ _ c.requires.2 c.in_ok-judge_front.ensures c.in_ok-entries.ensures.offence (padding _ _ _ count c.in_err-judge_padding.ensures);
+      next = tt;
+    })
+
+pub returns-in_err-judge_crc : goal.returns-in_err-judge_crc
+returns-in_err-judge_crc c =
+    let count = many (goal.at.returns-in_err-judge_crc c).In_ok-entries in
+    rw (passed_on c.from_residual-in_err-judge_crc.ensures)
+    (record {
+      offence = in_crc _ _ _ _ _ _ c.requires.2 c.in_ok-judge_front.ensures c.in_ok-entries.ensures.offence (padding _ _ _ count c.in_ok-judge_padding.ensures) c.in_err-judge_crc.ensures;
+      next = tt;
+    })
 
 pub returns : goal.returns
 returns c =
-    let padded : c.padding_offence-padding.result ≡ first_of (padding_tests c.args.start c.args.field.now (length (defects_in c.args.field.now))) = c.padding_offence-padding.ensures ∙ ap (λ (n : ℕ). first_of (padding_tests c.args.start c.args.field.now n)) (c.entries_offence-entries.ensures.count c.if-offence.false) in
-    let fine = c.if-offence.false in
+    let count = many (goal.at.returns c).In_ok-entries in
     record {
-      offence = in_crc _ _ _ _ _ _ c.requires.2 _ c.front_offence-fore.ensures c.if-fore.false _ c.entries_offence-entries.ensures.offence fine _ _ (padded) c.if-padding.false c.crc_offence.ensures;
-      next = λ none. c.entries_offence-entries.ensures.next fine;
+      offence = in_crc _ _ _ _ _ _ c.requires.2 c.in_ok-judge_front.ensures c.in_ok-entries.ensures.offence (padding _ _ _ count c.in_ok-judge_padding.ensures) c.in_ok-judge_crc.ensures;
+      next = ap (λ (e : Entries). e.least) c.in_ok-entries.ensures.entries;
     }

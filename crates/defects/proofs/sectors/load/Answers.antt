@@ -9,7 +9,7 @@ use Rattle.defects.proofs.sectors.load.Goals as goal
 
 pub load_words-requires : goal.load_words-requires
 load_words-requires c =
-    let (small, room, inside, long) = c.requires in
+    let (small, room, inside) = c.requires in
     let fits = field_in_room c.args.setup c.args.k small inside in
     let few = limits _ small in
     (rw c.field_start.ensures (omega arith), omega arith)
@@ -17,5 +17,5 @@ load_words-requires c =
 pub returns : goal.returns
 unfolding sector_field
 returns c =
-    let (small, room, inside, long) = c.requires in
+    let (small, room, inside) = c.requires in
     c.load_words.ensures ∙ rw c.field_start.ensures (sym (field_of_cylinder c.args.setup c.args.sectors.now small room c.args.k inside))

@@ -3,6 +3,5 @@
 use Rattle.list_defects.proofs.Fits.{told_within}
 use Rattle.list_defects.proofs.listing.list.Goals as goal
 
--- src/listing.rt:75:14
 pub say_map-requires : goal.say_map-requires
-say_map-requires g c = told_within (rw c.in-Map.is at c.decode_map.ensures) c.decode_map.auto.defects
+say_map-requires g c = told_within (rw c.in-Ok.is at c.decode_map.ensures) c.decode_map.auto.defects

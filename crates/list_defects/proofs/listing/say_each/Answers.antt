@@ -4,5 +4,5 @@ use native.Mathlib.Omega.{arith}
 use Rattle.list_defects.proofs.Entry.{never_refused}
 use Rattle.list_defects.proofs.listing.say_each.Goals as goal
 
-pub unreachable-requires : goal.unreachable-requires
-unreachable-requires g c = never_refused (omega (arith, c.loop-i-test.true)) (rw c.in-Refused.is at c.decode_defect.ensures)
+pub unwrap-requires : goal.unwrap-requires
+unwrap-requires g c = rw (never_refused (omega (arith, c.loop-i-test.true)) c.decode_defect.ensures)

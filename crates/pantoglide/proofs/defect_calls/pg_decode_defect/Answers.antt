@@ -3,8 +3,8 @@
 use Rattle.pantoglide.proofs.Defects.{defect_told, defect_not_told}
 use Rattle.pantoglide.proofs.defect_calls.pg_decode_defect.Goals as goal
 
-pub returns-in-Decoded : goal.returns-in-Decoded
-returns-in-Decoded c = defect_told (rw c.in-Decoded.is at c.decode_defect.ensures)
+pub returns-in-Ok : goal.returns-in-Ok
+returns-in-Ok c = defect_told c.in-Ok.ensures
 
-pub returns-in-Refused : goal.returns-in-Refused
-returns-in-Refused c = defect_not_told (rw c.in-Refused.is at c.decode_defect.ensures)
+pub returns-in-Err : goal.returns-in-Err
+returns-in-Err c = defect_not_told c.in-Err.ensures c.from.ensures

@@ -3,8 +3,8 @@
 use Rattle.pantoglide.proofs.Defects.{defect_made, defect_not_made}
 use Rattle.pantoglide.proofs.defect_calls.pg_encode_defect.Goals as goal
 
-pub returns-in-Written : goal.returns-in-Written
-returns-in-Written c = defect_made (rw c.in-Written.is at c.encode_defect.ensures)
+pub returns-in-Ok : goal.returns-in-Ok
+returns-in-Ok c = defect_made c.in-Ok.ensures
 
-pub returns-in-Refused : goal.returns-in-Refused
-returns-in-Refused c = defect_not_made (rw c.in-Refused.is at c.encode_defect.ensures)
+pub returns-in-Err : goal.returns-in-Err
+returns-in-Err c = defect_not_made c.in-Err.ensures c.from.ensures

@@ -3,8 +3,8 @@
 use Rattle.pantoglide.proofs.Defects.{map_read_off, map_not_read_off}
 use Rattle.pantoglide.proofs.map_calls.pg_read_map.Goals as goal
 
-pub returns-in-Map : goal.returns-in-Map
-returns-in-Map c = map_read_off (rw c.in-Map.is at c.read_map.ensures)
+pub returns-in-Ok : goal.returns-in-Ok
+returns-in-Ok c = map_read_off c.in-Ok.ensures
 
-pub returns-in-Refused : goal.returns-in-Refused
-returns-in-Refused c = map_not_read_off (rw c.in-Refused.is at c.read_map.ensures)
+pub returns-in-Err : goal.returns-in-Err
+returns-in-Err c = map_not_read_off c.in-Err.ensures c.from.ensures

@@ -3,8 +3,8 @@
 use Rattle.pantoglide.proofs.Defects.{map_put, map_not_put}
 use Rattle.pantoglide.proofs.map_calls.pg_write_map.Goals as goal
 
-pub returns-in-Written : goal.returns-in-Written
-returns-in-Written c = map_put (rw c.in-Written.is at c.write_map.ensures)
+pub returns-in-Ok : goal.returns-in-Ok
+returns-in-Ok c = map_put c.in-Ok.ensures
 
-pub returns-in-Refused : goal.returns-in-Refused
-returns-in-Refused c = map_not_put (rw c.in-Refused.is at c.write_map.ensures)
+pub returns-in-Err : goal.returns-in-Err
+returns-in-Err c = map_not_put c.in-Err.ensures c.from.ensures
