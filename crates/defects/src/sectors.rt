@@ -1,12 +1,12 @@
 // The data fields of a map in a drive's sector words.
-ghost use Rattle.std.specs.Prelude.{◌+◌, ◌*◌, ◌^◌, ◌≤◌, ◌<◌, ◌≡◌, true, length, take, drop};
-ghost use Rattle.parts.specs.Setup.{within_limits, all_words, sector_number, sector_start, is_place};
+ghost use Rattle.std.specs.Prelude.{◌+◌, ◌*◌, ◌≤◌, ◌<◌, ◌≡◌, true, length, take, drop};
+ghost use Rattle.parts.specs.Setup.{within_limits, all_words};
 ghost use Rattle.defects.specs.Place.{field_octets, data_fields};
 ghost use Rattle.defects.specs.Walk.{field_at};
 ghost use Rattle.defects.specs.Sectors.{word_octets, field_start, last_cylinder};
 
 use crate::place::{MOST_OCTETS, place_of};
-use parts::{Place, Setup};
+use parts::Setup;
 
 // Data field k of the map, at the front of the room.
 pub(crate) fn load(setup: Setup, sectors: &[u16], k: usize, field: &mut [u8; MOST_OCTETS])
@@ -35,22 +35,5 @@ pub(crate) fn field_start(setup: Setup, k: usize) -> usize
     requires { (within_limits setup ≡ true) × (k < data_fields setup) }
     ensures { result ≡ field_start setup k }
 {
-    sector_start(setup, place_of(setup, k)) + setup.header as usize
-}
-
-// Where the words of the sector at a place begin.
-fn sector_start(setup: Setup, place: Place) -> usize
-    requires { (within_limits setup ≡ true) × (is_place setup place ≡ true) }
-    ensures { (result ≡ sector_start setup place) × (result < 2 ^ 40) }
-{
-    sector_number(setup, place) * setup.sector_words()
-}
-
-// The sectors before the one at a place.
-fn sector_number(setup: Setup, place: Place) -> usize
-    requires { (within_limits setup ≡ true) × (is_place setup place ≡ true) }
-    ensures { result ≡ sector_number setup place }
-{
-    let track = place.cylinder as usize * setup.heads as usize + place.head as usize;
-    track * setup.sectors as usize + place.sector as usize
+    setup.sector_start(place_of(setup, k)) + setup.header as usize
 }

@@ -16,7 +16,6 @@ mod pending;
 mod place;
 mod power;
 mod request;
-mod sizes;
 mod state;
 mod step;
 mod timing;

@@ -11,7 +11,7 @@ ghost use Rattle.events.specs.State.{drive_in};
 ghost use Rattle.events.specs.Fit.{Fits, Did, DidIn};
 ghost use Rattle.events.specs.Copy.{fielded, Within};
 
-use crate::{answer, coming, command, layout, place, sizes, state, timing, words};
+use crate::{answer, coming, command, layout, place, state, timing, words};
 use drive::Answer;
 use parts::{Event, Setup};
 use refusals::Refusal;
@@ -74,7 +74,7 @@ fn after_word(
     }
     if coming::is_last(&state[..], control, count) {
         let setup = state::setup_in(&state[..]);
-        let start = sizes::sector_start(setup, state::place_in(&state[..]));
+        let start = setup.sector_start(state::place_in(&state[..]));
         commit(setup, control, start, sectors, staging);
         place::end_transfer(state);
         return Answer::Status(answer::NORMAL);
@@ -95,7 +95,7 @@ fn header_miscompares(state: &[u16], count: usize, sectors: &[u16], staging: &[u
         return false;
     }
     let setup = state::setup_in(state);
-    let start = sizes::sector_start(setup, state::place_in(state));
+    let start = setup.sector_start(state::place_in(state));
     !words::same_words(staging, 0, sectors, start, count)
 }
 
@@ -178,7 +178,7 @@ fn take(state: &mut [u16], sectors: &[u16], staging: &[u16]) -> Answer
     let control = state[layout::CONTROL];
     let moved = state[layout::MOVED];
     let setup = state::setup_in(&state[..]);
-    let start = sizes::sector_start(setup, state::place_in(&state[..]));
+    let start = setup.sector_start(state::place_in(&state[..]));
     let at = start + word_offset(setup, control, moved);
     let word = sectors[at];
     if moved as usize + 1 == coming::read_words(&state[..], control) {

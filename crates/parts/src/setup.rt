@@ -1,6 +1,6 @@
 // The set-up: its limits, its sizes, and where a sector's words are.
 ghost use Rattle.std.specs.Prelude.{◌≡◌, true};
-ghost use Rattle.parts.specs.Setup.{between, within_limits, sector_words, all_words, lacks_room, is_place, is_target, following};
+ghost use Rattle.parts.specs.Setup.{between, within_limits, sector_words, all_words, lacks_room, sector_number, sector_start, is_place, is_target, following};
 
 #[derive(Clone, Copy)]
 pub struct Setup {
@@ -78,6 +78,23 @@ impl Setup {
         (place.cylinder < self.cylinders)
             & (place.head < self.heads)
             & (place.sector < self.sectors)
+    }
+
+    // The sectors before the one at a place.
+    fn sector_number(self, place: Place) -> usize
+        requires { (within_limits self ≡ true) × (is_place self place ≡ true) }
+        ensures { result ≡ sector_number self place }
+    {
+        let track = place.cylinder as usize * self.heads as usize + place.head as usize;
+        track * self.sectors as usize + place.sector as usize
+    }
+
+    // Where the words of the sector at a place begin.
+    pub fn sector_start(self, place: Place) -> usize
+        requires { (within_limits self ≡ true) × (is_place self place ≡ true) }
+        ensures { result ≡ sector_start self place }
+    {
+        self.sector_number(place) * self.sector_words()
     }
 
     pub fn is_target(self, target: u16) -> bool

@@ -1,5 +1,8 @@
 -- `defects::sectors::field_start` meets its contract: the place of a data field is one of the drive.
 -- Assumes nothing.
+use native.Mathlib.Omega.{arith}
+use Rattle.parts.specs.Setup.{sector_start}
+use Rattle.parts.proofs.Bounds.{inside, limits, start_small}
 use Rattle.defects.specs.Sectors.{field_start}
 use Rattle.defects.proofs.Places.{places}
 use Rattle.defects.proofs.sectors.field_start.Goals as goal
@@ -8,6 +11,13 @@ pub sector_start-requires : goal.sector_start-requires
 sector_start-requires c =
     (c.requires.0, rw c.place_of.ensures (places.inside _ _ c.requires.0 c.requires.1))
 
+pub overflow_add-result : goal.overflow_add-result
+unfolding sector_start
+overflow_add-result c =
+    let l = limits _ c.requires.0 in
+    let few = start_small _ _ l (inside _ _ (places.inside _ _ c.requires.0 c.requires.1)) in
+    rw (c.sector_start.ensures, c.place_of.ensures) (omega (arith, few))
+
 pub returns : goal.returns
 unfolding field_start
-returns c = rw (c.sector_start.ensures.0, c.place_of.ensures)
+returns c = rw (c.sector_start.ensures, c.place_of.ensures)

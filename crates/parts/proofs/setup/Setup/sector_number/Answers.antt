@@ -1,10 +1,9 @@
--- `defects::sectors::sector_number` meets its contract: the products fit.
+-- `sector_number` meets its contract: the products fit.
 -- Assumes nothing.
-use mathlib.Core.Path.{refl}
-use native.Mathlib.Omega.{arith}
-use Rattle.parts.specs.Setup.{sector_number}
 use Rattle.parts.proofs.Bounds.{few_words, in_range, inside, limits}
-use Rattle.defects.proofs.sectors.sector_number.Goals as goal
+use Rattle.parts.specs.Setup.{sector_number}
+use Rattle.std.proofs.Common.{refl, arith}
+use Rattle.parts.proofs.setup.Setup.sector_number.Goals as goal
 
 pub overflow_mul-track : goal.overflow_mul-track
 overflow_mul-track c =
