@@ -15,7 +15,9 @@ pub(crate) const ANSWER_WORDS: usize = 13;
 
 const ABSENT: u16 = 0xFFFF;
 
-// The words of the answer. A refusal that is not to tell writes nothing, and is handed back.
+// The words of the answer. A refusal that is not to tell writes nothing, and is handed back. Inlined: an answer that is handed to a call is packed
+// first, which makes half as many instructions again of a record in a batch.
+#[inline(always)]
 pub(crate) fn tell(answer: Answer, telling: bool, out: &mut [u16]) -> Result<(), Refusal>
     requires { 13 ≤ length out.old }
     ensures { Telling telling answer out.old (refusal_in result) out.new }
