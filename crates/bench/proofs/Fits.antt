@@ -1,6 +1,6 @@
 -- Every report fits in LONGEST_REPORT octets, and a text that is told lies in the slice.
 -- Assumes nothing.
-use Prim.Native.Nat.{ℕ, zero, suc, ◌/◌, ◌≤◌}
+use Prim.Native.Nat.{ℕ, zero, suc, ◌≤◌}
 use mathlib.Core.Path.{◌≡◌, refl}
 use mathlib.Core.List.{List}
 use native.Mathlib.Omega.{arith}
@@ -10,16 +10,14 @@ use lib.ListN.{length}
 use Rattle.laws.specs.Rows.{unless_refused}
 use Rattle.laws.specs.Octets.{AllOctets}
 use Rattle.laws.proofs.Pick.{cases}
-use Rattle.laws.proofs.Rows.{accepted, first_up_to}
-use Rattle.capture.proofs.Promised.{capture_decoded}
-use Rattle.capture.specs.Capture.{capture_rows, capture_refusal, first_record, distance_of, records_of, DecodedCapture}
-use Rattle.capture.specs.declared.capture.CaptureRead.TheVariants.{Capture}
+use Rattle.laws.proofs.Rows.{all_passed, first_up_to}
+use Rattle.refusals.proofs.OnPaper.{value_given}
+use Rattle.capture.specs.Capture.{capture_rows, capture_refusal, capture_in, records_of, DecodedCapture}
 use Rattle.bench.specs.Text.{numbered_line}
 use Rattle.bench.specs.Report.{refused_word, run_of, capture_report, report_of, part_report_of, report_rows, Reported}
 use Rattle.bench.specs.declared.report.Wanted.{Wanted}
 use Rattle.bench.specs.declared.report.Wanted.TheVariants.{All, Stretch}
-use Rattle.std.specs.Prelude.{Option, Some, None}
-use Rattle.bench.specs.declared.report.Replayed.TheVariants.{Text, Refused}
+use Rattle.std.specs.Prelude.{Option, Some, None, Ok}
 use Rattle.bench.proofs.Captured.{records_short, records_octets}
 use Rattle.bench.proofs.Size.{numbered_size, run_size}
 use Rattle.bench.proofs.PartSize.{part_size}
@@ -32,7 +30,7 @@ module _ (wanted : Wanted) (octets : List ℕ) (all : AllOctets octets) where
   by_refusal : length octets ≤ 65536 → (n : ℕ) → capture_refusal octets ≡ n
       → length (unless_refused n (numbered_line refused_word n) (run_of wanted (records_of octets))) ≤ 163850
   by_refusal short zero e =
-      let decoded : DecodedCapture octets (Capture (first_record octets) (distance_of octets / 8)) = capture_decoded (rw e) in
+      let decoded : DecodedCapture octets (Ok (capture_in octets)) = record { answer = rw e } in
       run_fits wanted (records_of octets) (records_octets octets decoded all) (records_short octets decoded short)
   by_refusal short (suc n) e = omega (arith, numbered_size refused_word 1 (suc n) (omega (arith, first_up_to 14 (capture_rows octets) refl)))
 
@@ -50,8 +48,8 @@ part_fits (Some from) (Some limit) octets all = report_fits (Stretch from limit)
 part_fits (Some from) None octets all = omega arith
 part_fits None limit octets all = omega arith
 
-pub told_within : {report before after : List ℕ} {size : ℕ} → Reported report before after (Text size) → size ≤ length before
+pub told_within : {report before after : List ℕ} {size : ℕ} → Reported report before after (Ok size) → size ≤ length before
 told_within {report} {before} {after} {size} told =
-    let (is, (room, end)) = accepted (report_rows report before) Refused (Text size) (Text (length report)) refl (λ n e. cc) told.answer in
-    let same : size ≡ length report = cc in
+    let (free, same) = value_given (report_rows report before) told.answer in
+    let (room, end) = all_passed (report_rows report before) refl free in
     omega (arith, ltb-false (length before) (length report) room)

@@ -1,4 +1,3 @@
-pub mod Pieces
 pub mod Digits
 pub mod Lines
 pub mod Told
@@ -9,7 +8,6 @@ pub mod PartSize
 pub mod Captured
 pub mod Fits
 pub mod Cases
-pub mod Promised
 pub mod Only
 pub mod Exactly
 pub mod WrongAnswers

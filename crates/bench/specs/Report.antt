@@ -1,7 +1,7 @@
 -- The report of a capture, or of a part of it, and the promises of `replay` and `replay_part`.
-use Rattle.std.specs.Prelude.{ℕ, ◌≡◌, List, [], ◌∷◌, Option, Some, None, ltb, length}
+use Rattle.std.specs.Prelude.{ℕ, ◌≡◌, List, [], ◌∷◌, Option, Some, None, Result, ltb, length}
 use Rattle.laws.specs.Pick.{pick}
-use Rattle.laws.specs.Rows.{Row, first, ◌when◌, unless_refused, Paper, refused_with, tells, refused_or}
+use Rattle.laws.specs.Rows.{Row, first, ◌when◌, unless_refused, refused_or}
 use Rattle.laws.specs.Lists.{written_over}
 use Rattle.capture.specs.Capture.{capture_refusal, records_of}
 use Rattle.bench.specs.Text.{numbered_line}
@@ -9,8 +9,8 @@ use Rattle.bench.specs.Run.{run_report}
 use Rattle.bench.specs.Part.{part_report}
 use Rattle.bench.specs.declared.report.Wanted.{Wanted}
 use Rattle.bench.specs.declared.report.Wanted.TheVariants.{All, Stretch}
-use Rattle.bench.specs.declared.report.Replayed.{Replayed}
-use Rattle.bench.specs.declared.report.Replayed.TheVariants.{Text, Refused}
+use Rattle.refusals.specs.Refusal.{on_paper}
+use Rattle.refusals.specs.declared.refusal.Refusal.{Refusal}
 
 -- "`too long`", and a newline.
 abbrev pub too_long : List ℕ
@@ -51,21 +51,7 @@ report_rows report slice = 10 when ltb (length slice) (length report) ∷ []
 abbrev pub report_refusal : List ℕ → List ℕ → ℕ
 report_refusal report slice = first (report_rows report slice)
 
--- The answer on paper: the number of the refusal, or how many octets the report has.
-abbrev pub paper : Replayed → Paper ℕ
-paper (Text size) = tells size
-paper (Refused n) = refused_with n
-
-abbrev pub replayed_as : List ℕ → List ℕ → Replayed
-replayed_as report slice = unless_refused (report_refusal report slice) (Refused (report_refusal report slice)) (Text (length report))
-
--- The promise of a call that puts a report at the front of a slice: the answer, and all octets of the slice.
-pub record Reported (report before after : List ℕ) (r : Replayed) : Type 0 where
-  pub answer : r ≡ replayed_as report before
-  pub on_paper : paper r ≡ refused_or (report_rows report before) (length report)
+-- The promise of a call that puts a report at the front of a slice: how many octets the report has, and all octets of the slice.
+pub record Reported (report before after : List ℕ) (r : Result ℕ Refusal) : Type 0 where
+  pub answer : on_paper r ≡ refused_or (report_rows report before) (length report)
   pub slice : after ≡ unless_refused (report_refusal report before) before (written_over before report)
-
--- The number that an answer refuses with, 0 where it refuses nothing.
-abbrev pub refusal_in : Replayed → ℕ
-refusal_in (Text size) = 0
-refusal_in (Refused n) = n

@@ -1,7 +1,6 @@
--- Text as octets: a number in decimal, two hexadecimal digits, and text put into a lent slice.
-use Rattle.std.specs.Prelude.{ℕ, zero, suc, ◌+◌, ◌-◌, ◌/◌, ◌%◌, ◌≤◌, ◌≡◌, List, [], ◌∷◌, ◌++◌, ltb, length}
+-- Text as octets: a number in decimal, two hexadecimal digits, and a line of a word and a number.
+use Rattle.std.specs.Prelude.{ℕ, zero, suc, ◌+◌, ◌-◌, ◌/◌, ◌%◌, List, [], ◌∷◌, ◌++◌, ltb}
 use Rattle.laws.specs.Pick.{pick}
-use Rattle.laws.specs.Lists.{written_at}
 
 abbrev pub space : ℕ
 space = 0x20
@@ -36,9 +35,3 @@ hex_digit n = pick (ltb n 10) (digit n) (0x41 + (n - 10))
 
 abbrev pub two_hex_digits : ℕ → List ℕ
 two_hex_digits octet = hex_digit (octet / 16) ∷ hex_digit (octet % 16) ∷ []
-
--- What a call that puts text into a slice promises: the text is there, the rest as it was, and the answer is the index behind it.
-pub record Put (before : List ℕ) (at : ℕ) (part after : List ℕ) (r : ℕ) : Type 0 where
-  pub room : at + length part ≤ length before
-  pub slice : after ≡ written_at before at part
-  pub behind : r ≡ at + length part

@@ -1,5 +1,5 @@
 -- Wrong answers of `replay` and `replay_part`: reports that a careless programmer would write, and no promise allows.
-use Rattle.std.specs.Prelude.{ℕ, List, [], ◌∷◌, ◌++◌, Some, None, length, replicate, take}
+use Rattle.std.specs.Prelude.{ℕ, List, [], ◌∷◌, ◌++◌, Some, None, Ok, length, replicate, take}
 use Rattle.laws.specs.Lists.{written_over}
 use Rattle.capture.specs.Cases.{three_events, its_trailer}
 use Rattle.bench.specs.Text.{space, newline, digit}
@@ -9,7 +9,6 @@ use Rattle.bench.specs.Part.{ran_word, next_word}
 use Rattle.bench.specs.Report.{report_of, part_report_of, Reported}
 use Rattle.bench.specs.declared.report.Wanted.TheVariants.{All}
 use Rattle.bench.specs.Cases.{refused12}
-use Rattle.bench.specs.declared.report.Replayed.TheVariants.{Text}
 
 -- "events 3", and a line of event, port, refusal and status.
 abbrev events_line : ℕ → List ℕ
@@ -39,11 +38,11 @@ held_capture =
 
 -- A slice of 64 octets has this text at its front, which is told to be the report.
 abbrev Tells : List ℕ → List ℕ → Type 0
-Tells octets text = Reported (report_of All octets) (replicate 64 0) (written_over (replicate 64 0) text) (Text (length text))
+Tells octets text = Reported (report_of All octets) (replicate 64 0) (written_over (replicate 64 0) text) (Ok (length text))
 
 -- The same of a part of it.
 abbrev TellsPart : ℕ → ℕ → List ℕ → List ℕ → Type 0
-TellsPart from limit octets text = Reported (part_report_of (Some from) (Some limit) octets) (replicate 64 0) (written_over (replicate 64 0) text) (Text (length text))
+TellsPart from limit octets text = Reported (part_report_of (Some from) (Some limit) octets) (replicate 64 0) (written_over (replicate 64 0) text) (Ok (length text))
 
 pub record WrongAnswers : Type 0 where
   -- ---- `replay`
@@ -56,7 +55,7 @@ pub record WrongAnswers : Type 0 where
   -- The selected port is told for the owner.
   pub selected_port_for_the_owner : Tells held_capture (events_line 2 ++ event_line 1 0 0 no_status ++ event_line 2 0 0 no_status ++ owner_none) → ⊥
   -- A report is cut off where the slice ends.
-  pub cut_off : Reported (report_of All []) (replicate 10 0) (take 10 refused12) (Text 10) → ⊥
+  pub cut_off : Reported (report_of All []) (replicate 10 0) (take 10 refused12) (Ok 10) → ⊥
   -- ---- `replay_part`
   -- The lines of a part are numbered from 1: the second event of document 01's capture is its first.
   pub numbered_from_one : TellsPart 1 1 (three_events ++ its_trailer)
@@ -68,4 +67,4 @@ pub record WrongAnswers : Type 0 where
   pub next_behind_the_last : TellsPart 2 1 (three_events ++ its_trailer)
       (ran_word ++ (digit 1 ∷ newline ∷ []) ++ gap_line 3 0 0 no_status 4 ++ owner_none ++ next_word ++ (digit 3 ∷ newline ∷ [])) → ⊥
   -- A capture that is refused is told before bad arguments.
-  pub refused_before_bad_arguments : Reported (part_report_of None (Some 1) []) (replicate 64 0) (written_over (replicate 64 0) refused12) (Text 11) → ⊥
+  pub refused_before_bad_arguments : Reported (part_report_of None (Some 1) []) (replicate 64 0) (written_over (replicate 64 0) refused12) (Ok 11) → ⊥

@@ -7,4 +7,5 @@ mod report;
 mod run;
 mod text;
 
-pub use report::{LONGEST_REPORT, Replayed, Wanted, replay, replay_part};
+pub use report::{Wanted, replay, replay_part};
+pub use text::LONGEST_REPORT;

@@ -1,71 +1,66 @@
 // The lines of a report: one for each event, and the owner's.
-ghost use Rattle.std.specs.Prelude.{◌+◌, ◌≤◌, ◌≡◌, length};
+ghost use Rattle.std.specs.Prelude.{◌+◌, ◌≤◌, ◌++◌, ◌≡◌, length};
 ghost use Rattle.drive.specs.Answer.{refusal_in, paper};
-ghost use Rattle.bench.specs.Text.{Put};
 ghost use Rattle.bench.specs.Line.{status_text, event_fields, line_of, owner_line};
 ghost use Rattle.bench.specs.Told.{status_told_by, told_line};
 
 use crate::text;
+use crate::text::Text;
 use drive::Answer;
 
 // A part of an answer that is not there, in its words.
 const ABSENT: u16 = 0xFFFF;
 
-pub(crate) fn put_line(text: &mut [u8], at: usize, number: usize, port: u8, answer: Answer) -> usize
-    requires { at + length (line_of number port answer) ≤ length text.old }
-    ensures { Put text.old at (line_of number port answer) text.new result }
+#[tactic(auto, unfolding(crate::specs::Line::line_of))]
+pub(crate) fn put_line(text: &mut Text, number: usize, port: u8, answer: Answer)
+    requires { length text.old.items + length (line_of number port answer) ≤ 163850 }
+    ensures { text.new.items ≡ text.old.items ++ line_of number port answer }
 {
     let refusal = refusal_of(answer);
     let status = status_text(answer);
-    let end = put_event(text, at, number, port, refusal as usize, &status);
-    text::put_octet(text, end, text::NEWLINE)
+    put_event(text, number, port, usize::from(refusal), &status);
+    text.push(text::NEWLINE);
 }
 
 // The line of an event of a part, by the words that tell its answer.
+#[tactic(auto, unfolding(crate::specs::Told::told_line))]
 pub(crate) fn put_told_line(
-    text: &mut [u8],
-    at: usize,
+    text: &mut Text,
     number: usize,
     port: u8,
     refusal: u16,
     status: u16,
     gap: u16,
-) -> usize
-    requires { at + length (told_line number port refusal status gap) ≤ length text.old }
-    ensures { Put text.old at (told_line number port refusal status gap) text.new result }
+)
+    requires { length text.old.items + length (told_line number port refusal status gap) ≤ 163850 }
+    ensures { text.new.items ≡ text.old.items ++ told_line number port refusal status gap }
 {
     let told = status_told_by(status);
-    let space_at = put_event(text, at, number, port, refusal as usize, &told);
-    let gap_at = text::put_octet(text, space_at, text::SPACE);
-    let end = text::put_decimal(text, gap_at, gap as usize);
-    text::put_octet(text, end, text::NEWLINE)
+    put_event(text, number, port, usize::from(refusal), &told);
+    text.push(text::SPACE);
+    text::put_decimal(text, usize::from(gap));
+    text.push(text::NEWLINE);
 }
 
-fn put_event(
-    text: &mut [u8],
-    at: usize,
-    number: usize,
-    port: u8,
-    refusal: usize,
-    status: &[u8],
-) -> usize
-    requires { at + length (event_fields number port refusal status.now) ≤ length text.old }
-    ensures { Put text.old at (event_fields number port refusal status.now) text.new result }
+fn put_event(text: &mut Text, number: usize, port: u8, refusal: usize, status: &[u8])
+    requires { length text.old.items + length (event_fields number port refusal status.now) ≤ 163850 }
+    ensures { text.new.items ≡ text.old.items ++ event_fields number port refusal status.now }
 {
-    let port_at = text::put_field(text, at, number);
-    let refusal_at = text::put_field(text, port_at, port as usize);
-    let status_at = text::put_field(text, refusal_at, refusal);
-    text::put(text, status_at, status)
+    text::put_field(text, number);
+    text::put_field(text, usize::from(port));
+    text::put_field(text, refusal);
+    text::put(text, status);
 }
 
-pub(crate) fn put_owner(text: &mut [u8], at: usize, owner: u16) -> usize
-    requires { at + length (owner_line owner) ≤ length text.old }
-    ensures { Put text.old at (owner_line owner) text.new result }
+#[tactic(auto, unfolding(crate::specs::Line::owner_line, laws::specs::Pick::pick))]
+pub(crate) fn put_owner(text: &mut Text, owner: u16)
+    requires { length text.old.items + length (owner_line owner) ≤ 163850 }
+    ensures { text.new.items ≡ text.old.items ++ owner_line owner }
 {
     match owner {
-        0 => text::put(text, at, b"owner 0\n"),
-        1 => text::put(text, at, b"owner 1\n"),
-        _ => text::put(text, at, b"owner none\n"),
+        0 => text::put(text, b"owner 0\n"),
+        1 => text::put(text, b"owner 1\n"),
+        _ => text::put(text, b"owner none\n"),
     }
 }
 
@@ -85,6 +80,7 @@ fn refusal_of(answer: Answer) -> u8
 }
 
 // The status of an answer in two digits, or two dashes where it has none. The last word and a response have status 0.
+#[tactic(auto, unfolding(drive::specs::Answer::paper, crate::specs::Text::hex_digit, laws::specs::Pick::pick))]
 fn status_text(answer: Answer) -> [u8; 2]
     ensures { result ≡ status_text (paper answer).status }
 {
@@ -99,6 +95,7 @@ fn status_text(answer: Answer) -> [u8; 2]
     }
 }
 
+#[tactic(auto, unfolding(crate::specs::Told::status_told_by, laws::specs::Pick::pick))]
 fn status_told_by(word: u16) -> [u8; 2]
     ensures { result ≡ status_told_by word }
 {

@@ -1,10 +1,11 @@
 // A part of a capture's records over the bench drive, by the drive's own call.
-ghost use Rattle.std.specs.Prelude.{◌+◌, ◌*◌, ◌%◌, ◌^◌, ◌<◌, ◌≤◌, ◌≡◌, length, drop};
-ghost use Rattle.bench.specs.Text.{Put};
+ghost use Rattle.std.specs.Prelude.{◌+◌, ◌*◌, ◌%◌, ◌^◌, ◌<◌, ◌≤◌, ◌++◌, ◌≡◌, length, drop};
 ghost use Rattle.bench.specs.Part.{next_line, part_report};
 ghost use Rattle.bench.specs.Told.{told_lines, told_report, There, Ready, Made};
 
+use crate::text::Text;
 use crate::{line, run, text};
+use capture::RECORD_LENGTH;
 use refusals::Refusal;
 
 // As many as the longest capture has.
@@ -22,9 +23,9 @@ const OWNER: usize = 8;
 // In a record.
 const PORT: usize = 2;
 
-pub(crate) fn put_part(text: &mut [u8], records: &[u8], from: u32, limit: u32) -> usize
-    requires { (length (part_report from limit records.now) ≤ length text.old) × (length records.now ≤ 65528) × (length records.now % 8 ≡ 0) }
-    ensures { Put text.old 0 (part_report from limit records.now) text.new result }
+pub(crate) fn put_part(text: &mut Text, records: &[u8], from: u32, limit: u32)
+    requires { (length text.old.items + length (part_report from limit records.now) ≤ 163850) × (length records.now ≤ 65528) × (length records.now % 8 ≡ 0) }
+    ensures { text.new.items ≡ text.old.items ++ part_report from limit records.now }
 {
     let mut state = [0u16; STATE_WORDS];
     let mut sectors = [0u16; 48];
@@ -44,8 +45,8 @@ pub(crate) fn put_part(text: &mut [u8], records: &[u8], from: u32, limit: u32) -
     );
     match part {
         Ok(count) => put_told(text, records, first, count, &answers, &gaps, state[OWNER]),
-        // Not reached: there is room, and the records are whole.
-        Err(_) => 0,
+        // There is room, and the records are whole.
+        Err(_) => unreachable!(),
     }
 }
 
@@ -69,59 +70,50 @@ fn run_part(
 }
 
 fn put_told(
-    text: &mut [u8],
+    text: &mut Text,
     records: &[u8],
     from: usize,
     count: usize,
     answers: &[u16],
     gaps: &[u16],
     owner: u16,
-) -> usize
-    requires { There from count records.now answers.now gaps.now × (from + count < 2 ^ 64) × (length (told_report from count owner records.now answers.now gaps.now) ≤ length text.old) }
-    ensures { Put text.old 0 (told_report from count owner records.now answers.now gaps.now) text.new result }
+)
+    requires { There from count records.now answers.now gaps.now × (from + count < 2 ^ 64) × (length text.old.items + length (told_report from count owner records.now answers.now gaps.now) ≤ 163850) }
+    ensures { text.new.items ≡ text.old.items ++ told_report from count owner records.now answers.now gaps.now }
 {
-    let at = text::put_numbered(text, 0, b"ran ", count);
-    let owner_at = put_lines(text, at, records, from, count, answers, gaps);
-    let next_at = line::put_owner(text, owner_at, owner);
-    put_next(
-        text,
-        next_at,
-        records.len() / run::RECORD_LENGTH,
-        from + count,
-    )
+    text::put_numbered(text, b"ran ", count);
+    put_lines(text, records, from, count, answers, gaps);
+    line::put_owner(text, owner);
+    put_next(text, records.len() / RECORD_LENGTH, from + count);
 }
 
 fn put_lines(
-    text: &mut [u8],
-    at: usize,
+    text: &mut Text,
     records: &[u8],
     from: usize,
     count: usize,
     answers: &[u16],
     gaps: &[u16],
-) -> usize
-    requires { There from count records.now answers.now gaps.now × (at + length (told_lines (from + 1) count (drop (8 * from) records.now) answers.now gaps.now) ≤ length text.old) }
-    ensures { Put text.old at (told_lines (from + 1) count (drop (8 * from) records.now) answers.now gaps.now) text.new result }
+)
+    requires { There from count records.now answers.now gaps.now × (length text.old.items + length (told_lines (from + 1) count (drop (8 * from) records.now) answers.now gaps.now) ≤ 163850) }
+    ensures { text.new.items ≡ text.old.items ++ told_lines (from + 1) count (drop (8 * from) records.now) answers.now gaps.now }
 {
-    let mut end = at;
-    let mut i = 0;
-    while i < count {
-        let port = records[run::RECORD_LENGTH * (from + i) + PORT];
+    for i in 0..count {
+        let port = records[RECORD_LENGTH * (from + i) + PORT];
         let refusal = answers[ANSWER_WORDS * i];
         let status = answers[ANSWER_WORDS * i + 1];
-        let gap = gaps[i];
-        i += 1;
-        end = line::put_told_line(text, end, from + i, port, refusal, status, gap);
+        line::put_told_line(text, from + (i + 1), port, refusal, status, gaps[i]);
     }
-    end
 }
 
-fn put_next(text: &mut [u8], at: usize, record_count: usize, next: usize) -> usize
-    requires { at + length (next_line record_count next) ≤ length text.old }
-    ensures { Put text.old at (next_line record_count next) text.new result }
+#[tactic(auto, unfolding(crate::specs::Part::next_line, laws::specs::Pick::pick))]
+fn put_next(text: &mut Text, record_count: usize, next: usize)
+    requires { length text.old.items + length (next_line record_count next) ≤ 163850 }
+    ensures { text.new.items ≡ text.old.items ++ next_line record_count next }
 {
     if next < record_count {
-        return text::put_numbered(text, at, b"next ", next);
+        text::put_numbered(text, b"next ", next);
+    } else {
+        text::put(text, b"end\n");
     }
-    text::put(text, at, b"end\n")
 }

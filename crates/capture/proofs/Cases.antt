@@ -7,4 +7,4 @@ use Rattle.capture.specs.Cases.{CaptureCases}
 
 pub capture_cases_lem : CaptureCases
 unfolding pick record_of
-capture_cases_lem = record { encoded = refl; decoded = record { answer = refl; on_paper = refl }; second = record { answer = refl; on_paper = refl } }
+capture_cases_lem = record { encoded = refl; decoded = record { answer = refl }; second = record { answer = refl } }

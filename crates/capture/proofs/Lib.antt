@@ -1,5 +1,4 @@
 pub mod Pieces
-pub mod Promised
 pub mod Decoding
 pub mod RecordOctets
 pub mod Trailer

@@ -11,41 +11,39 @@ use lib.ListN.{length, take, drop, length-drop, take-append-drop}
 use lib.Seq.{length-take-le, take-add, take_at, take-append_seam, drop-append_seam}
 use Rattle.laws.specs.Lists.{written_over}
 use Rattle.laws.specs.Octets.{AllOctets}
-use Rattle.capture.specs.Record.{record_of, record_octets, record_rows, DecodedRecord, EncodedRecord}
+use Rattle.capture.specs.Record.{record_octets, record_rows, DecodedRecord, EncodedRecord}
 use Rattle.capture.specs.Capture.{distance_of, first_record, capture_rows, DecodedCapture, NotesGiven, RecordsGiven}
 use Rattle.capture.specs.Encoding.{trailer_for, capture_octets, capture_length, encode_rows, EncodedCapture}
 use Rattle.capture.specs.RoundTrip.{RecordRoundTrip, CaptureRoundTrip}
 use Rattle.capture.specs.declared.«record».Record.{Record}
-use Rattle.capture.specs.declared.«record».RecordRead.{RecordRead}
-use Rattle.capture.specs.declared.«record».Encoded.{Encoded}
-use Rattle.capture.specs.declared.capture.CaptureRead.{CaptureRead}
-use Rattle.capture.specs.declared.encoding.CaptureEncoded.{CaptureEncoded}
+use Rattle.std.specs.Prelude.{Result, Ok, ⊤}
+use Rattle.refusals.specs.declared.refusal.Refusal.{Refusal}
+use Rattle.refusals.proofs.OnPaper.{value_given, done, paper_only}
 use Rattle.laws.proofs.Tests.{or_l, or_r}
-use Rattle.laws.proofs.Rows.{none_given, accepted}
+use Rattle.laws.proofs.Rows.{none_given, all_passed}
 use Rattle.capture.proofs.Decoding.{Whole, whole, whole_parts}
-use Rattle.capture.proofs.Promised.{record_decoded, capture_decoded}
 use Rattle.capture.proofs.RecordOctets.{octets_of_record, record_of_octets}
 use Rattle.capture.proofs.Trailer.{distance_held, same_trailer, length_capture, distance_of_capture, capture_has_mark}
 
 -- ---- a record
 
-has_written : {event : Record} {before after : List ℕ} {answer : Encoded} → 8 ≤ length before → EncodedRecord event before after answer
-    → (answer ≡ Encoded.Written) × (after ≡ written_over before (record_octets event))
+has_written : {event : Record} {before after : List ℕ} {answer : Result ⊤ Refusal} → 8 ≤ length before → EncodedRecord event before after answer
+    → (answer ≡ Ok tt) × (after ≡ written_over before (record_octets event))
 has_written {event} {before} h e =
     let free = none_given (record_rows before) (le-ltb _ _ h, tt) in
-    (e.answer ∙ rw free, e.slice ∙ rw free)
+    (done (e.answer ∙ free), e.slice ∙ rw free)
 
-decoded_octets : (octets : List ℕ) (event : Record) → AllOctets octets → DecodedRecord octets (RecordRead.Decoded event) → record_octets event ≡ take 8 octets
+decoded_octets : (octets : List ℕ) (event : Record) → AllOctets octets → DecodedRecord octets (Ok event) → record_octets event ≡ take 8 octets
 decoded_octets octets event all d =
-    let (is, (long, end)) = accepted (record_rows octets) RecordRead.Refused (RecordRead.Decoded event) (RecordRead.Decoded (record_of octets)) refl (λ n e. cc) d.answer in
-    let same : event ≡ record_of octets = cc in
+    let (free, same) = value_given (record_rows octets) d.answer in
+    let (long, end) = all_passed (record_rows octets) refl free in
     rw same (octets_of_record octets (ltb-false _ _ long) all)
 
-encoded_record : (event : Record) (rest : List ℕ) → event.tick < 2 ^ 16 → DecodedRecord (record_octets event ++ rest) (RecordRead.Decoded event)
+encoded_record : (event : Record) (rest : List ℕ) → event.tick < 2 ^ 16 → DecodedRecord (record_octets event ++ rest) (Ok event)
 encoded_record event rest h =
     let octets = record_octets event ++ rest in
     let free = none_given (record_rows octets) (le-ltb (length octets) 8 (omega arith), tt) in
-    record_decoded (rw (free, record_of_octets event rest h))
+    record { answer = rw (free, record_of_octets event rest h) }
 
 pub record_round_trip : RecordRoundTrip
 record_round_trip =
@@ -77,20 +75,20 @@ module _ (octets notes records : List ℕ) (first count : ℕ) (all : AllOctets 
       let back = ap trailer_for records_distance ∙ same_trailer octets w.long all w.marked in
       ap₂ ◌++◌ front back ∙ take-append-drop (length octets - 8) octets
 
-  encoded_again : (before after : List ℕ) (answer : CaptureEncoded) → length octets ≤ length before
-      → EncodedCapture notes records before after answer → (answer ≡ CaptureEncoded.Written (length octets)) × (after ≡ written_over before octets)
+  encoded_again : (before after : List ℕ) (answer : Result ℕ Refusal) → length octets ≤ length before
+      → EncodedCapture notes records before after answer → (answer ≡ Ok (length octets)) × (after ≡ written_over before octets)
   encoded_again before after answer h e =
       let long : capture_length notes records ≡ length octets = sym (length_capture notes records) ∙ ap length same_capture in
       let even : length records % 8 ≡ 0 = ap (λ (n : ℕ). n % 8) records_distance ∙ w.even in
       let held : length records < 256 ^ 4 = rw records_distance (distance_held octets w.long all) in
       let fit : (not (eqb (length records % 8) 0) || leb (256 ^ 4) (length records)) ≡ false = rw (eq-eqb _ _ even, lt-leb _ _ held) in
       let free = none_given (encode_rows notes records before) (le-ltb (length before) (capture_length notes records) (rw long h), (fit, tt)) in
-      (e.answer ∙ rw (free, long), e.slice ∙ rw (free, same_capture))
+      (paper_only (e.answer ∙ rw (free, long)), e.slice ∙ rw (free, same_capture))
 
 -- ---- a capture, put together and taken apart again
 
 module _ (notes records : List ℕ) (even : length records % 8 ≡ 0) (held : length records < 256 ^ 4) where
-  decoded_again : DecodedCapture (capture_octets notes records) (CaptureRead.Capture (length notes) (length records / 8))
+  decoded_again : DecodedCapture (capture_octets notes records) (Ok (record { first = length notes; count = length records / 8 }))
   decoded_again =
       let octets = capture_octets notes records in
       let long = length_capture notes records in
@@ -99,7 +97,7 @@ module _ (notes records : List ℕ) (even : length records % 8 ≡ 0) (held : le
       let fit : (not (eqb (distance_of octets % 8) 0) || ltb (length octets - 8) (distance_of octets)) ≡ false =
       rw (distance, eq-eqb _ _ even) (le-ltb (length octets - 8) (length records) (omega arith)) in
       let free = none_given (capture_rows octets) (le-ltb (length octets) 8 (omega arith), (rw (capture_has_mark notes records), (fit, tt))) in
-      capture_decoded (rw (free, starts, distance))
+      record { answer = rw (free, starts, distance) }
 
   parts_again : NotesGiven (capture_octets notes records) notes × RecordsGiven (capture_octets notes records) records
   parts_again =
@@ -112,20 +110,19 @@ module _ (notes records : List ℕ) (even : length records % 8 ≡ 0) (held : le
         record { records = sym (r ∙ rw (size, split, drop-append_seam notes (records ++ trailer)) (take-append_seam records trailer)) },
       )
 
-taken_apart : (notes records before after : List ℕ) (size : ℕ) → EncodedCapture notes records before after (CaptureEncoded.Written size)
+taken_apart : (notes records before after : List ℕ) (size : ℕ) → EncodedCapture notes records before after (Ok size)
     → let octets = take size after in
-    DecodedCapture octets (CaptureRead.Capture (length notes) (length records / 8)) × NotesGiven octets notes × RecordsGiven octets records
+    DecodedCapture octets (Ok (record { first = length notes; count = length records / 8 })) × NotesGiven octets notes × RecordsGiven octets records
 taken_apart notes records before after size e =
     let octets = capture_octets notes records in
-    let made = CaptureEncoded.Written (capture_length notes records) in
-    let (is, passed) = accepted (encode_rows notes records before) CaptureEncoded.Refused (CaptureEncoded.Written size) made refl (λ n e. cc) e.answer in
-    let (room, (fit, end)) = passed in
+    let (free, is) = value_given (encode_rows notes records before) e.answer in
+    let (room, (fit, end)) = all_passed (encode_rows notes records before) refl free in
     let whole_records : not (eqb (length records % 8) 0) ≡ false = search or_l in
     let within : leb (256 ^ 4) (length records) ≡ false = search or_r in
     let even : length records % 8 ≡ 0 = eqb-true _ _ (not-false _ whole_records) in
     let held : length records < 256 ^ 4 = leb-false _ _ within in
-    let sized : length octets ≡ size = length_capture notes records ∙ cc in
-    let slice : after ≡ written_over before octets = e.slice ∙ rw (none_given (encode_rows notes records before) passed) in
+    let sized : length octets ≡ size = length_capture notes records ∙ sym is in
+    let slice : after ≡ written_over before octets = e.slice ∙ rw free in
     let taken : take size after ≡ octets = rw slice (take_at octets (drop (length octets) before) size sized) in
     let parts = parts_again notes records even held in
     rw taken (decoded_again notes records even held, parts.0, parts.1)
@@ -133,7 +130,7 @@ taken_apart notes records before after size e =
 pub capture_round_trip : CaptureRoundTrip
 capture_round_trip =
     record {
-      encode_decode = λ octets notes records before after first count answer all d n r h e.
-          encoded_again octets notes records first count all (whole d) n r before after answer h e;
+      encode_decode = λ octets notes records before after found answer all d n r h e.
+          encoded_again octets notes records found.first found.count all (whole d) n r before after answer h e;
       decode_encode = taken_apart;
     }

@@ -1,10 +1,11 @@
 -- "Capture": the trailer, and the parts of a capture that it tells.
-use Rattle.std.specs.Prelude.{ℕ, ◌-◌, ◌/◌, ◌%◌, ◌≡◌, Bool, not, ◌||◌, List, [], ◌∷◌, eqb, ltb, length, take, drop}
-use Rattle.laws.specs.Rows.{Row, first, ◌when◌, unless_refused, Paper, refused_with, tells, refused_or}
+use Rattle.std.specs.Prelude.{ℕ, ◌-◌, ◌/◌, ◌%◌, ◌≡◌, Bool, not, ◌||◌, List, [], ◌∷◌, Result, eqb, ltb, length, take, drop}
+use Rattle.laws.specs.Rows.{Row, first, ◌when◌, unless_refused, refused_or}
 use Rattle.laws.specs.Lists.{same_list}
 use Rattle.laws.specs.Octets.{number_of}
-use Rattle.capture.specs.declared.capture.CaptureRead.{CaptureRead}
-use Rattle.capture.specs.declared.capture.CaptureRead.TheVariants.{Capture, Refused}
+use Rattle.refusals.specs.Refusal.{on_paper}
+use Rattle.refusals.specs.declared.refusal.Refusal.{Refusal}
+use Rattle.capture.specs.declared.capture.Capture.{Capture}
 
 -- "49 50 49 32"
 abbrev pub mark : List ℕ
@@ -38,27 +39,13 @@ capture_refusal octets = first (capture_rows octets)
 abbrev pub first_record : List ℕ → ℕ
 first_record octets = length octets - 8 - distance_of octets
 
--- The number that an answer refuses with, 0 where it refuses nothing.
-abbrev pub refusal_in : CaptureRead → ℕ
-refusal_in (Capture first count) = 0
-refusal_in (Refused n) = n
-
--- The answer on paper: the number of the refusal, or where the first record starts and how many records there are.
-pub record Found : Type 0 where
-  pub first : ℕ
-  pub count : ℕ
-
-abbrev pub paper : CaptureRead → Paper Found
-paper (Capture first count) = tells (record { first = first; count = count })
-paper (Refused n) = refused_with n
-
-abbrev pub capture_in : List ℕ → CaptureRead
-capture_in octets = unless_refused (capture_refusal octets) (Refused (capture_refusal octets)) (Capture (first_record octets) (distance_of octets / 8))
+-- Where the first record starts, and how many records there are.
+abbrev pub capture_in : List ℕ → Capture
+capture_in octets = record { first = first_record octets; count = distance_of octets / 8 }
 
 -- The promise of `decode_capture`.
-pub record DecodedCapture (octets : List ℕ) (r : CaptureRead) : Type 0 where
-  pub answer : r ≡ capture_in octets
-  pub on_paper : paper r ≡ refused_or (capture_rows octets) (record { first = first_record octets; count = distance_of octets / 8 })
+pub record DecodedCapture (octets : List ℕ) (r : Result Capture Refusal) : Type 0 where
+  pub answer : on_paper r ≡ refused_or (capture_rows octets) (capture_in octets)
 
 -- "Octets before that record are bench notes, kept and ignored." None where the capture is refused.
 unfoldable pub notes_of : List ℕ → List ℕ

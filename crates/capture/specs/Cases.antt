@@ -1,11 +1,9 @@
 -- The capture of three events that document 01 writes out.
-use Rattle.std.specs.Prelude.{ℕ, ◌≡◌, List, [], ◌∷◌, ◌++◌}
+use Rattle.std.specs.Prelude.{ℕ, ◌≡◌, List, [], ◌∷◌, ◌++◌, Ok}
 use Rattle.capture.specs.Record.{DecodedRecord}
 use Rattle.capture.specs.Capture.{DecodedCapture}
 use Rattle.capture.specs.Encoding.{capture_octets}
 use Rattle.capture.specs.declared.«record».Record.{Record}
-use Rattle.capture.specs.declared.«record».RecordRead.TheVariants.{Decoded}
-use Rattle.capture.specs.declared.capture.CaptureRead.TheVariants.{Capture}
 
 -- "Three events, whole, hex: `00 00 00 01 30 00 00 00`, `00 05 01 01 30 00 00 00`, `00 09 00 02 00 00 00 00`"
 abbrev pub three_events : List ℕ
@@ -25,5 +23,5 @@ second_event = record { tick = 5; port = 1; kind = 1; a0 = 0x30; a1 = 0; a2 = 0;
 
 pub record CaptureCases : Type 0 where
   pub encoded : capture_octets [] three_events ≡ three_events ++ its_trailer
-  pub decoded : DecodedCapture (three_events ++ its_trailer) (Capture 0 3)
-  pub second : DecodedRecord (0x00 ∷ 0x05 ∷ 0x01 ∷ 0x01 ∷ 0x30 ∷ 0x00 ∷ 0x00 ∷ 0x00 ∷ []) (Decoded second_event)
+  pub decoded : DecodedCapture (three_events ++ its_trailer) (Ok (record { first = 0; count = 3 }))
+  pub second : DecodedRecord (0x00 ∷ 0x05 ∷ 0x01 ∷ 0x01 ∷ 0x30 ∷ 0x00 ∷ 0x00 ∷ 0x00 ∷ []) (Ok second_event)

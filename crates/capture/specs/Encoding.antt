@@ -1,11 +1,11 @@
 -- "Capture", put together: notes, records and their trailer.
-use Rattle.std.specs.Prelude.{ℕ, ◌+◌, ◌%◌, ◌^◌, ◌≡◌, not, ◌||◌, List, [], ◌∷◌, ◌++◌, eqb, ltb, leb, length}
-use Rattle.laws.specs.Rows.{Row, first, ◌when◌, unless_refused, Paper, refused_with, tells, refused_or}
+use Rattle.std.specs.Prelude.{ℕ, ◌+◌, ◌%◌, ◌^◌, ◌≡◌, not, ◌||◌, List, [], ◌∷◌, ◌++◌, Result, eqb, ltb, leb, length}
+use Rattle.laws.specs.Rows.{Row, first, ◌when◌, unless_refused, refused_or}
 use Rattle.laws.specs.Octets.{octets_of}
 use Rattle.laws.specs.Lists.{written_over}
 use Rattle.capture.specs.Capture.{mark}
-use Rattle.capture.specs.declared.encoding.CaptureEncoded.{CaptureEncoded}
-use Rattle.capture.specs.declared.encoding.CaptureEncoded.TheVariants.{Written, Refused}
+use Rattle.refusals.specs.Refusal.{on_paper}
+use Rattle.refusals.specs.declared.refusal.Refusal.{Refusal}
 
 -- "an 8-octet trailer: the distance back from the trailer to the first record (4, high first) and 49 50 49 32"
 abbrev pub trailer_for : ℕ → List ℕ
@@ -30,22 +30,7 @@ encode_rows notes records out =
 abbrev pub encode_refusal : List ℕ → List ℕ → List ℕ → ℕ
 encode_refusal notes records out = first (encode_rows notes records out)
 
--- The number that an answer refuses with, 0 where it refuses nothing.
-abbrev pub refusal_in : CaptureEncoded → ℕ
-refusal_in (Written size) = 0
-refusal_in (Refused n) = n
-
--- The answer on paper: the number of the refusal, or how many octets the capture has.
-abbrev pub paper : CaptureEncoded → Paper ℕ
-paper (Written size) = tells size
-paper (Refused n) = refused_with n
-
-abbrev pub encoded_in : List ℕ → List ℕ → List ℕ → CaptureEncoded
-encoded_in notes records out =
-    unless_refused (encode_refusal notes records out) (Refused (encode_refusal notes records out)) (Written (capture_length notes records))
-
 -- The promise of `encode_capture`.
-pub record EncodedCapture (notes records before after : List ℕ) (r : CaptureEncoded) : Type 0 where
-  pub answer : r ≡ encoded_in notes records before
-  pub on_paper : paper r ≡ refused_or (encode_rows notes records before) (capture_length notes records)
+pub record EncodedCapture (notes records before after : List ℕ) (r : Result ℕ Refusal) : Type 0 where
+  pub answer : on_paper r ≡ refused_or (encode_rows notes records before) (capture_length notes records)
   pub slice : after ≡ unless_refused (encode_refusal notes records before) before (written_over before (capture_octets notes records))

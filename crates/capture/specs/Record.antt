@@ -1,11 +1,11 @@
 -- "Records of 8 octets": what the two calls on a record answer.
-use Rattle.std.specs.Prelude.{ℕ, ◌≡◌, List, [], ◌∷◌, ◌++◌, ltb, length, get_or, take}
-use Rattle.laws.specs.Rows.{Row, first, ◌when◌, unless_refused, Paper, refused_with, tells, refused_or}
+use Rattle.std.specs.Prelude.{ℕ, ◌≡◌, List, [], ◌∷◌, ◌++◌, Result, ltb, length, get_or, take, ⊤}
+use Rattle.laws.specs.Rows.{Row, first, ◌when◌, unless_refused, refused_or}
 use Rattle.laws.specs.Octets.{number_of, octets_of}
 use Rattle.laws.specs.Lists.{written_over}
 use Rattle.capture.specs.declared.«record».Record.{Record}
-use Rattle.capture.specs.declared.«record».RecordRead.{RecordRead}
-use Rattle.capture.specs.declared.«record».Encoded.{Encoded}
+use Rattle.refusals.specs.Refusal.{on_paper, refusal_in}
+use Rattle.refusals.specs.declared.refusal.Refusal.{Refusal}
 
 -- "Records of 8 octets: tick (2, high first), port, kind, four argument octets (high first, unused ones last)."
 unfoldable pub record_of : List ℕ → Record
@@ -32,31 +32,11 @@ record_rows slice = 10 when ltb (length slice) 8 ∷ []
 abbrev pub record_refusal : List ℕ → ℕ
 record_refusal slice = first (record_rows slice)
 
--- The number that an answer refuses with, 0 where it refuses nothing.
-abbrev pub refusal_in : RecordRead → ℕ
-refusal_in (RecordRead.Decoded event) = 0
-refusal_in (RecordRead.Refused n) = n
-
--- What `encode_record` answers, on paper: the number that it refuses with, 0 where it refuses nothing.
-abbrev pub refusal_in_encoded : Encoded → ℕ
-refusal_in_encoded Encoded.Written = 0
-refusal_in_encoded (Encoded.Refused n) = n
-
--- What `decode_record` answers, on paper: the number of the refusal, or the values of the record.
-abbrev pub paper : RecordRead → Paper Record
-paper (RecordRead.Decoded event) = tells event
-paper (RecordRead.Refused n) = refused_with n
-
-abbrev pub record_in : List ℕ → RecordRead
-record_in octets = unless_refused (record_refusal octets) (RecordRead.Refused (record_refusal octets)) (RecordRead.Decoded (record_of octets))
-
 -- The promise of `decode_record`.
-pub record DecodedRecord (octets : List ℕ) (r : RecordRead) : Type 0 where
-  pub answer : r ≡ record_in octets
-  pub on_paper : paper r ≡ refused_or (record_rows octets) (record_of octets)
+pub record DecodedRecord (octets : List ℕ) (r : Result Record Refusal) : Type 0 where
+  pub answer : on_paper r ≡ refused_or (record_rows octets) (record_of octets)
 
 -- The promise of `encode_record`.
-pub record EncodedRecord (event : Record) (before after : List ℕ) (r : Encoded) : Type 0 where
-  pub answer : r ≡ unless_refused (record_refusal before) (Encoded.Refused (record_refusal before)) Encoded.Written
-  pub on_paper : refusal_in_encoded r ≡ record_refusal before
+pub record EncodedRecord (event : Record) (before after : List ℕ) (r : Result ⊤ Refusal) : Type 0 where
+  pub answer : refusal_in r ≡ record_refusal before
   pub slice : after ≡ unless_refused (record_refusal before) before (written_over before (record_octets event))

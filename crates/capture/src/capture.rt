@@ -1,16 +1,17 @@
 // A capture: notes, records, and a trailer that says where the records start.
-ghost use Rattle.std.specs.Prelude.{[], ◌∷◌, ◌≡◌, length, take, drop};
+ghost use Rattle.std.specs.Prelude.{◌≡◌, length, take, drop};
 ghost use Rattle.laws.specs.Octets.{number_of};
 ghost use Rattle.laws.specs.Lists.{same_list};
 ghost use Rattle.capture.specs.Capture.{DecodedCapture, NotesGiven, RecordsGiven, mark};
 
 use crate::record::RECORD_LENGTH;
+use refusals::Refusal;
 
-#[derive(Clone, Copy)]
-pub enum CaptureRead {
-    // Where the first record starts, and how many records there are.
-    Capture { first: usize, count: usize },
-    Refused(u8),
+// Where the first record of a capture starts, and how many records there are.
+#[derive(Clone, Copy, Debug, PartialEq, Eq)]
+pub struct Capture {
+    pub first: usize,
+    pub count: usize,
 }
 
 pub(crate) const TRAILER_LENGTH: usize = 8;
@@ -19,28 +20,23 @@ pub(crate) const MARK: [u8; 4] = [0x49, 0x50, 0x49, 0x32];
 
 // What the trailer says of a capture. 12 where there is no trailer, 13 where its mark is wrong, 14 where its distance is no
 // whole number of records or goes back before the first octet.
-pub fn decode_capture(octets: &[u8]) -> CaptureRead
+pub fn decode_capture(octets: &[u8]) -> Result<Capture, Refusal>
     ensures { DecodedCapture octets.now result }
 {
-    if octets.len() < TRAILER_LENGTH {
-        return CaptureRead::Refused(12);
-    }
-    let body = octets.len() - TRAILER_LENGTH;
-    let trailer = &octets[body..];
+    let Some((body, trailer)) = octets.split_last_chunk::<TRAILER_LENGTH>() else {
+        return Err(Refusal::NoTrailer);
+    };
     if !has_mark(trailer) {
-        return CaptureRead::Refused(13);
+        return Err(Refusal::WrongMark);
     }
     let distance = distance_of(trailer);
-    if distance % RECORD_LENGTH != 0 {
-        return CaptureRead::Refused(14);
+    if distance % RECORD_LENGTH != 0 || body.len() < distance {
+        return Err(Refusal::WrongDistance);
     }
-    if body < distance {
-        return CaptureRead::Refused(14);
-    }
-    CaptureRead::Capture {
-        first: body - distance,
+    Ok(Capture {
+        first: body.len() - distance,
         count: distance / RECORD_LENGTH,
-    }
+    })
 }
 
 // The notes of a capture: the octets before the first record. None where it is refused.
@@ -48,8 +44,8 @@ pub fn notes(octets: &[u8]) -> &[u8]
     ensures { NotesGiven octets.now result.now }
 {
     match decode_capture(octets) {
-        CaptureRead::Capture { first, count: _ } => &octets[..first],
-        CaptureRead::Refused(_) => &octets[..0],
+        Ok(capture) => &octets[..capture.first],
+        Err(_) => &[],
     }
 }
 
@@ -58,30 +54,19 @@ pub fn records(octets: &[u8]) -> &[u8]
     ensures { RecordsGiven octets.now result.now }
 {
     match decode_capture(octets) {
-        CaptureRead::Capture { first, count: _ } => &octets[first..octets.len() - TRAILER_LENGTH],
-        CaptureRead::Refused(_) => &octets[..0],
+        Ok(capture) => &octets[capture.first..octets.len() - TRAILER_LENGTH],
+        Err(_) => &[],
     }
 }
 
-fn has_mark(trailer: &[u8]) -> bool
-    requires { length trailer.now ≡ 8 }
+fn has_mark(trailer: &[u8; TRAILER_LENGTH]) -> bool
     ensures { result ≡ same_list (drop 4 trailer.now) mark }
 {
-    (trailer[4] == MARK[0])
-        & (trailer[5] == MARK[1])
-        & (trailer[6] == MARK[2])
-        & (trailer[7] == MARK[3])
+    trailer[4..] == MARK[..]
 }
 
-fn distance_of(trailer: &[u8]) -> usize
-    requires { length trailer.now ≡ 8 }
+fn distance_of(trailer: &[u8; TRAILER_LENGTH]) -> usize
     ensures { result ≡ number_of (take 4 trailer.now) }
 {
-    long(trailer[0], trailer[1], trailer[2], trailer[3])
-}
-
-fn long(a: u8, b: u8, c: u8, d: u8) -> usize
-    ensures { result ≡ number_of (a ∷ b ∷ c ∷ d ∷ []) }
-{
-    ((a as usize * 256 + b as usize) * 256 + c as usize) * 256 + d as usize
+    u32::from_be_bytes([trailer[0], trailer[1], trailer[2], trailer[3]]) as usize
 }

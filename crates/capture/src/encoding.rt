@@ -1,45 +1,31 @@
 // A capture put together in a lent slice: notes, records, and the trailer that says where the records start.
-ghost use Rattle.std.specs.Prelude.{◌+◌, ◌^◌, ◌<◌, ◌≤◌, ◌≡◌, ltb, length};
+ghost use Rattle.std.specs.Prelude.{◌+◌, ◌≤◌, ◌≡◌, ltb, length};
 ghost use Rattle.laws.specs.Lists.{written_over, written_at};
 ghost use Rattle.capture.specs.Encoding.{capture_length, capture_octets, trailer_for, EncodedCapture};
 
 use crate::capture::{MARK, TRAILER_LENGTH};
 use crate::record::RECORD_LENGTH;
+use refusals::Refusal;
 
-#[derive(Clone, Copy)]
-pub enum CaptureEncoded {
-    // How many octets the capture has.
-    Written(usize),
-    Refused(u8),
-}
-
-// The most that four octets can hold.
-const MOST_DISTANCE: usize = 0xFFFF_FFFF;
-
-// Notes, records and their trailer at the front of `out`, the rest of it as it was. 10 where `out` cannot hold them, 8 where
-// the records are not whole or the trailer cannot tell how long they are.
-pub fn encode_capture(notes: &[u8], records: &[u8], out: &mut [u8]) -> CaptureEncoded
+// Notes, records and their trailer at the front of `out`, the rest of it as it was, and how many octets they are. 10 where
+// `out` cannot hold them, 8 where the records are not whole or the trailer cannot tell how long they are.
+pub fn encode_capture(notes: &[u8], records: &[u8], out: &mut [u8]) -> Result<usize, Refusal>
     ensures { EncodedCapture notes.now records.now out.old out.new result }
 {
     if lacks_room(out.len(), notes.len(), records.len()) {
-        return CaptureEncoded::Refused(10);
+        return Err(Refusal::SliceTooShort);
     }
-    if (records.len() % RECORD_LENGTH != 0) | (MOST_DISTANCE < records.len()) {
-        return CaptureEncoded::Refused(8);
+    if records.len() % RECORD_LENGTH != 0 {
+        return Err(Refusal::Malformed);
     }
-    write_capture(notes, records, out);
-    CaptureEncoded::Written(notes.len() + records.len() + TRAILER_LENGTH)
-}
-
-fn write_capture(notes: &[u8], records: &[u8], out: &mut [u8])
-    requires { (capture_length notes.now records.now ≤ length out.old) × (length records.now < 256 ^ 4) }
-    ensures { out.new ≡ written_over out.old (capture_octets notes.now records.now) }
-{
+    let Ok(distance) = u32::try_from(records.len()) else {
+        return Err(Refusal::Malformed);
+    };
     let body = notes.len() + records.len();
-    let trailer = trailer_for(records.len());
     put(out, 0, notes);
     put(out, notes.len(), records);
-    put(out, body, &trailer);
+    put(out, body, &trailer_for(distance));
+    Ok(body + TRAILER_LENGTH)
 }
 
 // Tested step by step: the sum of the lengths may be too large for a number.
@@ -56,30 +42,20 @@ fn lacks_room(room: usize, notes: usize, records: usize) -> bool
     left - notes < records
 }
 
-fn trailer_for(distance: usize) -> [u8; 8]
-    requires { distance < 256 ^ 4 }
+fn trailer_for(distance: u32) -> [u8; TRAILER_LENGTH]
     ensures { result ≡ trailer_for distance }
 {
-    [
-        (distance / 0x100_0000) as u8,
-        (distance / 0x1_0000 % 256) as u8,
-        (distance / 0x100 % 256) as u8,
-        (distance % 256) as u8,
-        MARK[0],
-        MARK[1],
-        MARK[2],
-        MARK[3],
-    ]
+    let [d0, d1, d2, d3] = distance.to_be_bytes();
+    let [m0, m1, m2, m3] = MARK;
+    [d0, d1, d2, d3, m0, m1, m2, m3]
 }
 
-// The octets go to `out` from the index `at` on.
+// The octets go to `out` from the index `at` on. Octet by octet: with `copy_from_slice` the archive calls memmove, and it has to call nothing.
 fn put(out: &mut [u8], at: usize, octets: &[u8])
     requires { at + length octets.now ≤ length out.old }
     ensures { out.new ≡ written_at out.old at octets.now }
 {
-    let mut i = 0;
-    while i < octets.len() {
-        out[at + i] = octets[i];
-        i += 1;
+    for (i, &octet) in octets.iter().enumerate() {
+        out[at + i] = octet;
     }
 }

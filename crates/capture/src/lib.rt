@@ -5,6 +5,6 @@ mod capture;
 mod encoding;
 mod record;
 
-pub use capture::{CaptureRead, decode_capture, notes, records};
-pub use encoding::{CaptureEncoded, encode_capture};
-pub use record::{Encoded, Record, RecordRead, decode_record, encode_record};
+pub use capture::{Capture, decode_capture, notes, records};
+pub use encoding::encode_capture;
+pub use record::{RECORD_LENGTH, Record, decode_record, encode_record};

@@ -1,16 +1,9 @@
-// The set-up that the arguments give.
+// The set-up that the arguments give, if it is one.
 ghost use Rattle.std.specs.Prelude.{◌≡◌, leb};
 ghost use Rattle.laws.specs.Pick.{pick};
 
 use parts::Setup;
-use std::env::FillError;
 use std::rt::Env;
-
-#[derive(Clone, Copy)]
-pub(crate) enum Arguments {
-    Good(Setup),
-    Bad,
-}
 
 // The program's name, and the four numbers.
 const ARGUMENT_COUNT: usize = 5;
@@ -19,9 +12,9 @@ const ARGUMENT_COUNT: usize = 5;
 const MOST_DIGITS: usize = 5;
 
 // A map has nothing to do with the header, field 2 and the drive's address: any within their limits do.
-pub(crate) fn read_arguments(env: &impl Env) -> Arguments {
-    if !is_given(env, ARGUMENT_COUNT - 1) || is_given(env, ARGUMENT_COUNT) {
-        return Arguments::Bad;
+pub(crate) fn read_arguments(env: &impl Env) -> Option<Setup> {
+    if !reading::has_arguments(env, ARGUMENT_COUNT) {
+        return None;
     }
     let setup = Setup {
         cylinders: argument(env, 1),
@@ -32,14 +25,7 @@ pub(crate) fn read_arguments(env: &impl Env) -> Arguments {
         field2: 0,
         address: 0,
     };
-    if setup.within_limits() {
-        return Arguments::Good(setup);
-    }
-    Arguments::Bad
-}
-
-fn is_given(env: &impl Env, index: usize) -> bool {
-    !matches!(env.arg(index, &mut []), Err(FillError::NotPresent))
+    setup.within_limits().then_some(setup)
 }
 
 // 0, which is outside the limits of each, where the argument is no number or no word holds it. One that is longer than its room is read as none.

@@ -27,7 +27,7 @@ pub(crate) fn list_input(
     defects: &mut [u8],
 ) {
     let mut input = rt.reader();
-    let count = read_full(&mut input, octets);
+    let count = reading::read_full(&mut input, octets);
     if MOST_OCTETS < count {
         tell_unless(rt, println!(rt; "too long"));
         return;
@@ -37,20 +37,6 @@ pub(crate) fn list_input(
         return;
     }
     tell_unless(rt, list(rt, setup, &octets[..count], defects));
-}
-
-// Reads until the octets are full, or the input ends or a read fails.
-fn read_full(input: &mut impl Read, octets: &mut [u8]) -> usize
-    ensures { result ≤ length octets.new }
-{
-    let mut count = 0;
-    while count < octets.len() {
-        match input.read(&mut octets[count..]) {
-            Ok(0) | Err(_) => break,
-            Ok(more) => count += more,
-        }
-    }
-    count
 }
 
 // Neither an octet more nor a failure.

@@ -9,13 +9,11 @@
 mod arguments;
 mod listing;
 
-use arguments::{Arguments, read_arguments};
-
 fn main(rt: HostRuntime) {
     let mut octets = [0u8; listing::INPUT_LENGTH];
     let mut defects = [0u8; listing::DEFECTS_LENGTH];
-    match read_arguments(&rt) {
-        Arguments::Good(setup) => listing::list_input(&rt, setup, &mut octets, &mut defects),
-        Arguments::Bad => listing::tell_unless(&rt, println!(rt; "bad arguments")),
+    match arguments::read_arguments(&rt) {
+        Some(setup) => listing::list_input(&rt, setup, &mut octets, &mut defects),
+        None => listing::tell_unless(&rt, println!(rt; "bad arguments")),
     }
 }

@@ -1,48 +1,35 @@
 -- Captures on numbers and slices: from what `capture` answers to the promises of `pg_capture` and `pg_make_capture`.
 -- Assumes nothing.
-use Prim.Native.Nat.{ℕ, ◌/◌}
-use mathlib.Core.Path.{◌≡◌, refl, sym, ap, ◌∙◌}
+use Prim.Native.Nat.{ℕ}
+use mathlib.Core.Path.{refl, sym, ap}
 use mathlib.Core.List.{List}
-use Rattle.laws.specs.Rows.{unless_refused}
-use Rattle.laws.proofs.Rows.{reported, none_given, accepted, declined}
-use Rattle.capture.specs.Capture.{capture_rows, capture_refusal, first_record, distance_of, DecodedCapture}
-use Rattle.capture.specs.Capture as decoding
-use Rattle.capture.specs.Encoding.{encode_rows, encode_refusal, capture_length, EncodedCapture}
-use Rattle.capture.specs.Encoding as encoding
-use Rattle.capture.specs.declared.capture.CaptureRead.TheVariants as read
-use Rattle.capture.specs.declared.encoding.CaptureEncoded.TheVariants as encoded
+use Rattle.std.specs.Prelude.{Ok, Err}
+use Rattle.refusals.specs.Refusal.{number}
+use Rattle.refusals.specs.declared.refusal.Refusal.{Refusal}
+use Rattle.refusals.proofs.OnPaper.{value_given, refusal_given, left_as_it_was}
+use Rattle.capture.specs.Capture.{capture_rows, capture_in, DecodedCapture}
+use Rattle.capture.specs.Encoding.{encode_rows, capture_length, EncodedCapture}
+use Rattle.capture.specs.declared.capture.Capture.{Capture}
 use Rattle.pantoglide.specs.Capture.{CaptureFound, CaptureMade}
 
-pub found : {octets : List ℕ} {first count first₀ count₀ : ℕ} → DecodedCapture octets (read.Capture first count) → CaptureFound octets first₀ count₀ 0 first count
-found {octets} {first} {count} d =
-    let there = read.Capture (first_record octets) (distance_of octets / 8) in
-    let a = accepted (capture_rows octets) read.Refused (read.Capture first count) there refl (λ n e. cc) d.answer in
-    let same : read.Capture first count ≡ there = a.0 in
-    record { refusal = sym (none_given (capture_rows octets) a.1); first = cc; count = cc }
+pub found : {octets : List ℕ} {capture : Capture} {first₀ count₀ : ℕ} → DecodedCapture octets (Ok capture) → CaptureFound octets first₀ count₀ 0 capture.first capture.count
+found {octets} d =
+    let (free, same) = value_given (capture_rows octets) d.answer in
+    record { refusal = sym free; first = ap (λ (c : Capture). c.first) same; count = ap (λ (c : Capture). c.count) same }
 
-pub not_found : {octets : List ℕ} {n first₀ count₀ : ℕ} → DecodedCapture octets (read.Refused n) → CaptureFound octets first₀ count₀ n first₀ count₀
-not_found {octets} {n} {first₀} {count₀} d =
-    let there = read.Capture (first_record octets) (distance_of octets / 8) in
-    let number = ap decoding.refusal_in d.answer ∙ reported decoding.refusal_in read.Refused (λ m. refl) (capture_refusal octets) there refl in
-    let kept : (old new : ℕ) → old ≡ unless_refused n old new = λ old new. rw number (sym (declined (capture_rows octets) read.Refused (read.Refused n) there old new (λ e. cc) d.answer)) in
-    record { refusal = number; first = kept first₀ _; count = kept count₀ _ }
+pub not_found : {octets : List ℕ} {refusal : Refusal} {first₀ count₀ : ℕ} → DecodedCapture octets (Err refusal) → CaptureFound octets first₀ count₀ (number refusal) first₀ count₀
+not_found {octets} {refusal} d =
+    let refused = refusal_given (capture_rows octets) refusal (capture_in octets) d.answer in
+    record { refusal = sym refused; first = sym (left_as_it_was refusal _ refl); count = sym (left_as_it_was refusal _ refl) }
 
-pub made : {notes records out₀ out₁ : List ℕ} {size size₀ : ℕ} → EncodedCapture notes records out₀ out₁ (encoded.Written size)
+pub made : {notes records out₀ out₁ : List ℕ} {size size₀ : ℕ} → EncodedCapture notes records out₀ out₁ (Ok size)
     → CaptureMade notes records out₀ size₀ 0 out₁ size
-made {notes} {records} {out₀} {size = size} d =
-    let a = accepted (encode_rows notes records out₀) encoded.Refused (encoded.Written size) (encoded.Written (capture_length notes records)) refl (λ n e. cc) d.answer in
-    let free = none_given (encode_rows notes records out₀) a.1 in
-    let same : encoded.Written size ≡ encoded.Written (capture_length notes records) = a.0 in
-    record { refusal = sym free; out = rw free at d.slice; size = cc }
+made {notes} {records} {out₀} d =
+    let (free, same) = value_given (encode_rows notes records out₀) d.answer in
+    record { refusal = sym free; out = rw free at d.slice; size = same }
 
-pub not_made : {notes records out₀ out₁ : List ℕ} {n size₀ : ℕ} → EncodedCapture notes records out₀ out₁ (encoded.Refused n)
-    → CaptureMade notes records out₀ size₀ n out₁ size₀
-not_made {notes} {records} {out₀} {n = n} {size₀} d =
-    let there = encoded.Written (capture_length notes records) in
-    let refusal = encode_refusal notes records out₀ in
-    let number = ap encoding.refusal_in d.answer ∙ reported encoding.refusal_in encoded.Refused (λ m. refl) refusal there refl in
-    record {
-      refusal = number;
-      out = rw number d.slice;
-      size = rw number (sym (declined (encode_rows notes records out₀) encoded.Refused (encoded.Refused n) there size₀ (capture_length notes records) (λ e. cc) d.answer));
-    }
+pub not_made : {notes records out₀ out₁ : List ℕ} {refusal : Refusal} {size₀ : ℕ} → EncodedCapture notes records out₀ out₁ (Err refusal)
+    → CaptureMade notes records out₀ size₀ (number refusal) out₁ size₀
+not_made {notes} {records} {out₀} {refusal = refusal} d =
+    let refused = refusal_given (encode_rows notes records out₀) refusal (capture_length notes records) d.answer in
+    record { refusal = sym refused; out = rw refused at d.slice; size = sym (left_as_it_was refusal _ refl) }

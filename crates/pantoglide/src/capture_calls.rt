@@ -1,19 +1,17 @@
 // Captures: where the records of one are, and one put together.
 ghost use Rattle.pantoglide.specs.Capture.{CaptureFound, CaptureMade};
 
-use capture::{CaptureEncoded, CaptureRead};
-
 // 0, where the first record starts and how many there are; or the refusal and nothing changed.
 pub fn pg_capture(octets: &[u8], first_record: &mut usize, record_count: &mut usize) -> u8
     ensures { CaptureFound octets.now first_record.old record_count.old result first_record.new record_count.new }
 {
     match capture::decode_capture(octets) {
-        CaptureRead::Capture { first, count } => {
-            *first_record = first;
-            *record_count = count;
+        Ok(capture) => {
+            *first_record = capture.first;
+            *record_count = capture.count;
             0
         }
-        CaptureRead::Refused(n) => n,
+        Err(refusal) => u8::from(refusal),
     }
 }
 
@@ -22,10 +20,10 @@ pub fn pg_make_capture(notes: &[u8], records: &[u8], out: &mut [u8], size: &mut 
     ensures { CaptureMade notes.now records.now out.old size.old result out.new size.new }
 {
     match capture::encode_capture(notes, records, out) {
-        CaptureEncoded::Written(octets) => {
+        Ok(octets) => {
             *size = octets;
             0
         }
-        CaptureEncoded::Refused(n) => n,
+        Err(refusal) => u8::from(refusal),
     }
 }

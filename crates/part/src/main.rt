@@ -10,7 +10,6 @@
 
 ghost use Rattle.std.specs.Prelude.{◌≤◌, length};
 
-use std::env::FillError;
 use std::rt::Env;
 
 // The program's name, FROM and LIMIT.
@@ -36,12 +35,8 @@ fn main(rt: HostRuntime) {
 fn argument(env: &impl Env, index: usize, digits: &mut [u8]) -> usize
     ensures { result ≤ length digits.new }
 {
-    if !is_given(env, ARGUMENT_COUNT - 1) || is_given(env, ARGUMENT_COUNT) {
+    if !reading::has_arguments(env, ARGUMENT_COUNT) {
         return 0;
     }
     env.arg(index, digits).unwrap_or(0)
-}
-
-fn is_given(env: &impl Env, index: usize) -> bool {
-    !matches!(env.arg(index, &mut []), Err(FillError::NotPresent))
 }

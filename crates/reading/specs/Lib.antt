@@ -1,4 +1,2 @@
 pub mod Input
 pub mod WrongAnswers
--- what a private function goes by
-pub mod Told

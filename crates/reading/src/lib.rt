@@ -1,15 +1,17 @@
-// What the replays, of a whole capture and of a part, do with standard input and output.
+// What the programs do with their arguments, and with standard input and output.
 #![tactic(auto)]
 
-ghost use Rattle.std.specs.Prelude.{◌≤◌, length};
+ghost use Rattle.std.specs.Prelude.{◌≤◌, ◌<◌, IfOk, length};
 ghost use Rattle.numbers.specs.Number.{number_in};
 ghost use Rattle.bench.specs.Report.{report_of, part_report_of};
 ghost use Rattle.bench.specs.declared.report.Wanted.TheVariants.{All};
 ghost use Rattle.reading.specs.Input.{InputReplayed};
-ghost use Rattle.reading.specs.Told.{size_told};
 
-use bench::Replayed;
+use refusals::Refusal;
+use std::env::FillError;
+use std::io;
 use std::io::Read;
+use std::rt::Env;
 
 // The longest capture has 65,536 octets. One more is read, so that a longer one shows: if no more were read than may be there, the front of a capture
 // that is too long would be replayed as if it were whole.
@@ -20,10 +22,10 @@ pub fn replay_input(rt: &(impl Input + Print + Eprint), octets: &mut [u8], text:
     ensures { InputReplayed (report_of All) octets.new text.old result text.new }
 {
     let mut input = rt.reader();
-    let count = read_if(true, &mut input, octets);
-    let whole = has_not_failed_if(true, &mut input);
+    let count = read_full(&mut input, octets);
+    let end = input.read(&mut [0]);
     let replayed = bench::replay(&octets[..count], text);
-    tell(rt, "replay", whole, replayed, &text[..]);
+    tell(rt, "replay", end, replayed, &text[..]);
     count
 }
 
@@ -37,26 +39,32 @@ pub fn part_input(
 ) -> usize
     ensures { InputReplayed (part_report_of (number_in from.now) (number_in limit.now)) octets.new text.old result text.new }
 {
-    let wanted = numbers::number_of(from).is_some() && numbers::number_of(limit).is_some();
+    if numbers::number_of(from).is_none() || numbers::number_of(limit).is_none() {
+        let replayed = bench::replay_part(from, limit, &octets[..0], text);
+        tell(rt, "part", Ok(0), replayed, &text[..]);
+        return 0;
+    }
     let mut input = rt.reader();
-    let count = read_if(wanted, &mut input, octets);
-    let whole = has_not_failed_if(wanted, &mut input);
+    let count = read_full(&mut input, octets);
+    let end = input.read(&mut [0]);
     let replayed = bench::replay_part(from, limit, &octets[..count], text);
-    tell(rt, "part", whole, replayed, &text[..]);
+    tell(rt, "part", end, replayed, &text[..]);
     count
 }
 
-fn read_if(wanted: bool, input: &mut impl Read, octets: &mut [u8]) -> usize
-    ensures { result ≤ length octets.new }
+// Are there so many arguments, with the program's name? No contract says what they are.
+pub fn has_arguments(env: &impl Env, count: usize) -> bool
+    requires { 0 < count }
 {
-    if wanted {
-        return read_full(input, octets);
-    }
-    0
+    is_given(env, count - 1) && !is_given(env, count)
 }
 
-// Reads until the octets are full, or the input ends or a read fails.
-fn read_full(input: &mut impl Read, octets: &mut [u8]) -> usize
+fn is_given(env: &impl Env, index: usize) -> bool {
+    !matches!(env.arg(index, &mut []), Err(FillError::NotPresent))
+}
+
+// Reads until the octets are full, or the input ends or a read fails. Behind the octets that were asked for, one more read tells an end from a failure.
+pub fn read_full(input: &mut impl Read, octets: &mut [u8]) -> usize
     ensures { result ≤ length octets.new }
 {
     let mut count = 0;
@@ -69,31 +77,25 @@ fn read_full(input: &mut impl Read, octets: &mut [u8]) -> usize
     count
 }
 
-// Behind the octets that were asked for a read tells an end from a failure.
-fn has_not_failed_if(wanted: bool, input: &mut impl Read) -> bool {
-    if !wanted {
-        return true;
-    }
-    input.read(&mut [0]).is_ok()
-}
-
-fn tell(rt: &(impl Print + Eprint), program: &str, whole: bool, replayed: Replayed, text: &[u8])
-    requires { size_told replayed ≤ length text.now }
-{
-    match replayed {
-        Replayed::Text(size) => put_out(rt, program, whole, &text[..size]),
-        // A text that is too short for the report.
-        Replayed::Refused(_) => {}
-    }
-}
-
 // A failed read is not a short capture, and a failed write is not a success: a line on standard error says so.
-fn put_out(rt: &(impl Print + Eprint), program: &str, whole: bool, report: &[u8]) {
-    if !whole {
+fn tell(
+    rt: &(impl Print + Eprint),
+    program: &str,
+    end: io::Result<usize>,
+    replayed: Result<usize, Refusal>,
+    text: &[u8],
+)
+    requires { IfOk replayed (λ size. size ≤ length text.now) }
+{
+    let Ok(size) = replayed else {
+        // The text is too short for the report.
+        return;
+    };
+    if end.is_err() {
         say(rt, program, "standard input was not read to its end");
         return;
     }
-    if rt.write_all(report).is_err() {
+    if rt.write_all(&text[..size]).is_err() {
         say(rt, program, "the report was not written whole");
     }
 }

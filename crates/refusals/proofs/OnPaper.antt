@@ -89,14 +89,14 @@ abbrev pub number_told : Option ℕ → ℕ
 number_told none = 0
 number_told (some n) = n
 
-abbrev value_told : {A : Type 0} → A → Option A → A
+abbrev pub value_told : {A : Type 0} → A → Option A → A
 value_told other none = other
 value_told other (some value) = value
 
 pub same_number : {A : Type 0} {p q : Paper A} → p ≡ q → number_told p.refusal ≡ number_told q.refusal
 same_number {A} e = ap (λ (p : Paper A). number_told p.refusal) e
 
-same_value : {A : Type 0} {p q : Paper A} (other : A) → p ≡ q → value_told other p.value ≡ value_told other q.value
+pub same_value : {A : Type 0} {p q : Paper A} (other : A) → p ≡ q → value_told other p.value ≡ value_told other q.value
 same_value {A} other e = ap (λ (p : Paper A). value_told other p.value) e
 
 -- an answer that is a value: nothing was refused, and it is the value

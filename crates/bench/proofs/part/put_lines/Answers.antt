@@ -1,31 +1,32 @@
--- `bench::part::put_lines` meets its contract: at each turn, whoever writes what is left writes the whole.
+-- `bench::part::put_lines` meets its contract: at each turn, what stands there and what is left to write are the whole.
 -- Assumes nothing.
-use mathlib.Core.Path.{refl}
+use mathlib.Core.Path.{sym, ap, ◌∙◌}
+use mathlib.Core.List.{append_assoc, append-nil}
 use native.Mathlib.Omega.{arith}
-use borrow.Author.Rules.{rules}
-use lib.ListN.{length-append}
-use Rattle.bench.proofs.Pieces.{going_from, going_on_lem, finished}
+use lib.ListN.{length, length-append}
 use Rattle.bench.proofs.Told.{told_all, told_next, told_none}
 use Rattle.bench.proofs.part.put_lines.Goals as goal
 
 pub loop-i-init : goal.loop-i-init
 loop-i-init c =
     let args = c.args in
-    (search rules, refl, going_from (told_all args.records.now args.from args.count args.answers.now args.gaps.now) c.requires.1)
+    rw (told_all args.records.now args.from args.count args.answers.now args.gaps.now)
 
-pub put_told_line-end-requires : goal.put_told_line-end-requires
-put_told_line-end-requires c =
+pub put_told_line-requires : goal.put_told_line-requires
+put_told_line-requires c =
     let args = c.args in
     let next = told_next args.records.now args.from args.count args.answers.now args.gaps.now c.loop-i.i c.loop-i-test.true in
-    omega (arith, simp length-append at (rw next at c.loop-i.invariant.2).room)
+    let whole = simp length-append at (ap length (rw next at c.loop-i.invariant)) in
+    omega (arith, c.requires.1)
 
 pub loop-i-preserved : goal.loop-i-preserved
 loop-i-preserved c =
     let args = c.args in
     let next = told_next args.records.now args.from args.count args.answers.now args.gaps.now c.loop-i.i c.loop-i-test.true in
-    (search rules, search rules, going_on_lem (rw next at c.loop-i.invariant.2) c.put_told_line-end.ensures)
+    rw (c.put_told_line.ensures, append_assoc) (rw next at c.loop-i.invariant)
 
 pub returns : goal.returns
 returns c =
     let args = c.args in
-    finished (told_none args.records.now args.from args.count args.answers.now args.gaps.now c.loop-i.i (omega (arith, c.loop-i-test.false, c.loop-i.invariant.0))) c.loop-i.invariant.2
+    let none = told_none args.records.now args.from args.count args.answers.now args.gaps.now c.loop-i.i (omega arith) in
+    sym (append-nil c.loop-i.text.items) ∙ (rw none at c.loop-i.invariant)

@@ -13,10 +13,10 @@ put_told-requires c =
     let few = c.run_part-part.ensures.few in
     (record { known = rw count (omega (arith, few)); told = rw count (omega (arith, few, c.requires.1)); gapped = rw count (omega (arith, few, c.requires.1)) }, rw count (omega (arith, few, c.ranges.from)), rw (count, c.run_part-part.ensures.report) c.requires.0)
 
-pub returns-in-Ok : goal.returns-in-Ok
-returns-in-Ok c =
+pub returns : goal.returns
+returns c =
     let count : c.in-Ok.count ≡ length (part_of c.args.records.now c.args.from c.args.limit) = cc (c.run_part-part.ensures.ran, c.in-Ok.is) in
     rw (count, c.run_part-part.ensures.report) at c.put_told.ensures
 
-pub returns-in-Err : goal.returns-in-Err
-returns-in-Err c = absurd (let z : ◌≡◌ {A = ℕ} 0 1 = cc c.run_part-part.ensures.ran in omega arith)
+pub unreachable-requires : goal.unreachable-requires
+unreachable-requires c = absurd (let z : ◌≡◌ {A = ℕ} 0 1 = cc c.run_part-part.ensures.ran in omega arith)

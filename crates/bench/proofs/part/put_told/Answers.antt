@@ -1,41 +1,37 @@
 -- `bench::part::put_told` meets its contract: four pieces, one behind the other.
 -- Assumes nothing.
-use Prim.Native.Nat.{◌+◌, ◌*◌, ◌/◌}
+use Prim.Native.Nat.{◌+◌, ◌*◌, ◌/◌, ◌≤◌}
 use native.Mathlib.Omega.{arith}
-use lib.ListN.{length, drop}
-use Rattle.bench.proofs.Pieces.{put_both}
+use mathlib.Core.List.{append_assoc}
+use lib.ListN.{length, drop, length-append}
+use Rattle.bench.specs.Text.{numbered_line}
+use Rattle.bench.specs.Line.{owner_line}
+use Rattle.bench.specs.Part.{ran_word, next_line}
 use Rattle.bench.specs.Told.{told_lines}
 use Rattle.bench.proofs.Lines.{text_size}
 use Rattle.bench.proofs.part.put_told.Goals as goal
+use Rattle.bench.proofs.part.put_told.Goals.{Start}
 
-pub put_numbered-at-requires : goal.put_numbered-at-requires
-put_numbered-at-requires c =
-    let args = c.args in
-    let lines_told = told_lines (args.from + 1) args.count (drop (8 * args.from) args.records.now) args.answers.now args.gaps.now in
-    let size = text_size args.count lines_told args.owner (length args.records.now / 8) (args.from + args.count) in
-    omega (arith, c.requires.2, size)
+room : (c : Start) → let a = c.args in
+    let lines_told = told_lines (a.from + 1) a.count (drop (8 * a.from) a.records.now) a.answers.now a.gaps.now in
+    length a.text.now.items + length (numbered_line ran_word a.count) + length lines_told + length (owner_line a.owner)
+    + length (next_line (length a.records.now / 8) (a.from + a.count)) ≤ 163850
+room c = let a = c.args in
+    let lines_told = told_lines (a.from + 1) a.count (drop (8 * a.from) a.records.now) a.answers.now a.gaps.now in
+    omega (arith, c.requires.2, text_size a.count lines_told a.owner (length a.records.now / 8) (a.from + a.count))
 
-pub put_lines-owner_at-requires : goal.put_lines-owner_at-requires
-put_lines-owner_at-requires c =
-    let args = c.args in
-    let lines_told = told_lines (args.from + 1) args.count (drop (8 * args.from) args.records.now) args.answers.now args.gaps.now in
-    let size = text_size args.count lines_told args.owner (length args.records.now / 8) (args.from + args.count) in
-    (c.requires.0, omega (arith, c.requires.2, size, c.put_numbered-at.ensures.behind))
+pub put_numbered-requires : goal.put_numbered-requires
+put_numbered-requires c = omega (arith, room (goal.at.put_numbered-requires c).Start)
 
-pub put_owner-next_at-requires : goal.put_owner-next_at-requires
-put_owner-next_at-requires c =
-    let args = c.args in
-    let lines_told = told_lines (args.from + 1) args.count (drop (8 * args.from) args.records.now) args.answers.now args.gaps.now in
-    let size = text_size args.count lines_told args.owner (length args.records.now / 8) (args.from + args.count) in
-    omega (arith, c.requires.2, size, c.put_numbered-at.ensures.behind, c.put_lines-owner_at.ensures.behind)
+pub put_lines-requires : goal.put_lines-requires
+put_lines-requires c = (c.requires.0, simp (c.put_numbered.ensures, length-append) (omega (arith, room (goal.at.put_lines-requires c).Start)))
+
+pub put_owner-requires : goal.put_owner-requires
+put_owner-requires c = simp (c.put_lines.ensures, c.put_numbered.ensures, length-append) (omega (arith, room (goal.at.put_owner-requires c).Start))
 
 pub put_next-requires : goal.put_next-requires
 put_next-requires c =
-    let args = c.args in
-    let lines_told = told_lines (args.from + 1) args.count (drop (8 * args.from) args.records.now) args.answers.now args.gaps.now in
-    let size = text_size args.count lines_told args.owner (length args.records.now / 8) (args.from + args.count) in
-    omega (arith, c.requires.2, size, c.put_numbered-at.ensures.behind, c.put_lines-owner_at.ensures.behind, c.put_owner-next_at.ensures.behind)
+    simp (c.put_owner.ensures, c.put_lines.ensures, c.put_numbered.ensures, length-append) (omega (arith, room (goal.at.put_next-requires c).Start))
 
 pub returns : goal.returns
-returns c =
-    put_both (put_both (put_both c.put_numbered-at.ensures c.put_lines-owner_at.ensures) c.put_owner-next_at.ensures) c.put_next.ensures
+returns c = simp (c.put_next.ensures, c.put_owner.ensures, c.put_lines.ensures, c.put_numbered.ensures, append_assoc)

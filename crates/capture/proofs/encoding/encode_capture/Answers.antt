@@ -1,52 +1,50 @@
 -- `capture::encoding::encode_capture` meets its contract: at each `return` the tests that led there say which row holds first, or that none does.
 -- Assumes nothing.
-use Prim.Native.Nat.{◌%◌, ◌≤◌}
-use mathlib.Core.Path.{◌≡◌}
-use mathlib.Core.Bool.{false, not}
+use Prim.Native.Nat.{◌^◌, ◌<◌}
+use mathlib.Core.Path.{◌∙◌}
 use native.Mathlib.Omega.{arith}
-use borrow.Author.Tests.{ltb-false}
-use lib.Dec.{eqb, ltb}
+use borrow.Author.Tests.{eq-eqb, ne_eqb, lt-leb, le-leb}
 use lib.ListN.{length}
 use Rattle.laws.specs.Pick.{pick}
 use Rattle.laws.proofs.Pick.{told}
-use Rattle.capture.specs.Encoding.{capture_length}
-use Rattle.laws.proofs.Tests.{or_r}
-use Rattle.capture.proofs.Promised.{capture_encoded}
+use Rattle.capture.specs.Encoding.{trailer_for}
+use Rattle.capture.proofs.Pieces.{three_written}
 use Rattle.capture.proofs.encoding.encode_capture.Goals as goal
-use Rattle.capture.proofs.encoding.encode_capture.Goals.{Else-lacks_room}
 
 pub returns-then-lacks_room : goal.returns-then-lacks_room
 unfolding pick
 returns-then-lacks_room c =
     let short = told _ _ _ c.lacks_room.ensures c.if-lacks_room.true in
-    capture_encoded (rw short) (rw short)
+    record { answer = rw short; slice = rw short }
 
-has_room : (c : Else-lacks_room) → let a = c.args in
-    ltb (length a.out.now) (capture_length a.notes.now a.records.now) ≡ false
-has_room c = told _ _ _ c.lacks_room.ensures c.if-lacks_room.false
-
-room_for : (c : Else-lacks_room) → let a = c.args in
-    capture_length a.notes.now a.records.now ≤ length a.out.now
-room_for c = ltb-false _ _ (has_room (c))
-
-pub returns-then-records : goal.returns-then-records
+pub returns-then-records-ne0 : goal.returns-then-records-ne0
 unfolding pick
-returns-then-records c =
-    let room = has_room (goal.at.returns-then-records c).Else-lacks_room in
-    capture_encoded (rw (room, c.if-records.true)) (rw (room, c.if-records.true))
+returns-then-records-ne0 c =
+    let room = told _ _ _ c.lacks_room.ensures c.if-lacks_room.false in
+    let torn = ne_eqb _ _ c.if-records-ne0.true in
+    record { answer = rw (room, torn); slice = rw (room, torn) }
 
-pub write_capture-requires : goal.write_capture-requires
-write_capture-requires c =
-    let records = c.args.records.now in
-    let held : ltb 0xFFFF_FFFF (length records) ≡ false = or_r (not (eqb (length records % 8) 0)) _ c.if-records.false in
-    (room_for (goal.at.write_capture-requires c).Else-lacks_room, omega (arith, ltb-false 0xFFFF_FFFF (length records) held))
-
-pub overflow_add-result-2 : goal.overflow_add-result-2
-overflow_add-result-2 c =
-    omega (arith, room_for (goal.at.overflow_add-result-2 c).Else-lacks_room)
+pub returns-in_default : goal.returns-in_default
+unfolding pick
+returns-in_default c =
+    let room = told _ _ _ c.lacks_room.ensures c.if-lacks_room.false in
+    let even = eq-eqb _ _ c.if-records-ne0.false in
+    let far : length c.args.records.now < 256 ^ 4 → ⊥ = c.in_default.ensures in
+    let long = le-leb (256 ^ 4) (length c.args.records.now) (omega arith) in
+    record { answer = rw (room, even, long); slice = rw (room, even, long) }
 
 pub returns : goal.returns
 unfolding pick
 returns c =
-    let room = has_room (goal.at.returns c).Else-lacks_room in
-    capture_encoded (rw (room, c.if-records.false)) (rw (room, c.if-records.false) c.write_capture.ensures)
+    let room = told _ _ _ c.lacks_room.ensures c.if-lacks_room.false in
+    let even = eq-eqb _ _ c.if-records-ne0.false in
+    let (near, distance) = c.in-Ok.ensures in
+    let held = lt-leb (256 ^ 4) (length c.args.records.now) near in
+    record {
+      answer = rw (room, even, held);
+      slice =
+          rw (room, even, held)
+          (c.put-3.ensures
+          ∙ rw (c.put-2.ensures, c.put.ensures, c.trailer_for.ensures, distance)
+          (three_written c.args.out.now c.args.notes.now c.args.records.now (trailer_for (length c.args.records.now))));
+    }

@@ -1,6 +1,6 @@
 -- `capture::encoding::put` meets its contract: after i turns, i octets are pasted.
 -- Assumes nothing.
-use Prim.Native.Nat.{◌-◌, ◌≤◌}
+use Prim.Native.Nat.{◌≤◌}
 use mathlib.Core.Path.{◌≡◌}
 use lib.ListN.{length}
 use lib.Seq.{paste}
@@ -8,6 +8,3 @@ use Rattle.capture.proofs.encoding.put.Given as goal
 
 abbrev pub invariant-loop-i : goal.invariant-loop-i
 invariant-loop-i l = (l.i ≤ length l.octets) × (length l.out ≡ length l.initial.out) × (l.out ≡ paste l.initial.out l.at l.octets l.i)
-
-abbrev pub decreases-loop-i : goal.decreases-loop-i
-decreases-loop-i l = length l.octets - l.i

@@ -1,19 +1,23 @@
 -- `capture::record::decode_record` meets its contract: the tick is two octets read as a number.
 -- Assumes nothing.
+use Prim.Native.Nat.{◌+◌, ◌*◌}
+use mathlib.Core.Path.{◌≡◌}
+use lib.ListN.{get_or}
+use native.Mathlib.Omega.{arith}
 use borrow.Author.Tests.{lt-ltb, le-ltb}
 use Rattle.laws.specs.Pick.{pick}
-use Rattle.capture.specs.Record.{record_of}
 use Rattle.laws.proofs.Runs.{run_read}
-use native.Mathlib.Omega.{arith}
-use Rattle.capture.proofs.Promised.{record_decoded}
+use Rattle.capture.specs.Record.{record_of}
 use Rattle.capture.proofs.record.decode_record.Goals as goal
 
-pub returns-then-octets-lt-RECORD_LENGTH : goal.returns-then-octets-lt-RECORD_LENGTH
+pub returns-in_default : goal.returns-in_default
 unfolding pick
-returns-then-octets-lt-RECORD_LENGTH c = record_decoded (rw (lt-ltb _ _ c.if-octets-lt-RECORD_LENGTH.true))
+returns-in_default c = record { answer = rw (lt-ltb _ _ c.in_default.len_below) }
 
 pub returns : goal.returns
 unfolding pick record_of
 returns c =
     let octets = c.args.octets.now in
-    record_decoded (rw (le-ltb _ _ c.if-octets-lt-RECORD_LENGTH.false, c.word.ensures, run_read octets 0 2 (omega arith)))
+    let room = c.in-len8-up.len_at_least in
+    let tick : c.from_be_bytes.result ≡ (0 + get_or octets 0 0) * 256 + get_or octets 1 0 = omega (arith, c.from_be_bytes.ensures) in
+    record { answer = rw (le-ltb _ _ room, run_read octets 0 2 (omega arith), tick) }

@@ -3,8 +3,8 @@
 use Rattle.pantoglide.proofs.Captures.{found, not_found}
 use Rattle.pantoglide.proofs.capture_calls.pg_capture.Goals as goal
 
-pub returns-in-Capture : goal.returns-in-Capture
-returns-in-Capture c = found (rw c.in-Capture.is at c.decode_capture.ensures)
+pub returns-in-Ok : goal.returns-in-Ok
+returns-in-Ok c = found c.in-Ok.ensures
 
-pub returns-in-Refused : goal.returns-in-Refused
-returns-in-Refused c = not_found (rw c.in-Refused.is at c.decode_capture.ensures)
+pub returns-in-Err : goal.returns-in-Err
+returns-in-Err c = rw c.from.ensures (not_found c.in-Err.ensures)

@@ -3,8 +3,8 @@
 use Rattle.pantoglide.proofs.Captures.{made, not_made}
 use Rattle.pantoglide.proofs.capture_calls.pg_make_capture.Goals as goal
 
-pub returns-in-Written : goal.returns-in-Written
-returns-in-Written c = made (rw c.in-Written.is at c.encode_capture.ensures)
+pub returns-in-Ok : goal.returns-in-Ok
+returns-in-Ok c = made c.in-Ok.ensures
 
-pub returns-in-Refused : goal.returns-in-Refused
-returns-in-Refused c = not_made (rw c.in-Refused.is at c.encode_capture.ensures)
+pub returns-in-Err : goal.returns-in-Err
+returns-in-Err c = rw c.from.ensures (not_made c.in-Err.ensures)
