@@ -59,7 +59,7 @@ const CASES: [Case; 10] = [
                 room: b"\x00\x00\x00\x01\x30\x00\x00\x00\x00\x05\x01\x01\x30\x00\x00\x00\x00\x09\x00\x02\x00\x00\x00\x00\x00\x00\x00\x18\x49\x50\x49\x32",
             },
             Row {
-                call: Call::CaptureAt(Some((0, 3))),
+                call: Call::CaptureAt { first: 0, count: 3 },
                 given: b"\x00\x00\x00\x01\x30\x00\x00\x00\x00\x05\x01\x01\x30\x00\x00\x00\x00\x09\x00\x02\x00\x00\x00\x00\x00\x00\x00\x18\x49\x50\x49\x32",
                 refusal: None,
                 room: b"",
@@ -76,7 +76,7 @@ const CASES: [Case; 10] = [
                 room: b"\x6F\x6B\x00\x05\x01\x01\x30\x00\x00\x00\x00\x00\x00\x08\x49\x50\x49\x32",
             },
             Row {
-                call: Call::CaptureAt(Some((2, 1))),
+                call: Call::CaptureAt { first: 2, count: 1 },
                 given: b"\x6F\x6B\x00\x05\x01\x01\x30\x00\x00\x00\x00\x00\x00\x08\x49\x50\x49\x32",
                 refusal: None,
                 room: b"",
@@ -87,13 +87,13 @@ const CASES: [Case; 10] = [
         name: "refusal 12: a capture under 8 octets",
         rows: &[
             Row {
-                call: Call::CaptureAt(None),
+                call: Call::CaptureAt { first: 0, count: 0 },
                 given: b"",
                 refusal: Some(12),
                 room: b"",
             },
             Row {
-                call: Call::CaptureAt(None),
+                call: Call::CaptureAt { first: 0, count: 0 },
                 given: b"\x00\x00\x00\x49\x50\x49\x32",
                 refusal: Some(12),
                 room: b"",
@@ -104,13 +104,13 @@ const CASES: [Case; 10] = [
         name: "refusal 13: a wrong trailer mark",
         rows: &[
             Row {
-                call: Call::CaptureAt(None),
+                call: Call::CaptureAt { first: 0, count: 0 },
                 given: b"\x00\x00\x00\x00\x49\x50\x49\x33",
                 refusal: Some(13),
                 room: b"",
             },
             Row {
-                call: Call::CaptureAt(None),
+                call: Call::CaptureAt { first: 0, count: 0 },
                 given: b"\x00\x00\x00\x07\x49\x50\x49\x33",
                 refusal: Some(13),
                 room: b"",
@@ -121,31 +121,31 @@ const CASES: [Case; 10] = [
         name: "refusal 14: a wrong trailer distance",
         rows: &[
             Row {
-                call: Call::CaptureAt(None),
+                call: Call::CaptureAt { first: 0, count: 0 },
                 given: b"\x00\x00\x00\x07\x49\x50\x49\x32",
                 refusal: Some(14),
                 room: b"",
             },
             Row {
-                call: Call::CaptureAt(None),
+                call: Call::CaptureAt { first: 0, count: 0 },
                 given: b"\x00\x00\x00\x08\x49\x50\x49\x32",
                 refusal: Some(14),
                 room: b"",
             },
             Row {
-                call: Call::CaptureAt(None),
+                call: Call::CaptureAt { first: 0, count: 0 },
                 given: b"\x6E\x6F\x74\x65\x73\x20\x6F\x6E\x00\x00\x00\x07\x49\x50\x49\x32",
                 refusal: Some(14),
                 room: b"",
             },
             Row {
-                call: Call::CaptureAt(None),
+                call: Call::CaptureAt { first: 0, count: 0 },
                 given: b"\x6E\x6F\x74\x65\x73\x20\x6F\x6E\x00\x00\x00\x10\x49\x50\x49\x32",
                 refusal: Some(14),
                 room: b"",
             },
             Row {
-                call: Call::CaptureAt(Some((0, 0))),
+                call: Call::CaptureAt { first: 0, count: 0 },
                 given: b"\x00\x00\x00\x00\x49\x50\x49\x32",
                 refusal: None,
                 room: b"",
@@ -155,7 +155,7 @@ const CASES: [Case; 10] = [
     Case {
         name: "refusal 8: records that are not whole",
         rows: &[Row {
-            call: Call::CaptureOf(0),
+            call: Call::CaptureOf { notes: 0 },
             given: b"\x00\x05\x01\x01\x30\x00\x00",
             refusal: Some(8),
             room: b"\xFF\xFF\xFF\xFF\xFF\xFF\xFF\xFF\xFF\xFF\xFF\xFF\xFF\xFF\xFF\xFF",
@@ -165,13 +165,13 @@ const CASES: [Case; 10] = [
         name: "refusal 10: no room for a capture",
         rows: &[
             Row {
-                call: Call::CaptureOf(1),
+                call: Call::CaptureOf { notes: 1 },
                 given: b"\x21\x00\x05\x01\x01\x30\x00\x00\x00",
                 refusal: Some(10),
                 room: b"\xFF\xFF\xFF\xFF\xFF\xFF\xFF\xFF\xFF\xFF\xFF\xFF\xFF\xFF\xFF\xFF",
             },
             Row {
-                call: Call::CaptureOf(2),
+                call: Call::CaptureOf { notes: 2 },
                 given: b"\x21\x21\x00\x05\x01\x01\x30\x00\x00",
                 refusal: Some(10),
                 room: b"\xFF\xFF\xFF\xFF\xFF\xFF\xFF\xFF\xFF\xFF\xFF\xFF\xFF\xFF\xFF\xFF",
@@ -181,7 +181,7 @@ const CASES: [Case; 10] = [
     Case {
         name: "notes and records of 8 octets each",
         rows: &[Row {
-            call: Call::CaptureOf(8),
+            call: Call::CaptureOf { notes: 8 },
             given: b"\x6E\x6F\x74\x65\x64\x20\x6F\x6E\x00\x05\x01\x01\x30\x00\x00\x00",
             refusal: None,
             room: b"\x6E\x6F\x74\x65\x64\x20\x6F\x6E\x00\x05\x01\x01\x30\x00\x00\x00\x00\x00\x00\x08\x49\x50\x49\x32",

@@ -1,6 +1,6 @@
 // Octets read and written again, and the runner of these cases.
 use crate::calls;
-use crate::calls::Call;
+use crate::calls::{Call, Failure};
 use crate::tally::Tally;
 
 #[derive(Clone, Copy)]
@@ -37,7 +37,11 @@ fn is_answered(row: &Row) -> bool {
     match all.len().checked_sub(row.room.len()) {
         Some(from) => {
             let room = &mut all[from..];
-            (calls::called(row.call, row.given, room) == row.refusal) & (&*room == row.room)
+            let expected = match row.refusal {
+                Some(number) => Err(Failure::Refused(number)),
+                None => Ok(()),
+            };
+            (calls::called(row.call, row.given, room) == expected) & (&*room == row.room)
         }
         None => false,
     }
