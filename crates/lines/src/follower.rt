@@ -44,7 +44,6 @@ impl From<Answer> for u8 {
 impl Followed {
     // The answer as an octet, or the number of the refusal.
     #[tactic(auto, unfolding(crate::specs::Reading::octet_of))]
-    #[inline(always)]
     pub fn octet(self) -> u8
         ensures { OctetSaid self.answer result }
     {
@@ -84,19 +83,18 @@ impl Follower {
     }
 
     // Does a trace from the start lead to this state?
-    #[tactic(auto, using(std::proofs::lemmas::Bool::Decides::nat_tests), unfolding(crate::specs::Follower::is_reached, laws::specs::Pick::pick))]
-    #[inline(always)]
+    #[tactic(auto, unfolding(crate::specs::Follower::is_reached, laws::specs::Pick::pick))]
     pub fn is_reached(self) -> bool
         ensures { ReachedSaid self result }
     {
+        let s = self.setting;
         if self.lost {
-            return (self.setting == line::IDLE) & !self.history;
+            return (s == line::IDLE) & !self.history;
         }
         if self.history {
-            return matches!(self.setting, line::SELECT | line::SLAVACK | line::MASTEND);
+            return (s == line::SELECT) | (s == line::SLAVACK) | (s == line::MASTEND);
         }
-        // Asked at every setting: as one `matches!` it costs a third of the instructions more.
-        let s = self.setting;
+        // A chain: with `matches!` (tried) `pg_lines` takes up to a fifth more instructions.
         (s == line::IDLE)
             | (s == line::MAINT)
             | (s == line::REQUEST)
@@ -114,7 +112,6 @@ impl Follower {
     }
 
     #[tactic(auto, unfolding(crate::specs::Follower::moved_by, laws::specs::Pick::pick))]
-    #[inline(always)]
     fn moved(self, setting: u8) -> Followed
         requires { (self.setting < 32) × (setting < 32) }
         ensures { result ≡ moved self setting }
@@ -134,7 +131,6 @@ impl Follower {
     }
 
     #[tactic(auto, unfolding(crate::specs::Follower::lacks_history))]
-    #[inline(always)]
     fn lacks_history(self, setting: u8) -> bool
         ensures { result ≡ lacks_history self setting }
     {
@@ -149,7 +145,6 @@ impl Follower {
     }
 
     #[tactic(auto, unfolding(crate::specs::Follower::remembers))]
-    #[inline(always)]
     pub(crate) fn at(self, setting: u8) -> Follower
         ensures { result ≡ remembers self setting }
     {
@@ -166,7 +161,6 @@ impl Follower {
         }
     }
 
-    #[inline(always)]
     pub(crate) fn told(self, answer: Answer) -> Followed
         ensures { result ≡ told answer self }
     {
@@ -176,7 +170,6 @@ impl Follower {
         }
     }
 
-    #[inline(always)]
     pub(crate) fn refused(self, refusal: Refusal) -> Followed
         ensures { result ≡ refused refusal self }
     {
@@ -189,7 +182,6 @@ impl Follower {
 
 // IDLE where the setting is 0, else lost.
 #[tactic(auto, unfolding(crate::specs::Follower::undefined_at, laws::specs::Pick::pick))]
-#[inline(always)]
 pub(crate) fn undefined_at(setting: u8) -> Followed
     ensures { result ≡ undefined_at setting }
 {
@@ -202,7 +194,6 @@ pub(crate) fn undefined_at(setting: u8) -> Followed
 }
 
 #[tactic(auto, unfolding(crate::specs::Follower::while_lost, laws::specs::Pick::pick))]
-#[inline(always)]
 pub(crate) fn while_lost(setting: u8) -> Followed
     ensures { result ≡ while_lost setting }
 {

@@ -30,8 +30,8 @@ pub fn read_plainly(
     Ok(last)
 }
 
-// One setting, by what the turns go by: what `Follower::step` does by the table. Written out: by the turns' own functions it is asked twice
-// whether the state is reached, half as many instructions again.
+// One setting, by what the turns go by: what `Follower::step` does by the table. The tests are written out here and for either side:
+// with one function for all three (tried) `pg_line` takes 1.7 times the instructions, and is no more within 1.15 of plain Rust.
 pub fn step_plainly(follower: Follower, setting: u8) -> Followed
     ensures { Stepped follower setting result }
 {
@@ -97,36 +97,31 @@ fn drives_turn(follower: Follower, rest: &[u8], answers: &mut [u8]) -> Follower
     drives_turn(next, left, places)
 }
 
-#[inline(always)]
-fn controller_takes(follower: Follower, new: u8) -> Followed
-    ensures { result ≡ controller_takes follower new }
-{
-    takes(
-        Answer::Controllers,
-        is_controllers(follower, new),
-        follower,
-        new,
-    )
-}
-
-#[inline(always)]
-fn drive_takes(follower: Follower, new: u8) -> Followed
-    ensures { result ≡ drive_takes follower new }
-{
-    takes(Answer::Drives, is_drives(follower, new), follower, new)
-}
-
-// A setting in the turn of a side: is it a move of its own? What a turn goes by is inlined, so that a setting by itself is taken without a call.
+// A setting in the turn of the controller.
 #[inline(always)]
 #[tactic(auto, unfolding(crate::specs::Turns::takes, laws::specs::Pick::pick))]
-fn takes(side: Answer, own: bool, follower: Follower, new: u8) -> Followed
-    ensures { result ≡ takes side own follower new }
+fn controller_takes(follower: Follower, new: u8) -> Followed
+    ensures { result ≡ controller_takes follower new }
 {
     if !follower.is_reached() {
         return follower.refused(Refusal::UnsoundState);
     }
-    if own {
-        return follower.at(new).told(side);
+    if is_controllers(follower, new) {
+        return follower.at(new).told(Answer::Controllers);
+    }
+    nobodys_move(follower, new)
+}
+
+#[inline(always)]
+#[tactic(auto, unfolding(crate::specs::Turns::takes, laws::specs::Pick::pick))]
+fn drive_takes(follower: Follower, new: u8) -> Followed
+    ensures { result ≡ drive_takes follower new }
+{
+    if !follower.is_reached() {
+        return follower.refused(Refusal::UnsoundState);
+    }
+    if is_drives(follower, new) {
+        return follower.at(new).told(Answer::Drives);
     }
     nobodys_move(follower, new)
 }
