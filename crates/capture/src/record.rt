@@ -17,6 +17,7 @@ pub struct Record {
 pub const RECORD_LENGTH: usize = 8;
 
 // The record in the first 8 octets. 10 where there are fewer. Any 8 octets are a record, so there is no 8.
+#[tactic(auto, using(laws::proofs::Runs::run_read), unfolding(crate::specs::Record::record_of, laws::specs::Pick::pick))]
 pub fn decode_record(octets: &[u8]) -> Result<Record, Refusal>
     ensures { DecodedRecord octets.now result }
 {
@@ -36,6 +37,7 @@ pub fn decode_record(octets: &[u8]) -> Result<Record, Refusal>
 
 // The record as the first 8 octets, the others as they were. 10 where there are fewer. Every record is what a decoding
 // yields, so there is no 8.
+#[tactic(auto, unfolding(laws::specs::Pick::pick))]
 pub fn encode_record(event: Record, octets: &mut [u8]) -> Result<(), Refusal>
     ensures { EncodedRecord event octets.old octets.new result }
 {

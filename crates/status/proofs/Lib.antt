@@ -1,5 +1,4 @@
 pub mod Bits
-pub mod Encoding
 pub mod Only
 pub mod Exactly
 pub mod Foreign

@@ -45,6 +45,7 @@ impl TryFrom<u8> for DriveStatus {
 
     ghost try_from_gives = { λ octet r. on_paper r ≡ refused_or (octet_rows octet) (status_of octet) };
 
+    #[tactic(auto, unfolding(crate::specs::DriveStatus::is_drive_status, crate::specs::DriveStatus::status_of, laws::specs::Pick::pick))]
     fn try_from(octet: u8) -> Result<DriveStatus, Refusal> {
         match octet {
             NORMAL => Ok(DriveStatus::Normal),
@@ -58,6 +59,7 @@ impl TryFrom<u8> for DriveStatus {
 }
 
 // The status that the first octet says. 10 where there is no octet, 8 for an octet that no status has.
+#[tactic(auto, using(crate::proofs::Decoding::drive_status_decoded), unfolding(laws::specs::Pick::pick))]
 pub fn decode_drive_status(octets: &[u8]) -> Result<DriveStatus, Refusal>
     ensures { DecodedDriveStatus octets.now result }
 {
@@ -69,6 +71,7 @@ pub fn decode_drive_status(octets: &[u8]) -> Result<DriveStatus, Refusal>
 
 // The status as the first octet, the others as they were. 10 where there is no octet. Every status is what a decoding
 // yields, so there is no 8.
+#[tactic(auto, using(laws::proofs::Lists::stored), unfolding(laws::specs::Pick::pick))]
 pub fn encode_drive_status(status: DriveStatus, octets: &mut [u8]) -> Result<(), Refusal>
     ensures { EncodedAs (drive_status_octets status) octets.old octets.new result }
 {

@@ -43,6 +43,7 @@ const BUS_CONTROL_CONTEXT: u8 = 0x10;
 const BUS_CONTROL_BITS: u8 = 0xF0;
 
 // The response in the first 8 octets. 10 where there are fewer, 8 for octets that the base never sends.
+#[tactic(auto, using(crate::proofs::Decoding::response_decoded), unfolding(laws::specs::Pick::pick))]
 pub fn decode_response(octets: &[u8]) -> Result<Response, Refusal>
     ensures { DecodedResponse octets.now result }
 {
@@ -57,6 +58,7 @@ pub fn decode_response(octets: &[u8]) -> Result<Response, Refusal>
 
 // The response as the first 8 octets, the others as they were. 10 where there are fewer. Every response is what a decoding
 // yields, so there is no 8.
+#[tactic(auto, unfolding(laws::specs::Pick::pick))]
 pub fn encode_response(response: Response, octets: &mut [u8]) -> Result<(), Refusal>
     ensures { EncodedAs (response_octets response) octets.old octets.new result }
 {
@@ -100,6 +102,7 @@ fn response_of(unsolicited: u8, bus_control: u8) -> Response
     }
 }
 
+#[tactic(auto, unfolding(crate::specs::Response::exception_octet))]
 fn exception_octet(unsolicited: u8, bus_control: u8) -> u8
     ensures { result ≡ exception_octet unsolicited bus_control }
 {
@@ -107,6 +110,7 @@ fn exception_octet(unsolicited: u8, bus_control: u8) -> u8
         + bit_when(bus_control != 0, BUS_CONTROL_EXCEPTION)
 }
 
+#[tactic(auto, unfolding(crate::specs::Response::unsolicited_octet))]
 fn unsolicited_octet(response: Response) -> u8
     ensures { result ≡ unsolicited_octet response }
 {
@@ -117,6 +121,7 @@ fn unsolicited_octet(response: Response) -> u8
         )
 }
 
+#[tactic(auto, unfolding(crate::specs::Response::bus_control_octet))]
 fn bus_control_octet(response: Response) -> u8
     ensures { result ≡ bus_control_octet response }
 {
@@ -138,6 +143,7 @@ fn has_other(octet: u8, bits: u8) -> bool
     octet != octet & bits
 }
 
+#[tactic(auto, unfolding(laws::specs::Pick::pick))]
 fn bit_when(on: bool, bit: u8) -> u8
     ensures { (result ≡ pick on bit 0) × (result ≤ bit) }
 {
