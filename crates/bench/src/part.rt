@@ -23,6 +23,17 @@ const OWNER: usize = 8;
 // In a record.
 const PORT: usize = 2;
 
+// What a part told: so many events from a record on, the words of their answers, and their gaps.
+#[derive(Clone, Copy)]
+struct Told<'a> {
+    records: &'a [u8],
+    from: usize,
+    count: usize,
+    answers: &'a [u16],
+    gaps: &'a [u16],
+    ghost there: { There from count records.now answers.now gaps.now },
+}
+
 pub(crate) fn put_part(text: &mut Text, records: &[u8], from: u32, limit: u32)
     requires { (length text.old.items + length (part_report from limit records.now) ≤ 163850) × (length records.now ≤ 65528) × (length records.now % 8 ≡ 0) }
     ensures { text.new.items ≡ text.old.items ++ part_report from limit records.now }
@@ -44,7 +55,16 @@ pub(crate) fn put_part(text: &mut Text, records: &[u8], from: u32, limit: u32)
         &mut gaps,
     );
     match part {
-        Ok(count) => put_told(text, records, first, count, &answers, &gaps, state[OWNER]),
+        Ok(count) => {
+            let told = Told {
+                records,
+                from: first,
+                count,
+                answers: &answers,
+                gaps: &gaps,
+            };
+            put_told(text, &told, state[OWNER]);
+        }
         // There is room, and the records are whole.
         Err(_) => unreachable!(),
     }
@@ -69,40 +89,36 @@ fn run_part(
     events::replay_part(state, records, from, limit, sectors, staging, answers, gaps)
 }
 
-fn put_told(
-    text: &mut Text,
-    records: &[u8],
-    from: usize,
-    count: usize,
-    answers: &[u16],
-    gaps: &[u16],
-    owner: u16,
-)
-    requires { There from count records.now answers.now gaps.now × (from + count < 2 ^ 64) × (length text.old.items + length (told_report from count owner records.now answers.now gaps.now) ≤ 163850) }
-    ensures { text.new.items ≡ text.old.items ++ told_report from count owner records.now answers.now gaps.now }
+fn put_told(text: &mut Text, told: &Told<'_>, owner: u16)
+    requires { (told.now.from + told.now.count < 2 ^ 64) × (length text.old.items + length (told_report told.now.from told.now.count owner told.now.records.now told.now.answers.now told.now.gaps.now) ≤ 163850) }
+    ensures { text.new.items ≡ text.old.items ++ told_report told.now.from told.now.count owner told.now.records.now told.now.answers.now told.now.gaps.now }
 {
-    text::put_numbered(text, b"ran ", count);
-    put_lines(text, records, from, count, answers, gaps);
+    text::put_numbered(text, b"ran ", told.count);
+    put_lines(text, told);
     line::put_owner(text, owner);
-    put_next(text, records.len() / RECORD_LENGTH, from + count);
+    put_next(
+        text,
+        told.records.len() / RECORD_LENGTH,
+        told.from + told.count,
+    );
 }
 
-fn put_lines(
-    text: &mut Text,
-    records: &[u8],
-    from: usize,
-    count: usize,
-    answers: &[u16],
-    gaps: &[u16],
-)
-    requires { There from count records.now answers.now gaps.now × (length text.old.items + length (told_lines (from + 1) count (drop (8 * from) records.now) answers.now gaps.now) ≤ 163850) }
-    ensures { text.new.items ≡ text.old.items ++ told_lines (from + 1) count (drop (8 * from) records.now) answers.now gaps.now }
+fn put_lines(text: &mut Text, told: &Told<'_>)
+    requires { length text.old.items + length (told_lines (told.now.from + 1) told.now.count (drop (8 * told.now.from) told.now.records.now) told.now.answers.now told.now.gaps.now) ≤ 163850 }
+    ensures { text.new.items ≡ text.old.items ++ told_lines (told.now.from + 1) told.now.count (drop (8 * told.now.from) told.now.records.now) told.now.answers.now told.now.gaps.now }
 {
-    for i in 0..count {
-        let port = records[RECORD_LENGTH * (from + i) + PORT];
-        let refusal = answers[ANSWER_WORDS * i];
-        let status = answers[ANSWER_WORDS * i + 1];
-        line::put_told_line(text, from + (i + 1), port, refusal, status, gaps[i]);
+    for i in 0..told.count {
+        let port = told.records[RECORD_LENGTH * (told.from + i) + PORT];
+        let refusal = told.answers[ANSWER_WORDS * i];
+        let status = told.answers[ANSWER_WORDS * i + 1];
+        line::put_told_line(
+            text,
+            told.from + (i + 1),
+            port,
+            refusal,
+            status,
+            told.gaps[i],
+        );
     }
 }
 

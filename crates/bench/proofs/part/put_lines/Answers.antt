@@ -9,24 +9,24 @@ use Rattle.bench.proofs.part.put_lines.Goals as goal
 
 pub loop-i-init : goal.loop-i-init
 loop-i-init c =
-    let args = c.args in
-    rw (told_all args.records.now args.from args.count args.answers.now args.gaps.now)
+    let told = c.args.told.now in
+    rw (told_all told.records.now told.from told.count told.answers.now told.gaps.now)
 
 pub put_told_line-requires : goal.put_told_line-requires
 put_told_line-requires c =
-    let args = c.args in
-    let next = told_next args.records.now args.from args.count args.answers.now args.gaps.now c.loop-i.i c.loop-i-test.true in
+    let told = c.args.told.now in
+    let next = told_next told.records.now told.from told.count told.answers.now told.gaps.now c.loop-i.i c.loop-i-test.true in
     let whole = simp length-append at (ap length (rw next at c.loop-i.invariant)) in
-    omega (arith, c.requires.1)
+    omega (arith, c.requires)
 
 pub loop-i-preserved : goal.loop-i-preserved
 loop-i-preserved c =
-    let args = c.args in
-    let next = told_next args.records.now args.from args.count args.answers.now args.gaps.now c.loop-i.i c.loop-i-test.true in
+    let told = c.args.told.now in
+    let next = told_next told.records.now told.from told.count told.answers.now told.gaps.now c.loop-i.i c.loop-i-test.true in
     rw (c.put_told_line.ensures, append_assoc) (rw next at c.loop-i.invariant)
 
 pub returns : goal.returns
 returns c =
-    let args = c.args in
-    let none = told_none args.records.now args.from args.count args.answers.now args.gaps.now c.loop-i.i (omega arith) in
+    let told = c.args.told.now in
+    let none = told_none told.records.now told.from told.count told.answers.now told.gaps.now c.loop-i.i (omega arith) in
     sym (append-nil c.loop-i.text.items) ∙ (rw none at c.loop-i.invariant)

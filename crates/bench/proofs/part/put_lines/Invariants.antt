@@ -10,5 +10,5 @@ use Rattle.bench.proofs.part.put_lines.Given as goal
 
 abbrev pub invariant-loop-i : goal.invariant-loop-i
 invariant-loop-i l =
-    l.text.items ++ told_left l.records l.from l.count l.answers l.gaps l.i
-    ≡ l.initial.text.items ++ told_lines (l.from + 1) l.count (drop (8 * l.from) l.records) l.answers l.gaps
+    l.text.items ++ told_left l.told.records.now l.told.from l.told.count l.told.answers.now l.told.gaps.now l.i
+    ≡ l.initial.text.items ++ told_lines (l.told.from + 1) l.told.count (drop (8 * l.told.from) l.told.records.now) l.told.answers.now l.told.gaps.now

@@ -11,7 +11,7 @@ pub put_told-requires : goal.put_told-requires
 put_told-requires c =
     let count : c.in-Ok.count ≡ length (part_of c.args.records.now c.args.from c.args.limit) = cc (c.run_part-part.ensures.ran, c.in-Ok.is) in
     let few = c.run_part-part.ensures.few in
-    (record { known = rw count (omega (arith, few)); told = rw count (omega (arith, few, c.requires.1)); gapped = rw count (omega (arith, few, c.requires.1)) }, rw count (omega (arith, few, c.ranges.from)), rw (count, c.run_part-part.ensures.report) c.requires.0)
+    (rw count (omega (arith, few, c.ranges.from)), rw (count, c.run_part-part.ensures.report) c.requires.0)
 
 pub returns : goal.returns
 returns c =
