@@ -7,9 +7,7 @@ ghost use Rattle.bench.specs.Told.{status_told_by, told_line};
 use crate::text;
 use crate::text::Text;
 use drive::Answer;
-
-// A part of an answer that is not there, in its words.
-const ABSENT: u16 = 0xFFFF;
+use events::ABSENT;
 
 #[tactic(auto, unfolding(crate::specs::Line::line_of))]
 pub(crate) fn put_line(text: &mut Text, number: usize, port: u8, answer: Answer)

@@ -6,14 +6,11 @@ ghost use Rattle.bench.specs.Told.{told_lines, told_report, There, Ready, Made};
 use crate::text::Text;
 use crate::{line, run, text};
 use capture::RECORD_LENGTH;
+use events::{ANSWER_WORDS, STATE_WORDS};
 use refusals::Refusal;
 
 // As many as the longest capture has.
 const MOST_EVENTS: usize = 8_191;
-
-const STATE_WORDS: usize = 21;
-
-const ANSWER_WORDS: usize = 13;
 
 const ALL_ANSWER_WORDS: usize = MOST_EVENTS * ANSWER_WORDS;
 

@@ -11,9 +11,11 @@ use drive::Answer;
 use parts::Place;
 use refusals::Refusal;
 
-pub(crate) const ANSWER_WORDS: usize = 13;
+// How many words an answer has.
+pub const ANSWER_WORDS: usize = 13;
 
-const ABSENT: u16 = 0xFFFF;
+// In the place of a part that the answer does not have.
+pub const ABSENT: u16 = 0xFFFF;
 
 // The words of the answer. A refusal that is not to tell writes nothing, and is handed back. Inlined: an answer that is handed to a call is packed
 // first, which makes half as many instructions again of a record in a batch.

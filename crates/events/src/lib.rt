@@ -22,7 +22,9 @@ mod timing;
 mod transfer;
 mod words;
 
+pub use answer_words::{ABSENT, ANSWER_WORDS};
 pub use by_value::handle;
 pub use event::{answer_event, run_records};
 pub use part::replay_part;
 pub use power::power_up_words;
+pub use state::STATE_WORDS;

@@ -7,7 +7,8 @@ use crate::layout;
 use drive::Drive;
 use parts::{Hold, Holding, Parameters, Pending, Place, Setup, Transfer};
 
-pub(crate) const STATE_WORDS: usize = 21;
+// How many words a drive has.
+pub const STATE_WORDS: usize = 21;
 
 const LAST_HOLD: u16 = 2;
 
