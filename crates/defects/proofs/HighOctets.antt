@@ -1,22 +1,18 @@
--- The octets of a word and of a long number: by one division each, as code takes them, and one after the other, as definitions do.
+-- The octets of a word and of a long number, high first: as the library has them, and one after the other, as definitions do.
 -- Assumes nothing.
-use Prim.Native.Nat.{ℕ, ◌/◌, ◌%◌, ◌<◌, ◌^◌}
-use mathlib.Core.Path.{◌≡◌}
-use mathlib.Core.List.{List, [], ◌∷◌}
+use Prim.Native.Nat.{ℕ, ◌/◌, ◌%◌, ◌^◌}
+use mathlib.Core.Path.{◌≡◌, refl}
+use mathlib.Core.List.{[], ◌∷◌}
 use native.Mathlib.Omega.{arith}
+use Rattle.std.specs.Int.{w16, w32, to_be_bytes}
 use Rattle.laws.specs.Octets.{octets_of}
 
-pub word_high : (n : ℕ) → n < 2 ^ 16 → n / 256 ≡ n / 256 % 256
-word_high n h = omega arith
+pub word_octets_lem : (n : ℕ) → to_be_bytes w16 n ≡ octets_of 2 n
+word_octets_lem n = let high : n / 256 ^ 1 % 256 ≡ n / 256 % 256 = refl in λ i. high i ∷ n % 256 ∷ []
 
-long_high : (n : ℕ) → n < 2 ^ 32 → n / 0x100_0000 ≡ n / 256 / 256 / 256 % 256
-long_high n h = omega arith
-
-long_next : (n : ℕ) → n / 0x1_0000 % 256 ≡ n / 256 / 256 % 256
-long_next n = omega arith
-
-pub word_octets_lem : (n : ℕ) → n < 2 ^ 16 → ◌≡◌ {A = List ℕ} (n / 256 ∷ n % 256 ∷ []) (octets_of 2 n)
-word_octets_lem n h = λ i. word_high n h i ∷ n % 256 ∷ []
-
-pub long_octets : (n : ℕ) → n < 2 ^ 32 → ◌≡◌ {A = List ℕ} (n / 0x100_0000 ∷ n / 0x1_0000 % 256 ∷ n / 0x100 % 256 ∷ n % 256 ∷ []) (octets_of 4 n)
-long_octets n h = λ i. long_high n h i ∷ long_next n i ∷ n / 0x100 % 256 ∷ n % 256 ∷ []
+pub long_octets : (n : ℕ) → to_be_bytes w32 n ≡ octets_of 4 n
+long_octets n =
+    let first : n / 256 ^ 3 % 256 ≡ n / 256 / 256 / 256 % 256 = omega arith in
+    let second : n / 256 ^ 2 % 256 ≡ n / 256 / 256 % 256 = omega arith in
+    let third : n / 256 ^ 1 % 256 ≡ n / 256 % 256 = refl in
+    λ i. first i ∷ second i ∷ third i ∷ n % 256 ∷ []

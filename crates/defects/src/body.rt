@@ -1,5 +1,5 @@
 // The data fields of one set, built in octets that are lent.
-ghost use Rattle.std.specs.Prelude.{◌+◌, ◌*◌, ◌/◌, ◌^◌, ◌<◌, ◌≤◌, max, ◌≡◌, ◌||◌, ltb, length};
+ghost use Rattle.std.specs.Prelude.{◌+◌, ◌*◌, ◌/◌, ◌^◌, ◌<◌, ◌≤◌, max, ◌≡◌, length};
 ghost use Rattle.laws.specs.Lists.{written_over};
 ghost use Rattle.defects.specs.Field.{slots};
 ghost use Rattle.defects.specs.Place.{field_octets};
@@ -59,9 +59,8 @@ pub(crate) fn fill(
     ensures { Filled setup job defects.now set field.new result }
 {
     let run = run_of(setup, set, defects.len());
-    let at = run.at;
-    let end = at + ENTRY_LENGTH * run.count;
-    let order = order_of(least, defects, at, run.count);
+    let end = run.at + ENTRY_LENGTH * run.count;
+    let order = order_of(least, defects, run);
     let front = Front {
         count: 2 * setup.field1 - 2,
         flags: flags_for(set + 1 == job.sets, order.unordered),
@@ -71,8 +70,8 @@ pub(crate) fn fill(
         cylinder: job.cylinder as u32,
         head: job.head,
     };
-    write_front(front, field);
-    put_padded(field, ENTRIES, &defects[at..end]);
+    field[..ENTRIES].copy_from_slice(&front_octets(front));
+    put_padded(field, ENTRIES, &defects[run.at..end]);
     order.least
 }
 
@@ -86,42 +85,24 @@ fn run_of(setup: Setup, set: u16, size: usize) -> Run
     let left = size / ENTRY_LENGTH - first;
     Run {
         at: ENTRY_LENGTH * first,
-        count: if each < left { each } else { left },
+        count: each.min(left),
     }
 }
 
-fn order_of(least: u64, defects: &[u8], at: usize, count: usize) -> Order
-    requires { (at + 12 * count ≤ length defects.now) × AllNear (list_from defects.now at count) }
-    ensures { Ordered least (list_from defects.now at count) result }
+fn order_of(least: u64, defects: &[u8], run: Run) -> Order
+    requires { (run.at + 12 * run.count ≤ length defects.now) × AllNear (list_from defects.now run.at run.count) }
+    ensures { Ordered least (list_from defects.now run.at run.count) result }
 {
-    let mut order = Order {
-        unordered: false,
-        least,
-    };
-    let mut from = at;
-    let mut left = count;
-    while 0 < left {
-        order = order_with(order, address_of(defect_at(defects, from)));
-        from += ENTRY_LENGTH;
-        left -= 1;
-    }
-    order
-}
-
-// A defect more.
-fn order_with(order: Order, address: u64) -> Order
-    requires { address < 2 ^ 63 }
-    ensures { (result.unordered ≡ ltb address order.least || order.unordered) × (result.least ≡ max order.least (address + 1)) }
-{
-    if address < order.least {
-        return Order {
-            unordered: true,
-            least: order.least,
-        };
+    let mut unordered = false;
+    let mut above = least;
+    for i in 0..run.count {
+        let address = address_of(defect_at(defects, run.at + ENTRY_LENGTH * i));
+        unordered |= address < above;
+        above = above.max(address + 1);
     }
     Order {
-        unordered: order.unordered,
-        least: address + 1,
+        unordered,
+        least: above,
     }
 }
 
@@ -131,24 +112,30 @@ fn flags_for(last: bool, unordered: bool) -> u8
     (parts::part_of(last, LAST) + parts::part_of(unordered, OUT_OF_SEQUENCE)) as u8
 }
 
-fn write_front(front: Front, field: &mut [u8])
-    requires { 14 ≤ length field.old }
-    ensures { field.new ≡ written_over field.old (octets_in_front front) }
+fn front_octets(front: Front) -> [u8; ENTRIES]
+    ensures { result ≡ octets_in_front front }
 {
-    field[0] = (front.count / 256) as u8;
-    field[1] = (front.count % 256) as u8;
-    field[2] = front.flags;
-    field[3] = front.copy;
-    field[4] = (front.sets / 256) as u8;
-    field[5] = (front.sets % 256) as u8;
-    field[6] = (front.set / 256) as u8;
-    field[7] = (front.set % 256) as u8;
-    field[8] = (front.cylinder / 0x100_0000) as u8;
-    field[9] = (front.cylinder / 0x1_0000 % 256) as u8;
-    field[10] = (front.cylinder / 0x100 % 256) as u8;
-    field[11] = (front.cylinder % 256) as u8;
-    field[12] = (front.head / 256) as u8;
-    field[13] = (front.head % 256) as u8;
+    let [n0, n1] = front.count.to_be_bytes();
+    let [a0, a1] = front.sets.to_be_bytes();
+    let [b0, b1] = front.set.to_be_bytes();
+    let [c0, c1, c2, c3] = front.cylinder.to_be_bytes();
+    let [h0, h1] = front.head.to_be_bytes();
+    [
+        n0,
+        n1,
+        front.flags,
+        front.copy,
+        a0,
+        a1,
+        b0,
+        b1,
+        c0,
+        c1,
+        c2,
+        c3,
+        h0,
+        h1,
+    ]
 }
 
 // The data field as one of the copies: its number and its CRC.
@@ -159,6 +146,5 @@ pub(crate) fn finish(field: &mut [u8], copy: u8)
     let end = field.len() - CRC_LENGTH;
     field[COPY] = copy;
     let remainder = crc(&field[..end]);
-    field[end] = (remainder / 256) as u8;
-    field[end + 1] = (remainder % 256) as u8;
+    field[end..].copy_from_slice(&remainder.to_be_bytes());
 }

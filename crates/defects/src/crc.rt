@@ -10,10 +10,8 @@ pub(crate) fn crc(octets: &[u8]) -> u16
 {
     let table = crc_table();
     let mut register: u16 = 0;
-    let mut i = 0;
-    while i < octets.len() {
-        register = one_more(&table, register, octets[i]);
-        i += 1;
+    for octet in octets {
+        register = one_more(&table, register, *octet);
     }
     register
 }

@@ -41,18 +41,17 @@ pub(crate) fn write_defect(defect: Defect, octets: &mut [u8])
     requires { 12 ≤ length octets.old }
     ensures { octets.new ≡ written_over octets.old (defect_octets defect) }
 {
-    octets[0] = (defect.cylinder / 0x100_0000) as u8;
-    octets[1] = (defect.cylinder / 0x1_0000 % 256) as u8;
-    octets[2] = (defect.cylinder / 0x100 % 256) as u8;
-    octets[3] = (defect.cylinder % 256) as u8;
-    octets[4] = (defect.head / 256) as u8;
-    octets[5] = (defect.head % 256) as u8;
-    octets[6] = (defect.offset / 0x100_0000) as u8;
-    octets[7] = (defect.offset / 0x1_0000 % 256) as u8;
-    octets[8] = (defect.offset / 0x100 % 256) as u8;
-    octets[9] = (defect.offset % 256) as u8;
-    octets[10] = (defect.length / 256) as u8;
-    octets[11] = (defect.length % 256) as u8;
+    octets[..ENTRY_LENGTH].copy_from_slice(&defect_octets(defect));
+}
+
+fn defect_octets(defect: Defect) -> [u8; ENTRY_LENGTH]
+    ensures { result ≡ defect_octets defect }
+{
+    let [c0, c1, c2, c3] = defect.cylinder.to_be_bytes();
+    let [h0, h1] = defect.head.to_be_bytes();
+    let [o0, o1, o2, o3] = defect.offset.to_be_bytes();
+    let [l0, l1] = defect.length.to_be_bytes();
+    [c0, c1, c2, c3, h0, h1, o0, o1, o2, o3, l0, l1]
 }
 
 pub(crate) fn defect_at(octets: &[u8], at: usize) -> Defect
@@ -71,20 +70,14 @@ pub(crate) fn word_at(octets: &[u8], at: usize) -> u16
     requires { at + 2 ≤ length octets.now }
     ensures { result ≡ number_at 2 at octets.now }
 {
-    wide(octets[at]) * 256 + wide(octets[at + 1])
+    u16::from_be_bytes([octets[at], octets[at + 1]])
 }
 
 pub(crate) fn long_at(octets: &[u8], at: usize) -> u32
     requires { at + 4 ≤ length octets.now }
     ensures { result ≡ number_at 4 at octets.now }
 {
-    word_at(octets, at) as u32 * 0x1_0000 + word_at(octets, at + 2) as u32
-}
-
-fn wide(octet: u8) -> u16
-    ensures { (result ≡ octet) × (result ≤ 255) }
-{
-    octet as u16
+    u32::from_be_bytes([octets[at], octets[at + 1], octets[at + 2], octets[at + 3]])
 }
 
 pub(crate) fn is_blank(d: Defect) -> bool

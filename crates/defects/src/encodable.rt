@@ -33,14 +33,10 @@ pub(crate) fn is_encodable(
 fn are_listable(setup: Setup, defects: &[u8]) -> bool
     ensures { result ≡ are_listable setup (defects_listed defects.now) }
 {
-    let mut at = 0;
-    let mut left = defects.len() / ENTRY_LENGTH;
-    while 0 < left {
-        if !is_listable(setup, defect_at(defects, at)) {
+    for i in 0..defects.len() / ENTRY_LENGTH {
+        if !is_listable(setup, defect_at(defects, ENTRY_LENGTH * i)) {
             return false;
         }
-        at += ENTRY_LENGTH;
-        left -= 1;
     }
     true
 }
@@ -68,11 +64,7 @@ pub(crate) fn sets_for(setup: Setup, count: usize) -> usize
     if each == 0 {
         return 1;
     }
-    let sets = (count + each - 1) / each;
-    if sets == 0 {
-        return 1;
-    }
-    sets
+    ((count + each - 1) / each).max(1)
 }
 
 fn slots_each(setup: Setup) -> usize

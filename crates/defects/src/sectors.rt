@@ -21,12 +21,10 @@ fn load_words(sectors: &[u16], start: usize, count: usize, field: &mut [u8])
     requires { (start + count ≤ length sectors.now) × (2 * count ≤ length field.old) }
     ensures { take (2 * count) field.new ≡ word_octets (take count (drop start sectors.now)) }
 {
-    let mut i = 0;
-    while i < count {
-        let word = sectors[start + i];
-        field[2 * i] = (word / 256) as u8;
-        field[2 * i + 1] = (word % 256) as u8;
-        i += 1;
+    for i in 0..count {
+        let [high, low] = sectors[start + i].to_be_bytes();
+        field[2 * i] = high;
+        field[2 * i + 1] = low;
     }
 }
 

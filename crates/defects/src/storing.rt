@@ -1,5 +1,5 @@
 // A data field put into its place: into the octets of a map, or into the sector words.
-ghost use Rattle.std.specs.Prelude.{ℕ, ◌+◌, ◌-◌, ◌%◌, ◌≤◌, ◌≡◌, List, ◌++◌, length, replicate, get_or};
+ghost use Rattle.std.specs.Prelude.{ℕ, ◌+◌, ◌-◌, ◌%◌, ◌≤◌, ◌≡◌, List, ◌++◌, length, replicate};
 ghost use Rattle.laws.specs.Lists.{written_at};
 ghost use Rattle.parts.specs.declared.setup.Setup.{Setup};
 ghost use Rattle.defects.specs.Place.{field_octets};
@@ -56,11 +56,8 @@ fn store(words: &mut [u16], at: usize, octets: &[u8])
     requires { at + length (octet_words octets.now) ≤ length words.old }
     ensures { words.new ≡ written_at words.old at (octet_words octets.now) }
 {
-    let count = octets.len() / 2;
-    let mut i = 0;
-    while i < count {
+    for i in 0..octets.len() / 2 {
         words[at + i] = word_at(octets, 2 * i);
-        i += 1;
     }
 }
 
@@ -69,13 +66,10 @@ fn put(out: &mut [u8], at: usize, octets: &[u8])
     requires { (at + length octets.now ≤ length out.old) × (length octets.now % 2 ≡ 0) }
     ensures { out.new ≡ written_at out.old at octets.now }
 {
-    // Two octets a turn: one a turn would be made a call of `memcpy`.
-    let pairs = octets.len() / 2;
-    let mut i = 0;
-    while i < pairs {
+    // Two octets a turn: one a turn would be made a call of `memcpy`, and so would a copy of the slice.
+    for i in 0..octets.len() / 2 {
         out[at + 2 * i] = octets[2 * i];
         out[at + 2 * i + 1] = octets[2 * i + 1];
-        i += 1;
     }
 }
 
@@ -84,17 +78,8 @@ pub(crate) fn put_padded(out: &mut [u8], at: usize, octets: &[u8])
     requires { at + length octets.now ≤ length out.old }
     ensures { out.new ≡ written_at out.old at (octets.now ++ replicate (length out.old - at - length octets.now) 0) }
 {
-    let room = out.len() - at;
-    let mut i = 0;
-    while i < room {
-        out[at + i] = octet_or_zero(octets, i);
-        i += 1;
+    // A copy of the slice would be a call of `memcpy`.
+    for i in 0..out.len() - at {
+        out[at + i] = octets.get(i).copied().unwrap_or(0);
     }
-}
-
-// The octet at this index, 0 behind the last.
-fn octet_or_zero(octets: &[u8], i: usize) -> u8
-    ensures { result ≡ get_or octets.now i 0 }
-{
-    if i < octets.len() { octets[i] } else { 0 }
 }

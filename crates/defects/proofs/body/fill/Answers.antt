@@ -1,10 +1,14 @@
 -- `defects::body::fill` meets its contract: its callees make the parts of the data field.
 -- Assumes nothing.
-use Prim.Native.Nat.{◌+◌, ◌-◌, ◌*◌}
-use mathlib.Core.Path.{◌≡◌, ◌∙◌}
+use Prim.Native.Nat.{ℕ, ◌+◌, ◌-◌, ◌*◌}
+use mathlib.Core.Path.{◌≡◌, sym, ap, ◌∙◌}
+use mathlib.Core.List.{List, ◌++◌}
 use native.Mathlib.Omega.{arith}
-use lib.ListN.{length, drop, length-take}
-use Rattle.defects.specs.Place.{field_octets}
+use lib.ListN.{length, drop, length-take, length-append, length-drop}
+use lib.Seq.{length-take-le}
+use Rattle.laws.specs.Lists.{written_over}
+use Rattle.defects.specs.EncodeSteps.{octets_in_front}
+use Rattle.defects.specs.declared.front.Front.{Front}
 use Rattle.defects.proofs.Plans.{plan, RunKnown, run_known}
 use Rattle.defects.proofs.Fills.{filled}
 use borrow.Author.Rules.{rules}
@@ -34,24 +38,47 @@ overflow_sub-front c =
     let p = plan c.requires.0.planned in
     omega arith
 
-pub write_front-requires : goal.write_front-requires
-write_front-requires c =
+pub slice_bounds-copy_from_slice-end : goal.slice_bounds-copy_from_slice-end
+slice_bounds-copy_from_slice-end c = let p = plan c.requires.0.planned in omega (arith, c.requires.1, p.field1)
+
+pub slice_bounds-copy_from_slice-end-2 : goal.slice_bounds-copy_from_slice-end-2
+slice_bounds-copy_from_slice-end-2 c = let p = plan c.requires.0.planned in sym (length-take-le _ _ (omega (arith, c.requires.1, p.field1)))
+
+pub copy_from_slice-requires : goal.copy_from_slice-requires
+unfolding octets_in_front
+copy_from_slice-requires c =
     let p = plan c.requires.0.planned in
-    omega (arith, c.requires.1)
+    length-take-le 14 c.args.field.now (omega (arith, c.requires.1, p.field1)) ∙ sym (ap length c.front_octets.ensures)
 
 pub slice_bounds-put_padded-end : goal.slice_bounds-put_padded-end
 slice_bounds-put_padded-end c =
     (known (goal.at.slice_bounds-put_padded-end c).After-run_of-run).within
 
+-- the octets in front, written
+in_front : (field octets new : List ℕ) (front : Front) → new ≡ octets → octets ≡ octets_in_front front → new ++ drop 14 field ≡ written_over field (octets_in_front front)
+unfolding octets_in_front
+in_front field octets new front e f = rw (e, f)
+
 pub put_padded-requires : goal.put_padded-requires
+unfolding octets_in_front
 put_padded-requires c =
     let r = c.run_of-run.result in
-    let same : length c.write_front.new.field ≡ field_octets c.args.setup = c.write_front.auto.field ∙ c.requires.1 in
-    omega (arith, (known (goal.at.put_padded-requires c).After-run_of-run).few, length-take (r.at + 12 * r.count - r.at) (drop r.at c.args.defects.now))
+    let p = plan c.requires.0.planned in
+    let front = c.copy_from_slice.new.self in
+    let long : length front ≡ 14 = ap length (c.copy_from_slice.ensures.after ∙ c.front_octets.ensures) in
+    omega (
+      arith,
+      c.requires.1,
+      p.field1,
+      (known (goal.at.put_padded-requires c).After-run_of-run).few,
+      length-take (r.at + 12 * r.count - r.at) (drop r.at c.args.defects.now),
+      length-append front (drop 14 c.args.field.now),
+      length-drop 14 c.args.field.now,
+    )
 
 pub returns : goal.returns
 returns c =
     let r = c.run_of-run.result in
     let count : r.at + 12 * r.count - r.at ≡ 12 * r.count = omega arith in
     filled c.requires.0 r _ _ c.args.field.now _ c.requires.1 (known (goal.at.returns c).After-run_of-run) (search rules) c.order_of-order.ensures c.flags_for.ensures
-    (rw (← count, ← c.write_front.ensures) c.put_padded.ensures)
+    (rw (← count, ← in_front c.args.field.now _ _ _ c.copy_from_slice.ensures.after c.front_octets.ensures) c.put_padded.ensures)

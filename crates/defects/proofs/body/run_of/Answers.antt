@@ -26,12 +26,7 @@ pub overflow_mul-result : goal.overflow_mul-result
 overflow_mul-result c =
     omega (arith, first (goal.at.overflow_mul-result c).After-slots_of-each)
 
-pub returns-then-each-left : goal.returns-then-each-left
-returns-then-each-left c =
-    let e = each (goal.at.returns-then-each-left c).After-slots_of-each in
-    record { at = rw e; count = rw (← e) (omega arith) }
-
-pub returns-else-each-left : goal.returns-else-each-left
-returns-else-each-left c =
-    let e = each (goal.at.returns-else-each-left c).After-slots_of-each in
-    record { at = rw e; count = rw (← e) (omega arith) }
+pub returns : goal.returns
+returns c =
+    let e = each (goal.at.returns c).After-slots_of-each in
+    record { at = rw e; count = c.min.ensures ∙ rw e }

@@ -8,5 +8,4 @@ use Rattle.defects.proofs.defect.word_at.Goals as goal
 
 pub returns : goal.returns
 unfolding number_at
-returns c =
-    rw (run_read c.args.octets.now c.args.at 2 c.requires, ← (add-one c.args.at)) (omega arith)
+returns c = rw (run_read c.args.octets.now c.args.at 2 c.requires, ← (add-one c.args.at)) (omega (arith, c.from_be_bytes.ensures))

@@ -10,10 +10,6 @@ pub returns-then-each-eq0 : goal.returns-then-each-eq0
 unfolding sets_for
 returns-then-each-eq0 c = rw (← c.slots_each-each.ensures.0) (search steps)
 
-pub returns-then-sets-eq0 : goal.returns-then-sets-eq0
-unfolding sets_for
-returns-then-sets-eq0 c = rw (← c.slots_each-each.ensures.0) (pick_f _ _ _ _ _ (ne_eqb _ _ c.if-each-eq0.false) (omega arith))
-
 pub returns : goal.returns
 unfolding sets_for
 returns c = rw (← c.slots_each-each.ensures.0) (pick_f _ _ _ _ _ (ne_eqb _ _ c.if-each-eq0.false) (omega arith))

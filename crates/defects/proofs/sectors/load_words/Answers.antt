@@ -1,19 +1,14 @@
 -- `defects::sectors::load_words` meets its contract: after i turns, the words of i more octets are loaded.
 -- Assumes nothing.
-use Rattle.defects.proofs.Loading.{word_loaded}
-use Prim.Native.Nat.{◌+◌}
+use Prim.Native.Nat.{◌+◌, ◌/◌, ◌%◌}
 use mathlib.Core.Path.{◌≡◌, refl}
 use native.Mathlib.Omega.{arith}
-use borrow.Author.Rules.{rules}
-use lib.ListN.{length-set}
+use lib.ListN.{get_or, length-set}
+use Rattle.defects.proofs.Loading.{word_loaded}
 use Rattle.defects.proofs.sectors.load_words.Goals as goal
 
 pub loop-i-init : goal.loop-i-init
-loop-i-init c = (search rules, refl, refl)
-
-pub overflow_cast-field : goal.overflow_cast-field
-overflow_cast-field c =
-    omega (arith, c.type_inv.sectors (c.args.start + c.loop-i.i))
+loop-i-init c = refl
 
 pub bounds-field-i-in-loop-i : goal.bounds-field-i-in-loop-i
 bounds-field-i-in-loop-i c = simp length-set (omega arith)
@@ -21,9 +16,14 @@ bounds-field-i-in-loop-i c = simp length-set (omega arith)
 pub loop-i-preserved : goal.loop-i-preserved
 loop-i-preserved c =
     let a = c.args in
-    (search rules, simp length-set (search rules), word_loaded c.loop-i.field a.sectors.now a.start c.loop-i.i (omega arith) (omega arith) c.loop-i.invariant.2)
+    let i = c.loop-i.i in
+    let word = get_or a.sectors.now (a.start + i) 0 in
+    let octets = c.to_be_bytes.ensures in
+    let high : get_or c.to_be_bytes.result 0 0 ≡ word / 256 = rw octets (omega (arith, c.type_inv.sectors (a.start + i))) in
+    let low : get_or c.to_be_bytes.result 1 0 ≡ word % 256 = rw octets in
+    rw (high, low) (word_loaded c.loop-i.field a.sectors.now a.start i (omega arith) (omega arith) c.loop-i.invariant)
 
 pub returns : goal.returns
 returns c =
     let all : c.args.count ≡ c.loop-i.i = omega arith in
-    rw all c.loop-i.invariant.2
+    rw all c.loop-i.invariant

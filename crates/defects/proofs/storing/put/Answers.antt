@@ -1,12 +1,11 @@
 -- `defects::storing::put` meets its contract: after i turns, 2 * i octets are pasted.
 -- Assumes nothing.
 use Prim.Native.Nat.{ℕ, suc, ◌+◌, ◌*◌, ◌<◌}
-use mathlib.Core.Path.{◌≡◌, refl}
+use mathlib.Core.Path.{◌≡◌}
 use mathlib.Core.List.{List}
 use native.Mathlib.Omega.{arith}
 use lib.ListN.{length, get_or, set, length-set}
 use lib.Seq.{paste, paste-zero, paste-suc, take-length}
-use borrow.Author.Rules.{rules}
 use Rattle.defects.proofs.storing.put.Goals as goal
 
 -- a turn: two octets more
@@ -19,24 +18,16 @@ two_more out at octets i h l =
     rw (here, there, more, paste-suc out at octets (2 * i) 0 (omega arith) (omega arith)) (paste-suc out at octets (suc (2 * i)) 0 (omega arith) (omega arith))
 
 pub loop-i-init : goal.loop-i-init
-loop-i-init c =
-    let a = c.args in
-    (search rules, refl, paste-zero a.out.now a.at a.octets.now)
+loop-i-init c = paste-zero c.args.out.now c.args.at c.args.octets.now
 
 pub bounds-out-at-in-loop-i : goal.bounds-out-at-in-loop-i
 bounds-out-at-in-loop-i c = simp length-set (omega arith)
 
 pub loop-i-preserved : goal.loop-i-preserved
-loop-i-preserved c =
-    let l = c.loop-i in
-    let a = c.args in (
-      search rules,
-      simp length-set l.invariant.1,
-      rw l.invariant.2 (two_more a.out.now a.at a.octets.now l.i (omega arith) (omega arith)),
-    )
+loop-i-preserved c = rw c.loop-i.invariant (two_more c.args.out.now c.args.at c.args.octets.now c.loop-i.i (omega arith) (omega arith))
 
 pub returns : goal.returns
 returns c =
     let octets = c.args.octets.now in
     let all : 2 * c.loop-i.i ≡ length octets = omega arith in
-    rw (c.loop-i.invariant.2, all, take-length octets)
+    rw (c.loop-i.invariant, all, take-length octets)

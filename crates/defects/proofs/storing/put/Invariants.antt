@@ -1,13 +1,9 @@
 -- `defects::storing::put` meets its contract: after i turns, 2 * i octets are pasted.
 -- Assumes nothing.
-use Prim.Native.Nat.{◌-◌, ◌*◌, ◌≤◌}
+use Prim.Native.Nat.{◌*◌}
 use mathlib.Core.Path.{◌≡◌}
-use lib.ListN.{length}
 use lib.Seq.{paste}
 use Rattle.defects.proofs.storing.put.Given as goal
 
 abbrev pub invariant-loop-i : goal.invariant-loop-i
-invariant-loop-i l = (l.i ≤ l.pairs) × (length l.out ≡ length l.initial.out) × (l.out ≡ paste l.initial.out l.at l.octets (2 * l.i))
-
-abbrev pub decreases-loop-i : goal.decreases-loop-i
-decreases-loop-i l = l.pairs - l.i
+invariant-loop-i l = l.out ≡ paste l.initial.out l.at l.octets (2 * l.i)

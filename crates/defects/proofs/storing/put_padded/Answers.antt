@@ -5,9 +5,9 @@ use mathlib.Core.Path.{◌≡◌, refl, sym, ◌∙◌}
 use mathlib.Core.List.{List, [], ◌∷◌, ◌++◌}
 use native.Mathlib.Numerals.{add-one}
 use native.Mathlib.Omega.{arith}
-use lib.ListN.{length, get_or, replicate, length-append, length-replicate, length-set}
+use Rattle.std.proofs.lemmas.Grind.{common_steps}
+use lib.ListN.{length, get_or, replicate, length-append, length-replicate}
 use lib.Seq.{paste-zero, paste-suc, take-length}
-use borrow.Author.Rules.{rules}
 use Rattle.defects.proofs.storing.put_padded.Invariants.{padded}
 use Rattle.defects.proofs.storing.put_padded.Goals as goal
 
@@ -28,27 +28,22 @@ read_padded (octet ∷ octets) n zero = refl
 read_padded (octet ∷ octets) n (suc i) = read_padded octets n i
 
 pub loop-i-init : goal.loop-i-init
-loop-i-init c =
-    let a = c.args in
-    (search rules, refl, refl, paste-zero a.out.now a.at (padded a.octets.now (length a.out.now - a.at)))
+loop-i-init c = paste-zero c.args.out.now c.args.at (padded c.args.octets.now (length c.args.out.now - c.args.at))
 
 pub loop-i-preserved : goal.loop-i-preserved
 loop-i-preserved c =
     let a = c.args in
-    let l = c.loop-i in
+    let i = c.loop-i.i in
     let room = length a.out.now - a.at in
     let octets = a.octets.now in
-    let inside : a.at + l.i < length a.out.now = omega arith in
-    let octet = c.octet_or_zero.ensures ∙ sym (read_padded octets (room - length octets) l.i) in (
-      search rules,
-      refl,
-      simp length-set l.invariant.2,
-      rw (l.invariant.3, octet, add-one, paste-suc a.out.now a.at (padded octets room) l.i 0 inside (omega (arith, length_padded octets room (omega arith)))),
-    )
+    let inside : a.at + i < length a.out.now = omega arith in
+    let told : c.unwrap_or.result ≡ get_or octets i 0 = grind (arith, common_steps) in
+    let octet = told ∙ sym (read_padded octets (room - length octets) i) in
+    rw (c.loop-i.invariant, octet, add-one, paste-suc a.out.now a.at (padded octets room) i 0 inside (omega (arith, length_padded octets room (omega arith))))
 
 pub returns : goal.returns
 returns c =
     let a = c.args in
-    let all_octets = padded a.octets.now (length a.out.now - a.at) in
-    let all : c.loop-i.i ≡ length all_octets = omega (arith, length_padded a.octets.now (length a.out.now - a.at) (omega arith)) in
-    rw (c.loop-i.invariant.3, all, take-length all_octets)
+    let room = length a.out.now - a.at in
+    let all : c.loop-i.i ≡ length (padded a.octets.now room) = omega (arith, length_padded a.octets.now room (omega arith)) in
+    rw (c.loop-i.invariant, all, take-length (padded a.octets.now room))
