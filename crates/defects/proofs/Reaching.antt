@@ -23,7 +23,7 @@ use Rattle.defects.specs.Walk.{outset, is_ended, after, field_at, walk_at, defec
 use Rattle.defects.specs.Steps.{last_tests, StepTaken, EndsAt}
 use Rattle.defects.specs.declared.offence.Offence.{Offence}
 use Rattle.defects.specs.declared.walk.Walk.{Walk}
-use Rattle.defects.specs.declared.walk.Stepped.{Stepped}
+use Rattle.defects.specs.declared.walk.Progress.{Progress}
 use Rattle.defects.proofs.Listed.{behind_parts}
 use Rattle.defects.proofs.WalkSteps.{walk_next, defects_next, ended_stays, defects_stay}
 use Rattle.defects.proofs.TestsAt.{tests_of, behind_test, tests_going, none_behind}
@@ -83,20 +83,20 @@ module _ (alone : Bool) (s : Setup) (octets : List ℕ) where
     module _ (h : k < data_fields s) (e : is_ended w ≡ false)
         (fits : no_offence ≡ first_of (17 at k * field_octets s when ltb (length octets) (k * field_octets s + field_octets s) ∷ [])) where
       -- what the turn found is what the tests at hand have
-      turn_found : (r : Result Stepped Offence) → StepTaken s w least k (k * field_octets s) (field_at s octets w.original) (field_at s octets k) r
+      turn_found : (r : Result Progress Offence) → StepTaken s w least k (k * field_octets s) (field_at s octets w.original) (field_at s octets k) r
           → offence_in r ≡ first_of (tests_at alone s octets k)
       turn_found r taken =
           let own : offence_in r ≡ first_of (pick (is_ignored (field_at s octets k)) [] (tests_of s octets k)) = taken.offence ∙ rw (here.walk, here.least') in
           one_passed _ _ fits own ∙ sym (ap first_of (own_tests k h (still_going e)))
 
       pub reached_stop : (offence : Offence) → StepTaken s w least k (k * field_octets s) (field_at s octets w.original) (field_at s octets k) (Err offence)
-          → offence_in {A = Stepped} (Err offence) ≡ first_of (map_tests alone s octets)
+          → offence_in {A = Progress} (Err offence) ≡ first_of (map_tests alone s octets)
       reached_stop offence taken = all_of (turn_found (Err offence) taken)
 
       pub is_whole : k * field_octets s + field_octets s ≤ length octets
       is_whole = ltb-false _ _ (not_held _ fits)
 
-      pub reached_next : (r : Stepped) → StepTaken s w least k (k * field_octets s) (field_at s octets w.original) (field_at s octets k) (Ok r) → Reached (k + 1) r.walk r.least
+      pub reached_next : (r : Progress) → StepTaken s w least k (k * field_octets s) (field_at s octets w.original) (field_at s octets k) (Ok r) → Reached (k + 1) r.walk r.least
       reached_next r taken =
           let going = still_going e in
           let before = defects_before s octets k in
@@ -104,9 +104,9 @@ module _ (alone : Bool) (s : Setup) (octets : List ℕ) where
           record {
             within = omega arith;
             whole = omega (arith, is_whole);
-            walk = ap (λ (r : Stepped). r.walk) taken.next ∙ ap (λ (w : Walk). after w k (field_at s octets k)) here.walk
+            walk = ap (λ (r : Progress). r.walk) taken.next ∙ ap (λ (w : Walk). after w k (field_at s octets k)) here.walk
                 ∙ sym (ap (walk_at s octets) (add-one k) ∙ walk_next s octets k going);
-            least' = ap (λ (r : Stepped). r.least) taken.next
+            least' = ap (λ (r : Progress). r.least) taken.next
                 ∙ rw (here.walk, here.least') (sym (ap (behind_all 0) (ap (defects_before s octets) (add-one k) ∙ defects_next s octets k going) ∙ behind_parts 0 before _));
             going = below_more _ _ here.going going;
             rest = here.rest ∙ ap first_of (at_hand k here.within) ∙ first_behind (tests_at alone s octets k) _ (sym (turn_found (Ok r) taken));

@@ -20,7 +20,7 @@ use Rattle.defects.specs.declared.decoding.MapRead.{MapRead}
 use Rattle.defects.specs.declared.offence.Offence.{Offence}
 use Rattle.defects.specs.declared.source.Source.{Source}
 use Rattle.defects.specs.declared.walk.Walk.{Walk}
-use Rattle.defects.specs.declared.walk.Stepped.{Stepped}
+use Rattle.defects.specs.declared.walk.Progress.{Progress}
 
 -- A data field of a map in a drive, and its offset.
 pub record Sized (s : Setup) (start : ℕ) (field : List ℕ) : Type 0 where
@@ -59,7 +59,7 @@ abbrev pub own_defects : ℕ → List ℕ → List Defect
 own_defects copy field = pick (not (is_ignored field) && eqb copy 0) (defects_in field) []
 
 -- Data field k: its offence, or what is due behind it.
-pub record StepTaken (s : Setup) (w : Walk) (least k start : ℕ) (original field : List ℕ) (r : Result Stepped Offence) : Type 0 where
+pub record StepTaken (s : Setup) (w : Walk) (least k start : ℕ) (original field : List ℕ) (r : Result Progress Offence) : Type 0 where
   pub offence : offence_in r ≡ first_of (pick (is_ignored field) [] (field_tests s w least start original field))
   pub next : IfOk r (λ next. next ≡ record { walk = after w k field; least = behind_all least (own_defects w.copy field) })
 

@@ -8,7 +8,7 @@ use crate::judging::{judge_copy, judge_original};
 use crate::offence::Offence;
 use parts::Setup;
 
-// What is due at a data field.
+// Which copy of which set is due.
 #[derive(Clone, Copy)]
 pub(crate) struct Walk {
     // Whole sets before it.
@@ -23,10 +23,11 @@ pub(crate) struct Walk {
     pub last: bool,
 }
 
-// What is due behind a data field without an offence.
+// What is due at a data field.
 #[derive(Clone, Copy)]
-pub(crate) struct Stepped {
+pub(crate) struct Progress {
     pub walk: Walk,
+    // The least address that is higher than all before it.
     pub least: u64,
 }
 
@@ -34,81 +35,86 @@ pub(crate) const IGNORED: u8 = 0xFF;
 
 pub(crate) const LAST_COPY: u8 = 2;
 
-pub(crate) fn outset_of_map() -> Walk
-    ensures { result ≡ outset }
-{
-    Walk {
-        set: 0,
-        copy: 0,
-        original: 0,
-        sets: 0,
-        cylinder: 0,
-        head: 0,
-        last: false,
+impl Walk {
+    pub(crate) fn outset() -> Walk
+        ensures { result ≡ outset }
+    {
+        Walk {
+            set: 0,
+            copy: 0,
+            original: 0,
+            sets: 0,
+            cylinder: 0,
+            head: 0,
+            last: false,
+        }
     }
-}
 
-pub(crate) fn is_ended(walk: Walk) -> bool
-    ensures { result ≡ is_ended walk }
-{
-    walk.last & (walk.copy == 0)
+    pub(crate) fn is_ended(self) -> bool
+        ensures { result ≡ is_ended self }
+    {
+        self.last & (self.copy == 0)
+    }
+
+    fn after_original(self, k: usize, front: Front) -> Walk
+        ensures { result ≡ after_original self k front }
+    {
+        Walk {
+            set: self.set,
+            copy: 1,
+            original: k,
+            sets: front.sets,
+            cylinder: front.cylinder,
+            head: front.head,
+            last: front.flags / 128 % 2 == 1,
+        }
+    }
+
+    fn after_copy(self) -> Walk
+        requires { self.set < 2 ^ 32 }
+        ensures { result ≡ after_copy self }
+    {
+        if self.copy == LAST_COPY {
+            return Walk {
+                set: self.set + 1,
+                copy: 0,
+                ..self
+            };
+        }
+        Walk {
+            copy: LAST_COPY,
+            ..self
+        }
+    }
 }
 
 // Data field k, of which `original` is copy 0 where another copy is due.
 pub(crate) fn step(
     setup: Setup,
-    walk: Walk,
-    least: u64,
+    progress: Progress,
     k: usize,
     start: usize,
     original: &[u8],
     field: &[u8],
-) -> Result<Stepped, Offence>
-    requires { Judgeable setup walk start original.now field.now }
-    ensures { StepTaken setup walk least k start original.now field.now result }
+) -> Result<Progress, Offence>
+    requires { Judgeable setup progress.walk start original.now field.now }
+    ensures { StepTaken setup progress.walk progress.least k start original.now field.now result }
 {
+    let Progress { walk, least } = progress;
     if field[COPY] == IGNORED {
-        return Ok(Stepped { walk, least });
+        return Ok(progress);
     }
     if walk.copy != 0 {
         judge_copy(walk, start, original, field)?;
-        return Ok(Stepped {
-            walk: after_copy(walk),
+        return Ok(Progress {
+            walk: walk.after_copy(),
             least,
         });
     }
     let front = front_of(field);
     let above = judge_original(setup, walk, least, start, front, field)?;
-    Ok(Stepped {
-        walk: after_original(walk, k, front),
+    Ok(Progress {
+        walk: walk.after_original(k, front),
         least: above,
     })
-}
-
-fn after_original(walk: Walk, k: usize, front: Front) -> Walk
-    ensures { result ≡ after_original walk k front }
-{
-    Walk {
-        set: walk.set,
-        copy: 1,
-        original: k,
-        sets: front.sets,
-        cylinder: front.cylinder,
-        head: front.head,
-        last: front.flags / 128 % 2 == 1,
-    }
-}
-
-fn after_copy(walk: Walk) -> Walk
-    requires { walk.set < 2 ^ 32 }
-    ensures { result ≡ after_copy walk }
-{
-    let mut next = walk;
-    if walk.copy == LAST_COPY {
-        next.set = walk.set + 1;
-        next.copy = 0;
-        return next;
-    }
-    next.copy = LAST_COPY;
-    next
 }

@@ -9,7 +9,7 @@ ghost use Rattle.defects.specs.Steps.{last_tests, StepTaken, MapJudged};
 use crate::offence::{Offence, refuse_if};
 use crate::place::{MOST_OCTETS, data_fields, field_octets};
 use crate::source::Source;
-use crate::walk::{Stepped, Walk, is_ended, outset_of_map, step};
+use crate::walk::{Progress, Walk, step};
 use parts::Setup;
 use refusals::Refusal;
 
@@ -30,22 +30,25 @@ pub(crate) fn judge(setup: Setup, source: Source) -> Result<Judgement, Offence>
     let size = source.size(setup);
     let count = data_fields(setup);
     let each = field_octets(setup);
-    let mut walk = outset_of_map();
-    let mut least: u64 = 0;
+    let mut progress = Progress {
+        walk: Walk::outset(),
+        least: 0,
+    };
     for k in 0..count {
         let start = k * each;
-        if is_ended(walk) {
+        if progress.walk.is_ended() {
             judge_end(alone, start, size)?;
-            return Ok(Judgement { walk, fields: k });
+            return Ok(Judgement {
+                walk: progress.walk,
+                fields: k,
+            });
         }
         refuse_if(size < start + each, Refusal::NotWhole, start)?;
-        let next = turn(setup, source, walk, least, k, &mut original, &mut field)?;
-        walk = next.walk;
-        least = next.least;
+        progress = turn(setup, source, progress, k, &mut original, &mut field)?;
     }
-    judge_last(walk, alone, count * each, size)?;
+    judge_last(progress.walk, alone, count * each, size)?;
     Ok(Judgement {
-        walk,
+        walk: progress.walk,
         fields: count,
     })
 }
@@ -54,26 +57,25 @@ pub(crate) fn judge(setup: Setup, source: Source) -> Result<Judgement, Offence>
 fn turn(
     setup: Setup,
     source: Source,
-    walk: Walk,
-    least: u64,
+    progress: Progress,
     k: usize,
     original: &mut [u8; MOST_OCTETS],
     field: &mut [u8; MOST_OCTETS],
-) -> Result<Stepped, Offence>
-    requires { Loadable setup source k × (walk.set < 2 ^ 32) × (walk.original ≤ k) }
-    ensures { StepTaken setup walk least k (k * field_octets setup) (field_at setup (string_in setup source.entry) walk.original) (field_at setup (string_in setup source.entry) k) result }
+) -> Result<Progress, Offence>
+    requires { Loadable setup source k × (progress.walk.set < 2 ^ 32) × (progress.walk.original ≤ k) }
+    ensures { StepTaken setup progress.walk progress.least k (k * field_octets setup) (field_at setup (string_in setup source.entry) progress.walk.original) (field_at setup (string_in setup source.entry) k) result }
 {
     let start = k * field_octets(setup);
-    let begun = source.field(setup, walk.original, original);
+    let begun = source.field(setup, progress.walk.original, original);
     let here = source.field(setup, k, field);
-    step(setup, walk, least, k, start, begun, here)
+    step(setup, progress, k, start, begun, here)
 }
 
 // Behind the last data field of the cylinder.
 fn judge_last(walk: Walk, alone: bool, start: usize, size: usize) -> Result<(), Offence>
     ensures { offence_in result ≡ first_of (last_tests walk alone start size) }
 {
-    if is_ended(walk) {
+    if walk.is_ended() {
         return judge_end(alone, start, size);
     }
     refuse_if(true, Refusal::NoDataField, start)

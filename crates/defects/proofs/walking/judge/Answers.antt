@@ -23,12 +23,12 @@ use Rattle.defects.proofs.walking.judge.Goals as goal
 use Rattle.defects.proofs.walking.judge.Goals.{At-loop-k, Else-is_ended, In-loop-k, In_ok-refuse_if, After-loop-k}
 
 pub loop-k-init : goal.loop-k-init
-loop-k-init c = rw c.outset_of_map-walk.ensures (reached_outset _ c.args.setup (string_in c.args.setup c.args.source))
+loop-k-init c = rw c.outset.ensures (reached_outset _ c.args.setup (string_in c.args.setup c.args.source))
 
 start_small : (c : At-loop-k) → c.loop-k.k * c.field_octets-each.result ≤ 2 ^ 24
 start_small c = rw c.field_octets-each.ensures (start_few c.args.setup c.loop-k.k c.requires.limits c.loop-k.invariant.within)
 
-going : (c : Else-is_ended) → is_ended c.loop-k.walk ≡ false
+going : (c : Else-is_ended) → is_ended c.loop-k.progress.walk ≡ false
 going c = told _ _ _ c.is_ended.ensures c.if-is_ended.false
 
 one_more : (c : In-loop-k) → c.loop-k.k < data_fields c.args.setup
@@ -74,16 +74,16 @@ turn-requires c =
       rw reached.walk so_far.original,
     )
 
-pub returns-in_err-next : goal.returns-in_err-next
-returns-in_err-next c =
-    let here = goal.at.returns-in_err-next c in
-    rw (passed_on c.from_residual-in_err-next.ensures)
-    (record { offence = reached_stop _ _ _ _ _ _ c.loop-k.invariant (one_more here.In-loop-k) (going here.Else-is_ended) (fits here.In_ok-refuse_if) _ c.in_err-next.ensures; ends = tt })
+pub returns-in_err-progress : goal.returns-in_err-progress
+returns-in_err-progress c =
+    let here = goal.at.returns-in_err-progress c in
+    rw (passed_on c.from_residual-in_err-progress.ensures)
+    (record { offence = reached_stop _ _ _ _ _ _ c.loop-k.invariant (one_more here.In-loop-k) (going here.Else-is_ended) (fits here.In_ok-refuse_if) _ c.in_err-progress.ensures; ends = tt })
 
 pub loop-k-preserved : goal.loop-k-preserved
 loop-k-preserved c =
     let here = goal.at.loop-k-preserved c in
-    reached_next _ _ _ _ _ _ c.loop-k.invariant (one_more here.In-loop-k) (going here.Else-is_ended) (fits here.In_ok-refuse_if) _ c.in_ok-next.ensures
+    reached_next _ _ _ _ _ _ c.loop-k.invariant (one_more here.In-loop-k) (going here.Else-is_ended) (fits here.In_ok-refuse_if) _ c.in_ok-progress.ensures
 
 pub overflow_mul-count : goal.overflow_mul-count
 overflow_mul-count c =
@@ -106,7 +106,7 @@ returns-in_err-judge_last c =
 pub returns : goal.returns
 returns c =
     let here = (goal.at.returns c).After-loop-k in
-    let last : no_offence ≡ first_of (last_tests c.loop-k.walk (is_alone c.args.source) (c.loop-k.k * field_octets c.args.setup) (length (string_in c.args.setup c.args.source))) =
+    let last : no_offence ≡ first_of (last_tests c.loop-k.progress.walk (is_alone c.args.source) (c.loop-k.k * field_octets c.args.setup) (length (string_in c.args.setup c.args.source))) =
     rw (← c.is_alone-alone.ensures, ← c.size-size.ensures, ← c.field_octets-each.ensures, all_gone here) c.in_ok-judge_last.ensures in
     rw (← all_gone here)
     (record {

@@ -5,4 +5,4 @@ use Rattle.defects.proofs.Reaching.{Reached}
 use Rattle.defects.proofs.walking.judge.Given as goal
 
 abbrev pub invariant-loop-k : goal.invariant-loop-k
-invariant-loop-k l = Reached (is_alone l.source) l.setup (string_in l.setup l.source) l.k l.walk l.least
+invariant-loop-k l = Reached (is_alone l.source) l.setup (string_in l.setup l.source) l.k l.progress.walk l.progress.least

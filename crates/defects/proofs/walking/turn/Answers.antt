@@ -11,7 +11,7 @@ overflow_mul-start c =
     rw c.field_octets.ensures (omega arith)
 
 pub field-begun-requires : goal.field-begun-requires
-field-begun-requires c = loadable_before c.args.walk.original c.requires.0 c.requires.2
+field-begun-requires c = loadable_before c.args.progress.walk.original c.requires.0 c.requires.2
 
 pub step-requires : goal.step-requires
 step-requires c = judgeable _ _ _ _ c.requires.0 c.requires.1 c.requires.2 (rw c.field_octets.ensures) c.field-begun.ensures c.field-here.ensures
