@@ -4,7 +4,7 @@ use Prim.Native.Nat.{ℕ, ◌+◌, ◌-◌, ◌*◌, ◌/◌, ◌<◌, ◌≤◌
 use mathlib.Core.Path.{◌≡◌, refl, sym, ap, ◌∙◌}
 use mathlib.Core.Bool.{true}
 use mathlib.Core.List.{List}
-use native.Mathlib.Nat.{mul-le-mul_right, zero-add}
+use native.Mathlib.Nat.{zero-add}
 use native.Mathlib.Omega.{arith}
 use borrow.Author.Tests.{leb-true}
 use lib.Dec.{leb}
@@ -84,7 +84,3 @@ module _ {s : Setup} {job : Job} {octets : List ℕ} (p : Plan s job octets) whe
 
   pub copy_there : {k : ℕ} (set copy : ℕ) → k ≡ 3 * set + copy → set < job.sets → copy < 3 → field_at s (map_octets s (value_in job octets)) k ≡ data_field s (value_in job octets) set copy
   copy_there set copy e h i = rw e ((map_alone s (value_in job octets) p.field1).fields set copy (rw p.sets at h) i)
-
-  -- the data fields before one of them have their octets
-  pub before_field : (k : ℕ) → k ≤ 3 * job.sets → k * field_octets s ≤ length (map_octets s (value_in job octets))
-  before_field k h = rw all_octets (mul-le-mul_right (field_octets s) h)

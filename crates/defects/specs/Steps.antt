@@ -29,6 +29,15 @@ pub record Sized (s : Setup) (start : ℕ) (field : List ℕ) : Type 0 where
   pub most : length field ≤ 2048
   pub within : start ≤ 2 ^ 32
 
+-- The offsets in a data field fit a number.
+pub record IsNear (start : ℕ) (field : List ℕ) : Type 0 where
+  pub within : start + length field < 2 ^ 63
+
+-- And copy 0 of its set has as many octets.
+pub record Comparable (start : ℕ) (original field : List ℕ) : Type 0 where
+  pub alike : length original ≡ length field
+  pub near : IsNear start field
+
 -- An entry: its offence, or the least address that is higher than all up to it.
 pub record EntryJudged (s : Setup) (flagged : Bool) (least offset : ℕ) (d : Defect) (r : Result ℕ Offence) : Type 0 where
   pub offence : offence_in r ≡ first_of (entry_tests s flagged least offset d)

@@ -3,7 +3,7 @@ ghost use Rattle.std.specs.Prelude.{◌+◌, ◌-◌, ◌*◌, ◌≤◌, ◌<�
 ghost use Rattle.defects.specs.Offence.{first_of, offence_in, tests_over};
 ghost use Rattle.defects.specs.Field.{front_of};
 ghost use Rattle.defects.specs.Judging.{same_test, crc_tests, padding_tests, copy_tests};
-ghost use Rattle.defects.specs.Steps.{Sized, OriginalJudged, NoneUnlike};
+ghost use Rattle.defects.specs.Steps.{Sized, IsNear, Comparable, OriginalJudged, NoneUnlike};
 
 use crate::crc::crc;
 use crate::defect::{ENTRY_LENGTH, word_at};
@@ -42,7 +42,7 @@ pub(crate) fn judge_copy(
     original: &[u8],
     field: &[u8],
 ) -> Result<(), Offence>
-    requires { (16 ≤ length field.now) × (length original.now ≡ length field.now) × (start + length field.now < 2 ^ 63) }
+    requires { (16 ≤ length field.now) × Comparable start original.now field.now }
     ensures { offence_in result ≡ first_of (copy_tests walk start original.now field.now) }
 {
     judge_alike(start, field, original, 0, COPY)?;
@@ -60,7 +60,7 @@ pub(crate) fn judge_copy(
 
 // The octets behind so many entries are zero.
 fn judge_padding(start: usize, field: &[u8], count: usize) -> Result<(), Offence>
-    requires { (14 + 12 * count + 2 ≤ length field.now) × (start + length field.now < 2 ^ 63) }
+    requires { (14 + 12 * count + 2 ≤ length field.now) × IsNear start field.now }
     ensures { offence_in result ≡ first_of (padding_tests start field.now count) }
 {
     let end = field.len() - CRC_LENGTH;
@@ -78,7 +78,7 @@ fn judge_alike(
     from: usize,
     count: usize,
 ) -> Result<(), Offence>
-    requires { (from + count ≤ length field.now) × (length original.now ≡ length field.now) × (start + length field.now < 2 ^ 63) }
+    requires { (from + count ≤ length field.now) × Comparable start original.now field.now }
     ensures { offence_in result ≡ first_of (tests_over (same_test start field.now original.now) from count) }
 {
     if is_alike(field, original, from, count) {
@@ -89,7 +89,7 @@ fn judge_alike(
 
 // Copies are mostly alike, and without a stop at the first octet that differs many are compared at once.
 fn is_alike(field: &[u8], original: &[u8], from: usize, count: usize) -> bool
-    requires { (from + count ≤ length field.now) × (length original.now ≡ length field.now) × (length field.now < 2 ^ 63) }
+    requires { (from + count ≤ length field.now) × Comparable 0 original.now field.now }
     ensures { NoneUnlike field.now original.now from count result }
 {
     let mut alike = true;
@@ -106,7 +106,7 @@ fn judge_each(
     from: usize,
     count: usize,
 ) -> Result<(), Offence>
-    requires { (from + count ≤ length field.now) × (length original.now ≡ length field.now) × (start + length field.now < 2 ^ 63) }
+    requires { (from + count ≤ length field.now) × Comparable start original.now field.now }
     ensures { offence_in result ≡ first_of (tests_over (same_test start field.now original.now) from count) }
 {
     for i in from..from + count {
@@ -116,7 +116,7 @@ fn judge_each(
 }
 
 fn judge_crc(start: usize, field: &[u8]) -> Result<(), Offence>
-    requires { (2 ≤ length field.now) × (start + length field.now < 2 ^ 63) }
+    requires { (2 ≤ length field.now) × IsNear start field.now }
     ensures { offence_in result ≡ first_of (crc_tests start field.now) }
 {
     let end = field.len() - CRC_LENGTH;

@@ -1,8 +1,9 @@
 // The data fields of a map in a drive's sector words.
 ghost use Rattle.std.specs.Prelude.{◌+◌, ◌*◌, ◌≤◌, ◌<◌, ◌≡◌, true, length, take, drop};
-ghost use Rattle.parts.specs.Setup.{within_limits, all_words};
+ghost use Rattle.parts.specs.Setup.{within_limits};
 ghost use Rattle.defects.specs.Place.{field_octets, data_fields};
 ghost use Rattle.defects.specs.Walk.{field_at};
+ghost use Rattle.defects.specs.EncodeSteps.{HasSectors};
 ghost use Rattle.defects.specs.Sectors.{word_octets, field_start, last_cylinder};
 
 use crate::place::{MOST_OCTETS, place_of};
@@ -10,7 +11,7 @@ use parts::Setup;
 
 // Data field k of the map, at the front of the room.
 pub(crate) fn load(setup: Setup, sectors: &[u16], k: usize, field: &mut [u8; MOST_OCTETS])
-    requires { (within_limits setup ≡ true) × (all_words setup ≤ length sectors.now) × (k < data_fields setup) }
+    requires { HasSectors setup k (length sectors.now) }
     ensures { take (field_octets setup) field.new ≡ field_at setup (last_cylinder setup sectors.now) k }
 {
     load_words(sectors, field_start(setup, k), setup.field1 as usize, field);

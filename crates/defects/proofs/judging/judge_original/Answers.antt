@@ -35,7 +35,7 @@ judge_padding-requires c =
     let few = entries_few c.args.field.now 14 (slots (length c.args.field.now)) in
     let sized = c.requires.0 in
     let count = many (goal.at.judge_padding-requires c).In_ok-entries in
-    (omega (arith, count, few, sized.least), omega (arith, sized.within, sized.most))
+    (omega (arith, count, few, sized.least), record { within = omega (arith, sized.within, sized.most) })
 
 pub returns-in_err-judge_padding : goal.returns-in_err-judge_padding
 returns-in_err-judge_padding c =

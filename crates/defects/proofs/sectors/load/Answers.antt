@@ -9,13 +9,13 @@ use Rattle.defects.proofs.sectors.load.Goals as goal
 
 pub load_words-requires : goal.load_words-requires
 load_words-requires c =
-    let (small, room, inside) = c.requires in
-    let fits = field_in_room c.args.setup c.args.k small inside in
-    let few = limits _ small in
+    let has = c.requires in
+    let fits = field_in_room c.args.setup c.args.k has.limits has.inside in
+    let few = limits _ has.limits in
     (rw c.field_start.ensures (omega arith), omega arith)
 
 pub returns : goal.returns
 unfolding sector_field
 returns c =
-    let (small, room, inside) = c.requires in
-    c.load_words.ensures ∙ rw c.field_start.ensures (sym (field_of_cylinder c.args.setup c.args.sectors.now small room c.args.k inside))
+    let has = c.requires in
+    c.load_words.ensures ∙ rw c.field_start.ensures (sym (field_of_cylinder c.args.setup c.args.sectors.now has.limits has.words c.args.k has.inside))
