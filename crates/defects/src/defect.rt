@@ -5,7 +5,7 @@ ghost use Rattle.defects.specs.Defect.{number_at, defect_at, defect_octets, is_b
 
 use refusals::Refusal;
 
-#[derive(Clone, Copy)]
+#[derive(Clone, Copy, Debug, Default, PartialEq, Eq)]
 pub struct Defect {
     pub cylinder: u32,
     pub head: u16,
@@ -83,5 +83,5 @@ pub(crate) fn long_at(octets: &[u8], at: usize) -> u32
 pub(crate) fn is_blank(d: Defect) -> bool
     ensures { result ≡ is_blank d }
 {
-    (d.cylinder == 0) & (d.head == 0) & (d.offset == 0) & (d.length == 0)
+    d == Defect::default()
 }
