@@ -67,6 +67,7 @@ fn is_given(env: &impl Env, index: usize) -> bool {
 pub fn read_full(input: &mut impl Read, octets: &mut [u8]) -> usize
     ensures { result ≤ length octets.new }
 {
+    // By `read`: after an early end `read_exact` does not tell how many octets there were.
     let mut count = 0;
     while count < octets.len() {
         match input.read(&mut octets[count..]) {
