@@ -5,6 +5,7 @@ use Rattle.laws.specs.Pick.{pick}
 use Rattle.lines.specs.Moves.{is_listed, controllers_moves, drives_moves}
 use Rattle.lines.specs.Follower.{told, refused, lacks_history, remembers, undefined_at, while_lost, is_reached}
 use Rattle.lines.specs.Reading.{Read}
+use Rattle.lines.specs.declared.line.Side.{Side}
 use Rattle.lines.specs.declared.follower.Follower.{Follower}
 use Rattle.lines.specs.declared.follower.Followed.{Followed}
 use Rattle.lines.specs.declared.follower.Answer.{Answer}
@@ -39,10 +40,22 @@ controller_takes f new = takes Controllers (is_controllers f new) f new
 abbrev pub drive_takes : Follower → ℕ → Followed
 drive_takes f new = takes Drives (is_drives f new) f new
 
+-- The same by the side.
+abbrev pub whose : Side → Answer
+whose Side.Controller = Controllers
+whose Side.Drive = Drives
+
+abbrev pub is_move : Side → Follower → ℕ → Bool
+is_move Side.Controller = is_controllers
+is_move Side.Drive = is_drives
+
+abbrev pub side_takes : Side → Follower → ℕ → Followed
+side_takes side f new = takes (whose side) (is_move side f new) f new
+
 -- Does a move of this side come? Where the lines are does not tell: at 16 either side has one.
 abbrev pub comes : (Follower → ℕ → Bool) → Follower → List ℕ → Bool
-comes is_move f [] = false
-comes is_move f (new ∷ rest) = is_move f new
+comes is_own f [] = false
+comes is_own f (new ∷ rest) = is_own f new
 
 -- What is said of a setting, and what is read of the rest by the follower behind it.
 abbrev pub ◌then◌ : Followed → (Follower → Read) → Read

@@ -44,6 +44,7 @@ impl From<Answer> for u8 {
 impl Followed {
     // The answer as an octet, or the number of the refusal.
     #[tactic(auto, unfolding(crate::specs::Reading::octet_of))]
+    #[inline(always)]
     pub fn octet(self) -> u8
         ensures { OctetSaid self.answer result }
     {
@@ -83,18 +84,19 @@ impl Follower {
     }
 
     // Does a trace from the start lead to this state?
-    #[tactic(auto, unfolding(crate::specs::Follower::is_reached, laws::specs::Pick::pick))]
+    #[tactic(auto, using(std::proofs::lemmas::Bool::Decides::nat_tests), unfolding(crate::specs::Follower::is_reached, laws::specs::Pick::pick))]
+    #[inline(always)]
     pub fn is_reached(self) -> bool
         ensures { ReachedSaid self result }
     {
-        let s = self.setting;
         if self.lost {
-            return (s == line::IDLE) & !self.history;
+            return (self.setting == line::IDLE) & !self.history;
         }
         if self.history {
-            return (s == line::SELECT) | (s == line::SLAVACK) | (s == line::MASTEND);
+            return matches!(self.setting, line::SELECT | line::SLAVACK | line::MASTEND);
         }
-        // A chain: with `matches!` (tried) `pg_lines` takes up to a fifth more instructions.
+        // Asked at every setting: as one `matches!` it costs a third of the instructions more.
+        let s = self.setting;
         (s == line::IDLE)
             | (s == line::MAINT)
             | (s == line::REQUEST)
@@ -112,6 +114,7 @@ impl Follower {
     }
 
     #[tactic(auto, unfolding(crate::specs::Follower::moved_by, laws::specs::Pick::pick))]
+    #[inline(always)]
     fn moved(self, setting: u8) -> Followed
         requires { (self.setting < 32) × (setting < 32) }
         ensures { result ≡ moved self setting }
@@ -131,6 +134,7 @@ impl Follower {
     }
 
     #[tactic(auto, unfolding(crate::specs::Follower::lacks_history))]
+    #[inline(always)]
     fn lacks_history(self, setting: u8) -> bool
         ensures { result ≡ lacks_history self setting }
     {
@@ -145,6 +149,7 @@ impl Follower {
     }
 
     #[tactic(auto, unfolding(crate::specs::Follower::remembers))]
+    #[inline(always)]
     pub(crate) fn at(self, setting: u8) -> Follower
         ensures { result ≡ remembers self setting }
     {
@@ -161,6 +166,7 @@ impl Follower {
         }
     }
 
+    #[inline(always)]
     pub(crate) fn told(self, answer: Answer) -> Followed
         ensures { result ≡ told answer self }
     {
@@ -170,6 +176,7 @@ impl Follower {
         }
     }
 
+    #[inline(always)]
     pub(crate) fn refused(self, refusal: Refusal) -> Followed
         ensures { result ≡ refused refusal self }
     {
@@ -182,6 +189,7 @@ impl Follower {
 
 // IDLE where the setting is 0, else lost.
 #[tactic(auto, unfolding(crate::specs::Follower::undefined_at, laws::specs::Pick::pick))]
+#[inline(always)]
 pub(crate) fn undefined_at(setting: u8) -> Followed
     ensures { result ≡ undefined_at setting }
 {
@@ -194,6 +202,7 @@ pub(crate) fn undefined_at(setting: u8) -> Followed
 }
 
 #[tactic(auto, unfolding(crate::specs::Follower::while_lost, laws::specs::Pick::pick))]
+#[inline(always)]
 pub(crate) fn while_lost(setting: u8) -> Followed
     ensures { result ≡ while_lost setting }
 {

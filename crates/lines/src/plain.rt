@@ -2,10 +2,11 @@
 ghost use Rattle.std.specs.Prelude.{◌+◌, ◌<◌, ◌≤◌, ◌≡◌, length};
 ghost use Rattle.lines.specs.Follower.{Stepped};
 ghost use Rattle.lines.specs.Reading.{Leaves, step_by_step, TraceRead};
-ghost use Rattle.lines.specs.Turns.{is_controllers, is_drives, nobodys_move, takes, controller_takes, drive_takes, IsStretch, controllers_turn, drives_turn, read_plainly};
+ghost use Rattle.lines.specs.Turns.{is_controllers, is_drives, is_move, nobodys_move, side_takes, whose, IsStretch, controllers_turn, drives_turn, read_plainly};
 
 use crate::follower::{Answer, Followed, Follower, undefined_at, while_lost};
 use crate::line;
+use crate::line::Side;
 use refusals::Refusal;
 
 // A turn calls the next one before it is done, and each takes stack of its own: a trace is cut into stretches of so many settings.
@@ -30,8 +31,8 @@ pub fn read_plainly(
     Ok(last)
 }
 
-// One setting, by what the turns go by: what `Follower::step` does by the table. The tests are written out here and for either side:
-// with one function for all three (tried) `pg_line` takes 1.7 times the instructions, and is no more within 1.15 of plain Rust.
+// One setting, by what the turns go by: what `Follower::step` does by the table. Written out: by `takes` (tried) it is up to 1.7 times
+// the instructions, and no more within 1.15 of plain Rust.
 pub fn step_plainly(follower: Follower, setting: u8) -> Followed
     ensures { Stepped follower setting result }
 {
@@ -64,7 +65,7 @@ fn controllers_turn(follower: Follower, rest: &[u8], answers: &mut [u8]) -> Foll
     requires { IsStretch rest.now answers.old }
     ensures { Leaves (controllers_turn follower rest.now) answers.old result answers.new }
 {
-    let taken = controller_takes(follower, rest[0]);
+    let taken = takes(Side::Controller, follower, rest[0]);
     let next = taken.follower;
     answers[0] = taken.octet();
     if rest.len() < 2 {
@@ -83,7 +84,7 @@ fn drives_turn(follower: Follower, rest: &[u8], answers: &mut [u8]) -> Follower
     requires { IsStretch rest.now answers.old }
     ensures { Leaves (drives_turn follower rest.now) answers.old result answers.new }
 {
-    let taken = drive_takes(follower, rest[0]);
+    let taken = takes(Side::Drive, follower, rest[0]);
     let next = taken.follower;
     answers[0] = taken.octet();
     if rest.len() < 2 {
@@ -97,33 +98,39 @@ fn drives_turn(follower: Follower, rest: &[u8], answers: &mut [u8]) -> Follower
     drives_turn(next, left, places)
 }
 
-// A setting in the turn of the controller.
+// A setting in the turn of a side: is it a move of its own? Inlined, as all that a turn goes by, so that the turns are its only calls.
 #[inline(always)]
 #[tactic(auto, unfolding(crate::specs::Turns::takes, laws::specs::Pick::pick))]
-fn controller_takes(follower: Follower, new: u8) -> Followed
-    ensures { result ≡ controller_takes follower new }
+fn takes(side: Side, follower: Follower, new: u8) -> Followed
+    ensures { result ≡ side_takes side follower new }
 {
     if !follower.is_reached() {
         return follower.refused(Refusal::UnsoundState);
     }
-    if is_controllers(follower, new) {
-        return follower.at(new).told(Answer::Controllers);
+    if is_move(side, follower, new) {
+        return follower.at(new).told(whose(side));
     }
     nobodys_move(follower, new)
 }
 
 #[inline(always)]
-#[tactic(auto, unfolding(crate::specs::Turns::takes, laws::specs::Pick::pick))]
-fn drive_takes(follower: Follower, new: u8) -> Followed
-    ensures { result ≡ drive_takes follower new }
+fn is_move(side: Side, follower: Follower, new: u8) -> bool
+    ensures { result ≡ is_move side follower new }
 {
-    if !follower.is_reached() {
-        return follower.refused(Refusal::UnsoundState);
+    match side {
+        Side::Controller => is_controllers(follower, new),
+        Side::Drive => is_drives(follower, new),
     }
-    if is_drives(follower, new) {
-        return follower.at(new).told(Answer::Drives);
+}
+
+#[inline(always)]
+fn whose(side: Side) -> Answer
+    ensures { result ≡ whose side }
+{
+    match side {
+        Side::Controller => Answer::Controllers,
+        Side::Drive => Answer::Drives,
     }
-    nobodys_move(follower, new)
 }
 
 // "controller: 0→4, 4→0, 0→1, 1→0, 0→16, 16→0, 24→25, 27→26, 24→28, 30→31, 29→28, 30→26, 20→16, 24→8", and "Two moves also need history."

@@ -1,10 +1,12 @@
 -- `step_plainly` meets its contract: the side whose move it is, or neither, takes the setting as the step does.
 -- Assumes nothing.
-use Rattle.std.proofs.Common.{[], ◌∷◌, sym, ap, ◌∙◌, not}
+use mathlib.Core.Path.{sym, ap, ◌∙◌}
+use mathlib.Core.Bool.{not}
+use mathlib.Core.List.{[], ◌∷◌}
 use Rattle.laws.proofs.Pick.{pick_t, pick_f}
 use Rattle.lines.specs.Follower.{told}
 use Rattle.lines.specs.Turns.{takes}
-use Rattle.lines.specs.declared.follower.Answer.TheVariants.{Controllers, Drives}
+use Rattle.lines.specs.declared.follower.Answer.{Answer}
 use Rattle.lines.proofs.Step.{unreached_refused, stepped}
 use Rattle.lines.proofs.Turns.{controller_takes_lem, drive_takes_lem, not_the_controllers}
 use Rattle.lines.proofs.plain.step_plainly.Goals as goal
@@ -19,7 +21,7 @@ unfolding takes
 returns-then-is_drives c =
     let drives = sym c.is_drives.ensures ∙ c.if-is_drives.true in
     let reached = ap not (sym c.is_reached.ensures.answer ∙ c.if-not-is_reached.false) in
-    let said = pick_f _ _ _ _ _ reached (pick_t _ _ _ _ _ drives (c.told.ensures ∙ ap (told Drives) c.at.ensures)) in
+    let said = pick_f _ _ _ _ _ reached (pick_t _ _ _ _ _ drives (c.told.ensures ∙ ap (told Answer.Drives) c.at.ensures)) in
     stepped (said ∙ drive_takes_lem _ _ (not_the_controllers c.args.follower (c.args.setting ∷ []) drives))
 
 pub returns-then-is_controllers : goal.returns-then-is_controllers
@@ -27,7 +29,8 @@ unfolding takes
 returns-then-is_controllers c =
     let controllers = sym c.is_controllers.ensures ∙ c.if-is_controllers.true in
     let reached = ap not (sym c.is_reached.ensures.answer ∙ c.if-not-is_reached.false) in
-    let said = pick_f _ _ _ _ _ reached (pick_t _ _ _ _ _ controllers (c.told-then-is_controllers.ensures ∙ ap (told Controllers) c.at-then-is_controllers.ensures)) in
+    let taken = c.told-then-is_controllers.ensures ∙ ap (told Answer.Controllers) c.at-then-is_controllers.ensures in
+    let said = pick_f _ _ _ _ _ reached (pick_t _ _ _ _ _ controllers taken) in
     stepped (said ∙ controller_takes_lem _ _ (sym c.is_drives.ensures ∙ c.if-is_drives.false))
 
 pub returns : goal.returns
