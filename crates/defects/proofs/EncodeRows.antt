@@ -1,8 +1,8 @@
 -- The rows of the calls that encode a map, as the code tests them, and what they leave; the whole map put.
 -- Assumes nothing.
 use Prim.Native.Nat.{ℕ, suc, ◌*◌, ◌/◌, ◌%◌, ◌<◌, ◌≤◌}
-use mathlib.Core.Path.{◌≡◌, ap, ◌∙◌}
-use mathlib.Core.Bool.{true, false, not, ◌||◌}
+use mathlib.Core.Path.{◌≡◌, refl, ap, ◌∙◌}
+use mathlib.Core.Bool.{Bool, true, false, not, ◌||◌}
 use mathlib.Core.List.{List}
 use native.Mathlib.Nat.{mul-le-mul_right, div-lt_iff_lt-mul, le-div_iff_mul-le}
 use native.Mathlib.Omega.{arith}
@@ -10,6 +10,8 @@ use borrow.Author.Tests.{lt-ltb, le-ltb, ltb-false, not-false}
 use lib.Dec.{eqb, ltb}
 use lib.ListN.{length}
 use lib.Seq.{take_all}
+use Rattle.std.specs.Prelude.{Some, None}
+use Rattle.laws.specs.Pick.{pick}
 use Rattle.laws.specs.Lists.{written_over}
 use Rattle.laws.proofs.Tests.{or_r}
 use Rattle.parts.specs.Setup.{within_limits, all_words}
@@ -45,6 +47,17 @@ module _ {s : Setup} {count size sets : ℕ} (told : Told s count size sets) whe
 pub planned : {s : Setup} {job : Job} {octets : List ℕ} → within_limits s ≡ true → job.sets ≡ sets_for s (length octets / 12)
     → not (eqb (length octets % 12) 0) || not (is_encodable s (value_in job octets)) ≡ false → Planned s job octets
 planned {s} {job} {octets} w n e = record { limits = w; encodable = not-false (is_encodable s (value_in job octets)) (or_r (not (eqb (length octets % 12) 0)) _ e); sets = n }
+
+-- what is to be put is there exactly where 8 is not given
+pub job_given : (wrong : Bool) (job made : Job) → Some job ≡ pick wrong None (Some made) → (wrong ≡ false) × (job ≡ made)
+unfolding pick
+job_given true job made e = absurd (cc)
+job_given false job made e = (refl, cc)
+
+pub no_job : (wrong : Bool) (made : Job) → None ≡ pick wrong None (Some made) → wrong ≡ true
+unfolding pick
+no_job true made e = refl
+no_job false made e = absurd (cc)
 
 -- 10 not given: each data field has its place
 pub octets_fit : {s : Setup} {job : Job} {octets : List ℕ} {room : ℕ} → Planned s job octets → ltb room (map_length s (length octets / 12)) ≡ false

@@ -105,17 +105,20 @@ unfoldable pub is_encodable : Setup → Value → Bool
 is_encodable s v =
     ltb v.cylinder s.cylinders && ltb v.head s.heads && are_listable s v.defects && fits s (length v.defects)
 
+-- "what no decoding yields": octets that are not whole defects, or a value that is not encodable.
+abbrev pub is_malformed : Setup → ℕ → ℕ → List ℕ → Bool
+is_malformed s cylinder head defects = not (eqb (length defects % 12) 0) || not (is_encodable s (record { cylinder = cylinder; head = head; defects = defects_listed defects }))
+
 -- How many octets the map has.
 abbrev pub map_length : Setup → ℕ → ℕ
 map_length s count = 3 * sets_for s count * field_octets s
 
--- 9, "a map's set-up" outside its limits; "all encoders [test] 10, then 8": "a lent slice too short"; "what no decoding yields", which is
--- octets that are not whole defects, or a value that is not encodable.
+-- 9, "a map's set-up" outside its limits; "all encoders [test] 10, then 8": "a lent slice too short".
 abbrev pub encode_rows : Setup → ℕ → ℕ → List ℕ → ℕ → List Row
 encode_rows s cylinder head defects room =
     9 when not (within_limits s)
     ∷ 10 when ltb room (map_length s (length defects / 12))
-    ∷ 8 when (not (eqb (length defects % 12) 0) || not (is_encodable s (record { cylinder = cylinder; head = head; defects = defects_listed defects })))
+    ∷ 8 when is_malformed s cylinder head defects
     ∷ []
 
 abbrev pub encode_refusal : Setup → ℕ → ℕ → List ℕ → ℕ → ℕ

@@ -1,5 +1,5 @@
 -- "read off the last cylinder": the data fields of a map in a drive's sector words, and a map put there.
-use Rattle.std.specs.Prelude.{ℕ, zero, suc, ◌+◌, ◌*◌, ◌/◌, ◌%◌, ◌≡◌, false, not, ◌||◌, List, [], ◌∷◌, ◌++◌, Result, eqb, ltb, length, take, drop, ⊤}
+use Rattle.std.specs.Prelude.{ℕ, zero, suc, ◌+◌, ◌*◌, ◌/◌, ◌%◌, ◌≡◌, false, not, ◌||◌, List, [], ◌∷◌, ◌++◌, Result, ltb, length, take, drop, ⊤}
 use Rattle.std.proofs.Math.Option.{Option}
 use Rattle.laws.specs.Lists.{written_over, written_at}
 use Rattle.laws.specs.Rows.{Row, first, ◌when◌, unless_refused}
@@ -12,7 +12,7 @@ use Rattle.defects.specs.Defect.{list_octets}
 use Rattle.defects.specs.Place.{field_octets, data_fields, place_of}
 use Rattle.defects.specs.Walk.{field_at, map_tests}
 use Rattle.defects.specs.Decoding.{defects_of, map_of}
-use Rattle.defects.specs.Encoding.{defects_listed, sets_for, map_octets, is_encodable}
+use Rattle.defects.specs.Encoding.{defects_listed, sets_for, is_malformed, map_octets}
 use Rattle.defects.specs.declared.offence.Offence.{Offence}
 use Rattle.defects.specs.declared.decoding.MapRead.{MapRead}
 
@@ -79,7 +79,7 @@ abbrev pub write_rows : Setup → ℕ → ℕ → List ℕ → List ℕ → List
 write_rows s cylinder head defects sectors =
     9 when not (within_limits s)
     ∷ 10 when ltb (length sectors) (all_words s)
-    ∷ 8 when (not (eqb (length defects % 12) 0) || not (is_encodable s (record { cylinder = cylinder; head = head; defects = defects_listed defects })))
+    ∷ 8 when is_malformed s cylinder head defects
     ∷ []
 
 abbrev pub write_refusal : Setup → ℕ → ℕ → List ℕ → List ℕ → ℕ

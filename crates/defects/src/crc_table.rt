@@ -2,10 +2,10 @@
 ghost use Rattle.std.specs.Prelude.{◌≡◌};
 ghost use Rattle.defects.specs.CrcTable.{crc_table};
 
-pub(crate) fn crc_table() -> [u16; 256]
-    ensures { result ≡ crc_table }
+pub(crate) fn crc_table() -> &'static [u16; 256]
+    ensures { result.now ≡ crc_table }
 {
-    TABLE
+    &TABLE
 }
 
 const TABLE: [u16; 256] = [

@@ -1,5 +1,8 @@
 // A map encoded, in the plain spelling.
-ghost use Rattle.defects.specs.Encoding.{EncodedMap};
+ghost use Rattle.std.specs.Prelude.{◌≡◌, ◌/◌, true, length, Some, None};
+ghost use Rattle.laws.specs.Pick.{pick};
+ghost use Rattle.parts.specs.Setup.{within_limits};
+ghost use Rattle.defects.specs.Encoding.{sets_for, is_malformed, EncodedMap};
 ghost use Rattle.defects.specs.Sectors.{WroteMap};
 
 use crate::body::{COPIES, Job};
@@ -30,15 +33,8 @@ pub fn encode_map(
     if out.len() / size < sets {
         return Err(Refusal::SliceTooShort);
     }
-    if (defects.len() % ENTRY_LENGTH != 0)
-        | !is_encodable(setup, storage_cylinder, storage_head, sets, defects)
-    {
+    let Some(job) = job_of(setup, storage_cylinder, storage_head, sets, defects) else {
         return Err(Refusal::Malformed);
-    }
-    let job = Job {
-        sets: sets as u16,
-        cylinder: storage_cylinder,
-        head: storage_head,
     };
     put_sets(setup, job, defects, out);
     Ok(sets * size)
@@ -62,16 +58,24 @@ pub fn write_map(
         return Err(Refusal::SliceTooShort);
     }
     let sets = sets_for(setup, defects.len() / ENTRY_LENGTH);
-    if (defects.len() % ENTRY_LENGTH != 0)
-        | !is_encodable(setup, storage_cylinder, storage_head, sets, defects)
-    {
+    let Some(job) = job_of(setup, storage_cylinder, storage_head, sets, defects) else {
         return Err(Refusal::Malformed);
-    }
-    let job = Job {
-        sets: sets as u16,
-        cylinder: storage_cylinder,
-        head: storage_head,
     };
     put_sets(setup, job, defects, sectors);
     Ok(())
+}
+
+// What is to be put, in so many sets: none where the octets are not whole defects or no decoding yields such a map.
+fn job_of(setup: Setup, cylinder: u16, head: u16, sets: usize, defects: &[u8]) -> Option<Job>
+    requires { (within_limits setup ≡ true) × (sets ≡ sets_for setup (length defects.now / 12)) }
+    ensures { result ≡ pick (is_malformed setup cylinder head defects.now) None (Some (record { sets = sets; cylinder = cylinder; head = head })) }
+{
+    if (defects.len() % ENTRY_LENGTH != 0) | !is_encodable(setup, cylinder, head, sets, defects) {
+        return None;
+    }
+    Some(Job {
+        sets: sets as u16,
+        cylinder,
+        head,
+    })
 }

@@ -2,11 +2,8 @@
 -- Assumes nothing.
 use mathlib.Core.Path.{sym}
 use borrow.Author.Rules.{rules}
-use Rattle.defects.proofs.CrcLaws.{in_table, looked_up}
+use Rattle.defects.proofs.CrcLaws.{looked_up}
 use Rattle.defects.proofs.crc.one_more.Goals as goal
 
-pub bounds-table-at : goal.bounds-table-at
-bounds-table-at c = in_table c.args.register c.args.octet (search rules) (search rules)
-
 pub returns : goal.returns
-returns c read e = rw (c.requires, e) (sym (looked_up read c.args.octet (search rules)))
+returns c read e = rw (c.crc_table.ensures, e) (sym (looked_up read c.args.octet (search rules)))
