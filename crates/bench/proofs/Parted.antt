@@ -15,6 +15,7 @@ use Rattle.refusals.specs.declared.refusal.Refusal.{Refusal}
 use Rattle.laws.specs.Lists.{written_over, one_of}
 use Rattle.laws.specs.Pick.{pick}
 use Rattle.laws.proofs.Lists.{each_one_of}
+use Rattle.status.specs.DriveStatus.{octet_of}
 use Rattle.parts.specs.declared.setup.Setup.{Setup}
 use Rattle.drive.specs.Answer.{paper}
 use Rattle.drive.specs.Run.{Machine, answers, final}
@@ -52,7 +53,7 @@ line_told : (s : Setup) (number port : ℕ) (answer : Answer) (gap : ℕ) → Bo
 unfolding told_line gap_line_of answer_words paper status_told_by hex_digit pick
 line_told s number port (Refused refusal) gap b = refl
 line_told s number port Done gap b = refl
-line_told s number port (Status status) gap b = rw (status_told_lem status b)
+line_told s number port (Status status) gap b = rw (status_told_lem (octet_of status) b)
 line_told s number port (Opened words place) gap b = refl
 line_told s number port (Word word) gap b = refl
 line_told s number port (LastWord word) gap b = refl

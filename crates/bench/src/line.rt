@@ -85,7 +85,10 @@ fn status_text(answer: Answer) -> [u8; 2]
     match answer {
         Answer::Refused(_) => *b"--",
         Answer::Done => *b"--",
-        Answer::Status(s) => [text::hex_digit(s / 16), text::hex_digit(s % 16)],
+        Answer::Status(status) => {
+            let octet = u8::from(status);
+            [text::hex_digit(octet / 16), text::hex_digit(octet % 16)]
+        }
         Answer::Opened(_, _) => *b"--",
         Answer::Word(_) => *b"--",
         Answer::LastWord(_) => *b"00",

@@ -16,6 +16,8 @@ use Rattle.laws.specs.Lists.{one_of}
 use Rattle.laws.proofs.Differ.{absent}
 use Rattle.laws.proofs.Lists.{each_one_of}
 use Rattle.refusals.proofs.OnPaper.{of_its_number, left_as_it_was}
+use Rattle.status.specs.DriveStatus.{octet_of}
+use Rattle.status.proofs.RoundTrip.{status_of_octet}
 use Rattle.parts.specs.Setup.{within_limits, sector_words}
 use Rattle.parts.specs.Control.{is_data, words_to_come}
 use Rattle.parts.specs.Pending.{bit6, noticed, faulted}
@@ -171,14 +173,14 @@ few_words : (s : Setup) (words : ℕ) → Limits s → (words ≤ sector_words s
 few_words s words l (inl h) = omega (arith, sector_words_few s l)
 few_words s words l (inr h) = omega arith
 
-status_there : (status : ℕ) → one_of statuses status ≡ true → eqb status 0xFFFF ≡ false
-status_there status b = each_one_of (λ n. eqb n 0xFFFF ≡ false) statuses status b (refl, (refl, (refl, (refl, tt))))
+status_there : (octet : ℕ) → one_of statuses octet ≡ true → eqb octet 0xFFFF ≡ false
+status_there octet b = each_one_of (λ n. eqb n 0xFFFF ≡ false) statuses octet b (refl, (refl, (refl, (refl, tt))))
 
 told_back : (s : Setup) (answer : Answer) → within_limits s ≡ true → Bounded s answer → answer_in (refusal_in answer) (answer_words answer) ≡ answer
 unfolding answer_in answer_words paper pick
 told_back s (Refused refusal) l b = left_as_it_was refusal _ refl ∙ ap Refused (of_its_number refusal)
 told_back s Done l b = refl
-told_back s (Status status) l b = rw (status_there status b)
+told_back s (Status status) l b = rw (status_there (octet_of status) b, (status_of_octet status).1)
 told_back s (Opened words place) l b = rw (there words (few_words s words (limits s l) b.count))
 told_back s (Word word) l b = refl
 told_back s (LastWord word) l b = refl

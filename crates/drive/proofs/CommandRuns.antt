@@ -10,6 +10,7 @@ use native.Mathlib.Omega.{arith}
 use borrow.Author.Tests.{eq-eqb, ne_eqb}
 use lib.ListN.{get_or}
 use Rattle.laws.specs.Pick.{pick}
+use Rattle.status.specs.declared.drive_status.DriveStatus.TheVariants.{Normal}
 use Rattle.parts.specs.Setup.{is_place, is_target}
 use Rattle.parts.specs.Command.{load_position, read_status, code_of, parameter_words}
 use Rattle.parts.specs.Control.{control_of, words_to_come}
@@ -19,7 +20,6 @@ use Rattle.parts.specs.Tests.{parameters, no_parameters, transferring_with}
 use Rattle.parts.specs.declared.setup.Place.{Place}
 use Rattle.parts.specs.declared.pending.Pending.{Pending}
 use Rattle.parts.specs.declared.transfer.Parameters.{Parameters}
-use Rattle.drive.specs.Answer.{normal}
 use Rattle.drive.specs.State.{at_place, with_place, with_target, with_transfer, pending_on, posted_on, told}
 use Rattle.drive.specs.Drive.{closed}
 use Rattle.drive.specs.Request.{octet2_cleared, opened, data_control, targeted, status_read}
@@ -113,11 +113,11 @@ module _ (m : Machine) (port : ℕ) (q : Idle m port) where
 
       position_obeys : IsSound (within heard load_position 3 (parameters 0 p.cylinder p.head))
           → Does (within heard load_position 3 (parameters 0 p.cylinder p.head)) (word_sent port target)
-          (quietly m (told (Status normal) (closed (with_target (with_place heard.drive p) target))))
+          (quietly m (told (Status Normal) (closed (with_target (with_place heard.drive p) target))))
       unfolding kind_of control_of code_of word_from_host parameter_sent obeyed seeking place_sought target_sought closed words_to_come parameter_words octet2_cleared posted_on pick
       position_obeys s = work_does WordFromHost s q.real refl refl q.mine refl (rw (div-add-mod' target 256, there, inside, aimed))
 
-      position_run : Ran m (position_sent_by07 port p target) (Opened 4 m.drive.place ∷ Done ∷ Done ∷ Done ∷ Status normal ∷ [])
+      position_run : Ran m (position_sent_by07 port p target) (Opened 4 m.drive.place ∷ Done ∷ Done ∷ Done ∷ Status Normal ∷ [])
           (with_drive m (closed (with_target (with_place heard.drive p) target)))
       unfolding kept_as pick
       position_run =
@@ -127,7 +127,7 @@ module _ (m : Machine) (port : ℕ) (q : Idle m port) where
           follows position_opens (follows first (follows second (follows third (follows (position_obeys third.sound) nothing_follows))))
 
       -- Position, and then Target, which finds octet 2 cleared
-      placed : Does m (position_sent port p) (quietly m (told (Status normal) (with_place heard.drive p)))
+      placed : Does m (position_sent port p) (quietly m (told (Status Normal) (with_place heard.drive p)))
       placed = position_does q.real q.sound (record { selected = q.mine; idle = q.idle; quiet = quiet }) p inside
 
       none_pending : pending_on (with_place heard.drive p) port ≡ nothing_pending
@@ -138,7 +138,7 @@ module _ (m : Machine) (port : ℕ) (q : Idle m port) where
       unfolding octet2_cleared posted_on
       still_aimed = aimed
 
-      aim_told : targeted (with_place heard.drive p) port target ≡ told (Status normal) (with_target (with_place heard.drive p) target)
+      aim_told : targeted (with_place heard.drive p) port target ≡ told (Status Normal) (with_target (with_place heard.drive p) target)
       unfolding targeted pick
       aim_told =
           rw (
@@ -148,7 +148,7 @@ module _ (m : Machine) (port : ℕ) (q : Idle m port) where
           )
 
       aims : Does (with_drive m (with_place heard.drive p)) (sent port 8 (target / 256) (target % 256))
-          (quietly m (told (Status normal) (with_target (with_place heard.drive p) target)))
+          (quietly m (told (Status Normal) (with_target (with_place heard.drive p) target)))
       unfolding kind_of octet2_cleared posted_on pick
       aims = work_does Target placed.sound q.real refl refl q.mine q.idle (rw (div-add-mod' target 256) (ap (quietly m) aim_told))
 

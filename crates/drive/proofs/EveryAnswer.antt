@@ -10,6 +10,8 @@ use Rattle.laws.specs.Rows.{first, Given, unless_refused}
 use Rattle.laws.proofs.Rows.{first_among, EachNumber, first_is_exact, row_off, rows_rest}
 use Rattle.laws.proofs.Lists.{each_one_of}
 use Rattle.refusals.specs.Refusal.{number, named}
+use Rattle.status.specs.DriveStatus.{octet_of}
+use Rattle.status.specs.declared.drive_status.DriveStatus.{DriveStatus}
 use Rattle.parts.specs.Kind.{Kind, Select, Deselect, Use, Reset, Unknown, Work, kind_of}
 use Rattle.parts.specs.declared.event.Event.{Event}
 use Rattle.drive.specs.Answer.{refusal_in}
@@ -30,7 +32,7 @@ use Rattle.drive.proofs.Outcomes
 
 -- ---- what each kind answers
 
-request_answers : {work : Work} {e : Event} {status : ℕ} → frame.ClearsFirst e (Use work) → one_of request_statuses status ≡ true → Accepted (Use work) (Status status)
+request_answers : {work : Work} {e : Event} {status : DriveStatus} → frame.ClearsFirst e (Use work) → one_of request_statuses (octet_of status) ≡ true → Accepted (Use work) (Status status)
 request_answers (frame.control n) h = every.controlled h
 request_answers frame.position h = every.positioned h
 request_answers frame.target h = every.targeted h

@@ -6,11 +6,11 @@ use mathlib.Core.Bool.{false, true≢false}
 use mathlib.Core.List.{List}
 use borrow.Author.Tests.{eq-eqb, ne_eqb, ltb-false}
 use Rattle.laws.specs.Pick.{pick}
+use Rattle.status.specs.declared.drive_status.DriveStatus.TheVariants.{UnsolicitedException}
 use Rattle.parts.specs.Control.{control_of}
 use Rattle.parts.specs.Kind.{Kind, Use, Work, DataControl, Position, Target, kind_of, word_of, place_of}
 use Rattle.parts.specs.declared.event.Event.{Event}
 use Rattle.parts.specs.declared.pending.Pending.{Pending}
-use Rattle.drive.specs.Answer.{unsolicited_exception}
 use Rattle.drive.specs.State.{pending_on, posted_on, told, Result, result}
 use Rattle.drive.specs.Request.{octet2_cleared, taken_up, controlled, placed, aimed, data_control, positioned, targeted}
 use Rattle.drive.specs.Refusal.{row7}
@@ -49,14 +49,14 @@ request_done target m = refl
 
 -- ---- stopped
 
-stops : (d : Drive) (port : ℕ) (ask : Drive → Outcome) → ((pending_on d port).octet1 ≡ 0 → ⊥) → taken_up d port ask ≡ told (Status unsolicited_exception) d
+stops : (d : Drive) (port : ℕ) (ask : Drive → Outcome) → ((pending_on d port).octet1 ≡ 0 → ⊥) → taken_up d port ask ≡ told (Status UnsolicitedException) d
 unfolding pick
 stops d port ask h = rw (ne_eqb (pending_on d port).octet1 0 h)
 
 stopped : (m : Machine) (e : Event) → ClearsFirst e (kind_of e.kind) → is_refused (answer_to m e) ≡ false → ((pending_on m.drive e.port).octet1 ≡ 0 → ⊥) → Stopped m e
 stopped m e q a h =
     let done = request_done q m ∙ ap (λ (o : Outcome). result o m.sectors m.staging) (stops m.drive e.port (request q) h) in
-    let both = accepted_by (λ answer next. (answer ≡ Status unsolicited_exception) × (next ≡ m)) (kind_of e.kind) m e refl a
+    let both = accepted_by (λ answer next. (answer ≡ Status UnsolicitedException) × (next ≡ m)) (kind_of e.kind) m e refl a
     (λ p. (ap (λ (r : Result). r.outcome.answer) done, ap left done)) in
     record { answered = both.0; unchanged = both.1 }
 

@@ -12,13 +12,13 @@ use Rattle.laws.proofs.Pick.{either}
 use Rattle.laws.proofs.Rows.{Passed, numbered, all_passed}
 use Rattle.refusals.specs.Refusal.{named}
 use Rattle.refusals.specs.declared.refusal.Refusal.{Refusal}
+use Rattle.status.specs.declared.drive_status.DriveStatus.TheVariants.{Normal}
 use Rattle.parts.specs.Holding.{nobody, granted_to, released, released_from}
 use Rattle.parts.specs.Kind.{Kind, Select, Deselect, Use, Reset, Unknown, Work, kind_of}
 use Rattle.drive.specs.State.{Result, told, posted_on}
 use Rattle.drive.specs.Drive.{selected, deselected, after_reset, reserved, unreserved, priority_reserved, head_stepped, at_its_target, closed, ended}
 use Rattle.drive.specs.Request.{octet2_cleared}
 use Rattle.drive.specs.Command.{status_cleared}
-use Rattle.drive.specs.Answer.{normal}
 use Rattle.drive.specs.Refusal.{row11, row10, row1, row8, rows_of, rows, refusal_of}
 use Rattle.drive.specs.Event.{act, refused_with, handled}
 use Rattle.drive.specs.Run.{Machine, machine, answer_to, after}
@@ -103,7 +103,7 @@ pub record Stays (d : Drive) (o : Outcome) : Type 0 where
 as_it_was_lem : {d : Drive} {o : Outcome} → o.drive.setup ≡ d.setup → o.drive.holding ≡ d.holding → is_refused o.answer ≡ false → Stays d o
 as_it_was_lem s h a = record { setup = s; selected = ap (λ (x : Holding). x.selected) h; owner = ap (λ (x : Holding). x.owner) h; answered = a }
 
-function_stays : {d at : Drive} {f : Function} → Outcomes.FunctionDone d f at → Stays d (told (Status normal) at)
+function_stays : {d at : Drive} {f : Function} → Outcomes.FunctionDone d f at → Stays d (told (Status Normal) at)
 unfolding reserved unreserved priority_reserved
 function_stays Outcomes.prioritised = record { setup = refl; selected = refl; owner = refl; answered = refl }
 function_stays Outcomes.reserves = record { setup = refl; selected = refl; owner = refl; answered = refl }

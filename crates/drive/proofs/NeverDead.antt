@@ -17,6 +17,7 @@ use Rattle.laws.proofs.Rows.{Passed, none_given}
 use Rattle.laws.proofs.Tests.{and_l, and_r}
 use Rattle.laws.proofs.Lists.{stored}
 use Rattle.laws.proofs.Windows.{paste_on}
+use Rattle.status.specs.declared.drive_status.DriveStatus.TheVariants.{Normal}
 use Rattle.parts.specs.Setup.{within_limits, sector_words, sector_start, sector_at, is_place}
 use Rattle.parts.specs.Command.{code_of}
 use Rattle.parts.specs.Control.{control_of, header_passes, data_words, words_to_come}
@@ -28,7 +29,6 @@ use Rattle.parts.specs.declared.setup.Setup.{Setup}
 use Rattle.parts.specs.declared.setup.Place.{Place}
 use Rattle.parts.specs.declared.event.Event.{Event}
 use Rattle.parts.specs.declared.pending.Pending.{Pending}
-use Rattle.drive.specs.Answer.{normal}
 use Rattle.drive.specs.State.{with_place, with_transfer, pending_on, posted_on, told, Result, result}
 use Rattle.drive.specs.Drive.{owner_noticed, selected, after_reset, ended}
 use Rattle.drive.specs.Request.{octet2_cleared, opened, opening, data_control, positioned, status_read}
@@ -164,11 +164,11 @@ module _ {m : Machine} {port : ℕ} (real : port ≤ 1) (s : IsSound m) (r : Rea
   abbrev heard : Drive
   heard = octet2_cleared m.drive port
 
-  position_told_lem : (p : Place) → is_place m.drive.setup p ≡ true → positioned m.drive port p ≡ told (Status normal) (with_place heard p)
+  position_told_lem : (p : Place) → is_place m.drive.setup p ≡ true → positioned m.drive port p ≡ told (Status Normal) (with_place heard p)
   unfolding positioned octet2_cleared posted_on pick
   position_told_lem p h = rw (eq-eqb (pending_on m.drive port).octet1 0 r.quiet, h)
 
-  pub position_does : (p : Place) → is_place m.drive.setup p ≡ true → Does m (position_sent port p) (quietly m (told (Status normal) (with_place heard p)))
+  pub position_does : (p : Place) → is_place m.drive.setup p ≡ true → Does m (position_sent port p) (quietly m (told (Status Normal) (with_place heard p)))
   unfolding kind_of pick
   position_does p h =
       work_does Position s real refl refl r.selected r.idle (rw (div-add-mod' p.cylinder 256) (ap (quietly m) (position_told_lem p h)))
@@ -204,7 +204,7 @@ module _ (d : Drive) (port : ℕ) (sectors : List ℕ) (real : port ≤ 1) (mine
 
   the_last : (moved : ℕ) (staging : List ℕ) (word : ℕ) → moved + 1 ≡ sector_words d.setup
       → word_staged (with_transfer d (transferring whole_sector moved)) word sectors staging
-      ≡ result (told (Status normal) (ended d)) (complete d sectors (set staging moved word)).sectors (set staging moved word)
+      ≡ result (told (Status Normal) (ended d)) (complete d sectors (set staging moved word)).sectors (set staging moved word)
   unfolding complete ended word_staged staged miscompares control_of data_words words_to_come header_passes pick
   the_last moved staging word h = rw (eq-eqb (moved + 1) (sector_words d.setup) h)
 
@@ -215,7 +215,7 @@ module _ (d : Drive) (port : ℕ) (sectors : List ℕ) (real : port ≤ 1) (mine
       work_does WordFromHost s real refl refl mine refl (rw (div-add-mod' word 256) e)
 
   words_follow : (moved word : ℕ) (later staging : List ℕ) → moved + 1 + length later ≡ sector_words d.setup → IsSound (writing d sectors moved staging)
-      → Ran (writing d sectors moved staging) (map (word_sent port) (word ∷ later)) (replicate (length later) Done ++ (Status normal ∷ []))
+      → Ran (writing d sectors moved staging) (map (word_sent port) (word ∷ later)) (replicate (length later) Done ++ (Status Normal ∷ []))
       (complete d sectors (sets staging moved (word ∷ later)))
   unfolding writing complete answers final
   words_follow moved word [] staging h s =
@@ -259,7 +259,7 @@ whole_run m port p (word ∷ later) q =
     let status = status_does m port q.real q.sound in
     let r = is_ready m port q.real q.sound in
     let clear = already_clear m port q.real q.sound in
-    let position : Does (with_drive m (ready m port)) (position_sent port p) (quietly m (told (Status normal) (there m port p))) =
+    let position : Does (with_drive m (ready m port)) (position_sent port p) (quietly m (told (Status Normal) (there m port p))) =
     rw (clear (ready m port).place) at (position_does q.real status.sound (r (ready m port).place) p q.inside) in
     let control : Does (with_drive m (there m port p)) (sent port 3 whole_sector 0)
     (quietly m (told (Opened (sector_words m.drive.setup) p) (with_transfer (there m port p) (transferring whole_sector 0)))) =

@@ -9,6 +9,8 @@ use Rattle.laws.proofs.Only.{answer_only}
 use Rattle.refusals.specs.Refusal.{named}
 use Rattle.refusals.proofs.OnPaper as given
 use Rattle.refusals.specs.declared.refusal.Refusal.{Refusal}
+use Rattle.status.specs.DriveStatus.{status_of}
+use Rattle.status.proofs.RoundTrip.{status_of_octet}
 use Rattle.parts.specs.declared.setup.Setup.{Setup}
 use Rattle.parts.specs.declared.setup.Place.{Place}
 use Rattle.parts.specs.declared.event.Event.{Event}
@@ -40,8 +42,8 @@ octets_back (a ∷ b ∷ c ∷ rest) = Response a b c
 
 unrefused_back : Option ℕ → Option ℕ → Option Place → Option ℕ → Option (List ℕ) → Answer
 unrefused_back status words place word (some octets) = octets_back octets
-unrefused_back (some s) words place (some w) none = LastWord w
-unrefused_back (some s) words place none none = Status s
+unrefused_back (some octet) words place (some w) none = LastWord w
+unrefused_back (some octet) words place none none = Status (status_of octet)
 unrefused_back none words place (some w) none = Word w
 unrefused_back none (some n) (some p) none none = Opened n p
 unrefused_back none (some n) none none none = Done
@@ -55,7 +57,7 @@ read_back : (a : Answer) → back (paper a).refusal (paper a) ≡ a
 unfolding paper back unrefused_back octets_back
 read_back (Refused refusal) = ap Refused (given.of_its_number refusal)
 read_back Done = refl
-read_back (Status s) = refl
+read_back (Status status) = ap Status (status_of_octet status).1
 read_back (Opened n p) = refl
 read_back (Word w) = refl
 read_back (LastWord w) = refl

@@ -11,11 +11,12 @@ use lib.ListN.{set, get_or}
 use Rattle.laws.specs.Pick.{pick}
 use Rattle.laws.proofs.Pick.{either, cases}
 use Rattle.laws.proofs.Tests.{and_l, and_r}
+use Rattle.status.specs.declared.drive_status.DriveStatus.TheVariants.{Normal, HeaderMiscompare, OperationException, UnsolicitedException}
 use Rattle.parts.specs.Setup.{sector_start, sector_at, is_place, is_target, no_target}
 use Rattle.parts.specs.Command.{load_drive_function, read_status, code_of, parameter_words, function_in}
 use Rattle.parts.specs.Control.{control_of, is_write, is_read, takes_words, gives_words, is_data, is_at_target, words_to_come, words_read}
 use Rattle.parts.specs.Pending.{invalid_parameter, unsupported_bus_control, OneBit, bit7, bit6, bit5, bit4, nothing_pending, faulted, octet0}
-use Rattle.drive.specs.Answer.{paper, normal, header_miscompare, operation_exception, unsolicited_exception}
+use Rattle.drive.specs.Answer.{paper}
 use Rattle.drive.specs.State.{at_place, with_place, with_target, with_transfer, pending_on, posted_on, told, Result, result}
 use Rattle.parts.specs.Tests.{transferring, moved_on}
 use Rattle.drive.specs.Drive.{reserved, unreserved, priority_reserved, head_stepped, at_its_target, closed, ended}
@@ -73,14 +74,14 @@ response_at d port = get_or (words_told d.transfer.control (pending_on d port) d
 pub data Exchanged (d : Drive) (e : Event) : Work → Outcome → Type 0 where
   kept : eqb (d.transfer.moved + 1) (words_to_come d.setup d.transfer.control) ≡ false
       → Exchanged d e WordFromHost (told Done (with_transfer d (with_parameter d.transfer (word_of e))))
-  obeys : {at : Drive} → Obeyed d (word_of e) at → Exchanged d e WordFromHost (told (Status normal) at)
+  obeys : {at : Drive} → Obeyed d (word_of e) at → Exchanged d e WordFromHost (told (Status Normal) at)
   disobeys : {bit : ℕ} → Disobeyed d (word_of e) bit
-      → Exchanged d e WordFromHost (told (Status operation_exception) (posted_on (closed d) e.port (faulted (pending_on (closed d) e.port) bit)))
+      → Exchanged d e WordFromHost (told (Status OperationException) (posted_on (closed d) e.port (faulted (pending_on (closed d) e.port) bit)))
   tells : eqb (d.transfer.moved + 1) (words_to_come d.setup d.transfer.control) ≡ false
       → Exchanged d e TakeWord (told (Word (response_at d e.port)) (with_transfer d (moved_on d.transfer (d.transfer.moved + 1))))
   tells_last : eqb (d.transfer.moved + 1) (words_to_come d.setup d.transfer.control) ≡ true
       → Exchanged d e TakeWord (told (LastWord (response_at d e.port)) (status_cleared d.transfer.control (closed d) e.port))
-  cut : Exchanged d e End (told (Status normal) (closed d))
+  cut : Exchanged d e End (told (Status Normal) (closed d))
 
 -- ---- all of them
 
@@ -107,14 +108,14 @@ pub data Heard (d : Drive) (e : Event) : Work → Drive → Type 0 where
 -- what a request does to the drive that it finds
 pub data Asked (d : Drive) (e : Event) : Work → Outcome → Type 0 where
   bad : {work : Work} {bit : ℕ} → ClearsFirst e (Use work) → OneBit bit
-      → Asked d e work (told (Status operation_exception) (posted_on d e.port (faulted (pending_on d e.port) bit)))
-  stepped : control_of e.a0 ≡ StepHead → Asked d e DataControl (told (Status normal) (head_stepped d))
+      → Asked d e work (told (Status OperationException) (posted_on d e.port (faulted (pending_on d e.port) bit)))
+  stepped : control_of e.a0 ≡ StepHead → Asked d e DataControl (told (Status Normal) (head_stepped d))
   nothing_to_come : {at : Drive} → Sought d e.a0 at → (is_write (control_of e.a0) || is_read (control_of e.a0)) ≡ true
-      → Asked d e DataControl (told (Status normal) (ended at))
+      → Asked d e DataControl (told (Status Normal) (ended at))
   opens : {at : Drive} → Sought d e.a0 at → (takes_words (control_of e.a0) || gives_words (control_of e.a0)) ≡ true → eqb (words_to_come at.setup e.a0) 0 ≡ false
       → Asked d e DataControl (told (Opened (words_to_come at.setup e.a0) at.place) (with_transfer at (transferring e.a0 0)))
-  placed : is_place d.setup (place_of e) ≡ true → Asked d e Position (told (Status normal) (with_place d (place_of e)))
-  aimed : is_target d.setup (word_of e) ≡ true → Asked d e Target (told (Status normal) (with_target d (word_of e)))
+  placed : is_place d.setup (place_of e) ≡ true → Asked d e Position (told (Status Normal) (with_place d (place_of e)))
+  aimed : is_target d.setup (word_of e) ≡ true → Asked d e Target (told (Status Normal) (with_target d (word_of e)))
 
 -- the next word of an open read
 abbrev pub word_at : Drive → List ℕ → ℕ
@@ -122,12 +123,12 @@ word_at d sectors = get_or (words_read d.setup d.transfer.control (sector_at d.s
 
 -- what leaves the lent words as they were
 pub data Quiet (d : Drive) (e : Event) (sectors : List ℕ) : Work → Outcome → Type 0 where
-  unsolicited : {work : Work} → ClearsFirst e (Use work) → eqb (pending_on d e.port).octet1 0 ≡ false → Quiet d e sectors work (told (Status unsolicited_exception) d)
+  unsolicited : {work : Work} → ClearsFirst e (Use work) → eqb (pending_on d e.port).octet1 0 ≡ false → Quiet d e sectors work (told (Status UnsolicitedException) d)
   asked : {at : Drive} {work : Work} {o : Outcome} → Heard d e work at → Asked at e work o → Quiet d e sectors work o
   taken_last : is_data d.transfer.control ≡ true → Quiet d e sectors TakeWord (told (LastWord (word_at d sectors)) (ended d))
   taken : is_data d.transfer.control ≡ true → eqb (d.transfer.moved + 1) (words_to_come d.setup d.transfer.control) ≡ false
       → Quiet d e sectors TakeWord (told (Word (word_at d sectors)) (with_transfer d (moved_on d.transfer (d.transfer.moved + 1))))
-  ends : is_data d.transfer.control ≡ true → Quiet d e sectors End (told (Status normal) (ended d))
+  ends : is_data d.transfer.control ≡ true → Quiet d e sectors End (told (Status Normal) (ended d))
   exchanged : {work : Work} {o : Outcome} → is_data d.transfer.control ≡ false → Exchanged d e work o → Quiet d e sectors work o
   status_told : Quiet d e sectors ReadStatus
       (told (Response (octet0 (pending_on d e.port)) (pending_on d e.port).octet1 (pending_on d e.port).octet2) (posted_on d e.port nothing_pending))
@@ -136,9 +137,9 @@ pub data Quiet (d : Drive) (e : Event) (sectors : List ℕ) : Work → Outcome �
 pub data WorkDone (d : Drive) (e : Event) (sectors staging : List ℕ) : Work → Result → Type 0 where
   quiet : {work : Work} {o : Outcome} → Quiet d e sectors work o → WorkDone d e sectors staging work (result o sectors staging)
   miscompared : is_data d.transfer.control ≡ true → WorkDone d e sectors staging WordFromHost
-      (result (told (Status header_miscompare) (ended d)) sectors (set staging d.transfer.moved (word_of e)))
+      (result (told (Status HeaderMiscompare) (ended d)) sectors (set staging d.transfer.moved (word_of e)))
   completed : is_data d.transfer.control ≡ true → eqb (d.transfer.moved + 1) (words_to_come d.setup d.transfer.control) ≡ true → WorkDone d e sectors staging WordFromHost
-      (result (told (Status normal) (ended d))
+      (result (told (Status Normal) (ended d))
       (committed d.setup d.transfer.control (sector_start d.setup d.place) sectors (set staging d.transfer.moved (word_of e)))
       (set staging d.transfer.moved (word_of e)))
   more : is_data d.transfer.control ≡ true → eqb (d.transfer.moved + 1) (words_to_come d.setup d.transfer.control) ≡ false → WorkDone d e sectors staging WordFromHost
@@ -228,7 +229,7 @@ module _ (d : Drive) (e : Event) (sectors staging : List ℕ) where
       quiet (cases (Quiet d e sectors TakeWord) (is_data d.transfer.control)
       (λ high. cases (Quiet d e sectors TakeWord) _ (λ z. taken_last high) (taken high)) (λ low. exchanged low response_taken_lem))
   work_done End =
-      quiet (cases (λ (at : Drive). Quiet d e sectors End (told (Status normal) at)) (is_data d.transfer.control) ends (λ low. exchanged low cut))
+      quiet (cases (λ (at : Drive). Quiet d e sectors End (told (Status Normal) at)) (is_data d.transfer.control) ends (λ low. exchanged low cut))
   work_done Position = quiet (unless_stopped position (λ at. cases (Asked at e Position) _ placed (λ z. bad position bit6)))
   work_done Target = quiet (unless_stopped target (λ at. cases (Asked at e Target) _ aimed (λ z. bad target bit6)))
   work_done ReadStatus = quiet status_told

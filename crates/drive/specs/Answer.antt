@@ -2,22 +2,15 @@
 use Rattle.std.specs.Prelude.{ℕ, ◌≡◌, List, [], ◌∷◌}
 use Rattle.std.proofs.Math.Option.{Option, some, none}
 use Rattle.refusals.specs.Refusal.{number}
+use Rattle.status.specs.DriveStatus.{octet_of}
+use Rattle.status.specs.declared.drive_status.DriveStatus.TheVariants.{Normal}
 use Rattle.parts.specs.declared.setup.Place.{Place}
 use Rattle.drive.specs.declared.answer.Answer.{Answer}
 use Rattle.drive.specs.declared.answer.Answer.TheVariants.{Refused, Done, Status, Opened, Word, LastWord, Response}
 
 -- "0 normal, 1 busy, 7 header miscompare, 8 operation exception, C unsolicited exception"
 abbrev pub normal : ℕ
-normal = 0
-
-abbrev pub header_miscompare : ℕ
-header_miscompare = 7
-
-abbrev pub operation_exception : ℕ
-operation_exception = 8
-
-abbrev pub unsolicited_exception : ℕ
-unsolicited_exception = 0xC
+normal = octet_of Normal
 
 pub record Paper : Type 0 where
   pub refusal : Option ℕ
@@ -33,7 +26,7 @@ pub record Paper : Type 0 where
 unfoldable pub paper : Answer → Paper
 paper (Refused refusal) = record { refusal = some (number refusal); status = none; word_count = none; place = none; word = none; response = none }
 paper Done = record { refusal = none; status = none; word_count = none; place = none; word = none; response = none }
-paper (Status s) = record { refusal = none; status = some s; word_count = none; place = none; word = none; response = none }
+paper (Status status) = record { refusal = none; status = some (octet_of status); word_count = none; place = none; word = none; response = none }
 paper (Opened n p) = record { refusal = none; status = none; word_count = some n; place = some p; word = none; response = none }
 paper (Word w) = record { refusal = none; status = none; word_count = none; place = none; word = some w; response = none }
 paper (LastWord w) = record { refusal = none; status = some normal; word_count = none; place = none; word = some w; response = none }

@@ -5,6 +5,7 @@ use Rattle.std.proofs.Math.Option.{Option, some, none}
 use Rattle.laws.specs.Pick.{pick}
 use Rattle.laws.specs.Rows.{unless_refused}
 use Rattle.refusals.specs.Refusal.{named}
+use Rattle.status.specs.DriveStatus.{status_of}
 use Rattle.parts.specs.declared.setup.Place.{Place}
 use Rattle.drive.specs.State.{at_place}
 use Rattle.drive.specs.Answer.{Paper, paper}
@@ -62,7 +63,7 @@ accepted_in words =
     (pick (eqb (get_or words 6 0) 1) (pick (eqb (get_or words 1 0) 0xFFFF) (Word (get_or words 7 0)) (LastWord (get_or words 7 0)))
     (pick (eqb (get_or words 1 0) 0xFFFF)
     (pick (eqb (get_or words 2 0) 0xFFFF) Done (Opened (get_or words 2 0) (at_place (get_or words 3 0) (get_or words 4 0) (get_or words 5 0))))
-    (Status (get_or words 1 0))))
+    (Status (status_of (get_or words 1 0)))))
 
 -- The answer to one event: by the refusal that its call returned, and else by its words.
 unfoldable pub answer_in : ℕ → List ℕ → Answer

@@ -3,6 +3,7 @@ use Rattle.std.specs.Prelude.{ℕ, ◌<◌, ◌≤◌, ◌≡◌, ◌⊎◌, tru
 use Rattle.std.proofs.Math.Option.{some}
 use Rattle.laws.specs.Lists.{one_of}
 use Rattle.refusals.specs.Refusal.{number}
+use Rattle.status.specs.DriveStatus.{octet_of}
 use Rattle.parts.specs.Setup.{within_limits, sector_words, is_place}
 use Rattle.parts.specs.Pending.{pending_of, octet0}
 use Rattle.parts.specs.Tests.{has_stray_bit}
@@ -40,7 +41,7 @@ pub record OpenedWithin (s : Setup) (words : ℕ) (place : Place) : Type 0 where
 abbrev pub Bounded : Setup → Answer → Type 0
 Bounded s (Refused refusal) = one_of refusal_numbers (number refusal) ≡ true
 Bounded s Done = Unit
-Bounded s (Status status) = one_of statuses status ≡ true
+Bounded s (Status status) = one_of statuses (octet_of status) ≡ true
 Bounded s (Opened words place) = OpenedWithin s words place
 Bounded s (Word word) = Unit
 Bounded s (LastWord word) = Unit

@@ -5,6 +5,7 @@ use Rattle.drive.specs.Power.{at_rest}
 use Rattle.drive.specs.State.{at_place}
 use Rattle.drive.specs.Run.{Machine, machine, answers, final}
 use Rattle.refusals.specs.declared.refusal.Refusal.TheVariants.{NotSelected, AlreadySelected, NotOurAddress, ModeCannotChange, Busy}
+use Rattle.status.specs.declared.drive_status.DriveStatus.TheVariants.{Normal, HeaderMiscompare, OperationException, UnsolicitedException}
 use Rattle.parts.specs.declared.setup.Setup.{Setup}
 use Rattle.parts.specs.declared.event.Event.{Event}
 use Rattle.drive.specs.declared.answer.Answer.{Answer}
@@ -100,7 +101,7 @@ p8 =
     record {
       stored = zeros;
       events = select 0 0x30 ∷ control 0 0xD0 ∷ status 0 ∷ [];
-      answers = Done ∷ Status 8 ∷ Response 0x20 0x00 0x80 ∷ [];
+      answers = Done ∷ Status OperationException ∷ Response 0x20 0x00 0x80 ∷ [];
       left = zeros;
       sector = 0;
     }
@@ -111,7 +112,7 @@ p9 =
     record {
       stored = zeros;
       events = p1_p2_p3.events ++ (deselect 1 ∷ select 0 0x30 ∷ control 0 0xC1 ∷ status 0 ∷ control 0 0xC1 ∷ []);
-      answers = p1_p2_p3.answers ++ (Done ∷ Done ∷ Status 0xC ∷ Response 0x40 0x40 0x00 ∷ Opened 2 (at_place 0 0 0) ∷ []);
+      answers = p1_p2_p3.answers ++ (Done ∷ Done ∷ Status UnsolicitedException ∷ Response 0x40 0x40 0x00 ∷ Opened 2 (at_place 0 0 0) ∷ []);
       left = zeros;
       sector = 0;
     }
@@ -122,7 +123,7 @@ p10 =
     record {
       stored = seven;
       events = select 0 0x30 ∷ control 0 0x85 ∷ word 0 8 ∷ [];
-      answers = Done ∷ Opened 3 (at_place 0 0 0) ∷ Status 7 ∷ [];
+      answers = Done ∷ Opened 3 (at_place 0 0 0) ∷ Status HeaderMiscompare ∷ [];
       left = seven;
       sector = 1;
     }
@@ -133,7 +134,7 @@ p11 =
     record {
       stored = seven;
       events = select 0 0x30 ∷ control 0 0x85 ∷ word 0 7 ∷ word 0 0xAA ∷ word 0 0xBB ∷ [];
-      answers = Done ∷ Opened 3 (at_place 0 0 0) ∷ Done ∷ Done ∷ Status 0 ∷ [];
+      answers = Done ∷ Opened 3 (at_place 0 0 0) ∷ Done ∷ Done ∷ Status Normal ∷ [];
       left = 7 ∷ 0xAA ∷ 0xBB ∷ 0 ∷ [];
       sector = 1;
     }
@@ -155,7 +156,7 @@ d0_then_c4 =
     record {
       stored = zeros;
       events = select 0 0x30 ∷ control 0 0xD0 ∷ control 0 0xC4 ∷ status 0 ∷ [];
-      answers = Done ∷ Status 8 ∷ Status 0 ∷ Response 0x00 0x00 0x00 ∷ [];
+      answers = Done ∷ Status OperationException ∷ Status Normal ∷ Response 0x00 0x00 0x00 ∷ [];
       left = zeros;
       sector = 1;
     }

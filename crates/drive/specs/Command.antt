@@ -1,6 +1,7 @@
 -- Commands and responses (M-100): what a command does at its last word, and what a response tells. "their parameters by kinds 4 and 5 .. but never staged".
 use Rattle.std.specs.Prelude.{ℕ, ◌+◌, ◌*◌, ◌&&◌, List, [], ◌∷◌, eqb, get_or}
 use Rattle.laws.specs.Pick.{pick}
+use Rattle.status.specs.declared.drive_status.DriveStatus.TheVariants.{Normal}
 use Rattle.parts.specs.Setup.{is_place, is_target}
 use Rattle.parts.specs.Command.{load_drive_function, load_cylinder_address, load_head_address, load_target_sector_address, read_status, read_current_sector_address, function_in}
 use Rattle.parts.specs.Control.{is_data, words_to_come}
@@ -12,7 +13,6 @@ use Rattle.parts.specs.declared.setup.Place.{Place}
 use Rattle.parts.specs.declared.pending.Pending.{Pending}
 use Rattle.parts.specs.declared.transfer.Parameters.{Parameters}
 use Rattle.parts.specs.declared.transfer.Transfer.{Transfer}
-use Rattle.drive.specs.Answer.{normal}
 use Rattle.drive.specs.State.{at_place, with_place, with_target, with_transfer, pending_on, posted_on, told, Result, result}
 use Rattle.drive.specs.Drive.{reserved, unreserved, priority_reserved, closed, ended}
 use Rattle.drive.specs.Request.{bad_request}
@@ -50,7 +50,7 @@ target_sought t target last = pick (eqb t.control load_cylinder_address) target 
 -- "A place or target outside the drive: bit 6."
 unfoldable pub seeking : Drive → ℕ → Place → ℕ → Outcome
 seeking d port place target =
-    pick (is_place d.setup place && is_target d.setup target) (told (Status normal) (with_target (with_place d place) target))
+    pick (is_place d.setup place && is_target d.setup target) (told (Status Normal) (with_target (with_place d place) target))
     (bad_request d port invalid_parameter)
 
 -- Recalibrate: "causes the drive to move the heads to cylinder 0".
@@ -59,11 +59,11 @@ on_cylinder0 p = at_place 0 p.head p.sector
 
 -- 01, by its function. "This function performs no operation."
 abbrev pub functioned : Function → Drive → ℕ → Outcome
-functioned PriorityReserve d port = told (Status normal) (priority_reserved d)
-functioned Reserve d port = told (Status normal) (reserved d)
-functioned Release d port = told (Status normal) (unreserved d)
-functioned NoOperation d port = told (Status normal) d
-functioned Recalibrate d port = told (Status normal) (with_place d (on_cylinder0 d.place))
+functioned PriorityReserve d port = told (Status Normal) (priority_reserved d)
+functioned Reserve d port = told (Status Normal) (reserved d)
+functioned Release d port = told (Status Normal) (unreserved d)
+functioned NoOperation d port = told (Status Normal) d
+functioned Recalibrate d port = told (Status Normal) (with_place d (on_cylinder0 d.place))
 functioned ActsOnMore d port = bad_request d port unsupported_bus_control
 functioned NotListed d port = bad_request d port invalid_parameter
 

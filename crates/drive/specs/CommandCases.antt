@@ -1,6 +1,7 @@
 -- Worked cases of commands and responses: a second table beside P1 to P12. Each is a run of the bench drive from power-up, with all words zero.
 use Rattle.std.specs.Prelude.{ℕ, ◌*◌, ◌≡◌, List, [], ◌∷◌, ◌++◌, replicate}
 use Rattle.refusals.specs.declared.refusal.Refusal.TheVariants.{Busy}
+use Rattle.status.specs.declared.drive_status.DriveStatus.TheVariants.{Normal, OperationException, UnsolicitedException}
 use Rattle.parts.specs.Holding.{nobody, held}
 use Rattle.parts.specs.Pending.{alternate_port_priority_select, reset_complete, invalid_parameter, pending_of, nothing_pending}
 use Rattle.parts.specs.Tests.{transferring, transferring_with, parameters}
@@ -39,7 +40,7 @@ abbrev opens : ℕ → Answer
 opens words = Opened words (at_place 0 0 0)
 
 abbrev function_done : List Answer
-function_done = opens 1 ∷ Status 0 ∷ []
+function_done = opens 1 ∷ Status Normal ∷ []
 
 -- Reserve keeps the drive between sessions: the other port gets it with both bits alone.
 abbrev pub reserve_keeps : CommandCase
@@ -82,7 +83,7 @@ abbrev pub status_where_cstands : CommandCase
 status_where_cstands =
     record {
       events = reset 0 ∷ select 0 0x30 ∷ control 0 0xC1 ∷ control 0 0x44 ∷ take 0 ∷ take 0 ∷ take 0 ∷ take 0 ∷ control 0 0xC1 ∷ [];
-      answers = Done ∷ Done ∷ Status 0xC ∷ opens 4 ∷ Word 0x4080 ∷ Word 0 ∷ Word 0 ∷ LastWord 0 ∷ opens 2 ∷ [];
+      answers = Done ∷ Done ∷ Status UnsolicitedException ∷ opens 4 ∷ Word 0x4080 ∷ Word 0 ∷ Word 0 ∷ LastWord 0 ∷ opens 2 ∷ [];
       end = with_transfer (with_pending (with_holding (at_rest bench) (held 0 0 None)) nothing_pending (pending_of reset_complete 0)) (transferring 0xC1 0);
     }
 
@@ -91,7 +92,7 @@ abbrev pub position_loaded : CommandCase
 position_loaded =
     record {
       events = select 0 0x30 ∷ control 0 0x07 ∷ word 0 0 ∷ word 0 1 ∷ word 0 1 ∷ word 0 2 ∷ control 0 0x47 ∷ take 0 ∷ take 0 ∷ take 0 ∷ take 0 ∷ take 0 ∷ [];
-      answers = Done ∷ opens 4 ∷ Done ∷ Done ∷ Done ∷ Status 0 ∷ Opened 5 (at_place 1 1 0) ∷ Word 0 ∷ Word 1 ∷ Word 1 ∷ Word 2 ∷ LastWord 0 ∷ [];
+      answers = Done ∷ opens 4 ∷ Done ∷ Done ∷ Done ∷ Status Normal ∷ Opened 5 (at_place 1 1 0) ∷ Word 0 ∷ Word 1 ∷ Word 1 ∷ Word 2 ∷ LastWord 0 ∷ [];
       end = with_target (with_place (with_holding (at_rest bench) (held 0 0 None)) (at_place 1 1 0)) 2;
     }
 
@@ -100,7 +101,7 @@ abbrev pub position_bad : CommandCase
 position_bad =
     record {
       events = select 0 0x30 ∷ control 0 0x07 ∷ word 0 0 ∷ word 0 1 ∷ word 0 2 ∷ word 0 1 ∷ [];
-      answers = Done ∷ opens 4 ∷ Done ∷ Done ∷ Done ∷ Status 8 ∷ [];
+      answers = Done ∷ opens 4 ∷ Done ∷ Done ∷ Done ∷ Status OperationException ∷ [];
       end = with_pending (with_holding (at_rest bench) (held 0 0 None)) (pending_of 0 invalid_parameter) nothing_pending;
     }
 
@@ -117,7 +118,7 @@ abbrev pub cut_by_end : CommandCase
 cut_by_end =
     record {
       events = words_kept.events ++ (end 0 ∷ []);
-      answers = words_kept.answers ++ (Status 0 ∷ []);
+      answers = words_kept.answers ++ (Status Normal ∷ []);
       end = with_holding (at_rest bench) (held 0 0 None);
     }
 

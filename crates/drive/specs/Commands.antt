@@ -1,6 +1,7 @@
 -- What is known of commands and responses, whatever the state.
 use Rattle.std.specs.Prelude.{ℕ, ◌<◌, ◌≤◌, ◌/◌, ◌%◌, ◌≡◌, true, false, List, [], ◌∷◌, ◌⊎◌, eqb, replicate}
 use Rattle.laws.specs.Pick.{pick}
+use Rattle.status.specs.declared.drive_status.DriveStatus.TheVariants.{Normal}
 use Rattle.parts.specs.Setup.{is_place, is_target}
 use Rattle.parts.specs.Command.{load_drive_function, load_position, read_status, function_in}
 use Rattle.parts.specs.Control.{is_data}
@@ -13,7 +14,6 @@ use Rattle.parts.specs.declared.holding.Hold.{Hold}
 use Rattle.parts.specs.declared.holding.Hold.TheVariants.{None, Strong}
 use Rattle.parts.specs.declared.setup.Place.{Place}
 use Rattle.parts.specs.declared.event.Event.{Event}
-use Rattle.drive.specs.Answer.{normal}
 use Rattle.drive.specs.State.{with_transfer, pending_on}
 use Rattle.drive.specs.Drive.{selected, after_reset, closed}
 use Rattle.drive.specs.Request.{octet2_cleared}
@@ -132,7 +132,7 @@ position_sent_by07 port p target =
     sent port 3 load_position 0 ∷ word_sent port 0 ∷ word_sent port p.cylinder ∷ word_sent port p.head ∷ word_sent port target ∷ []
 
 pub record PositionBy07 (m : Machine) (port : ℕ) (p : Place) (target : ℕ) : Type 0 where
-  pub told : answers m (position_sent_by07 port p target) ≡ Opened 4 m.drive.place ∷ Done ∷ Done ∷ Done ∷ Status normal ∷ []
+  pub told : answers m (position_sent_by07 port p target) ≡ Opened 4 m.drive.place ∷ Done ∷ Done ∷ Done ∷ Status Normal ∷ []
   -- The drive that Position, with the sector as it stands, and Target would leave.
   pub same : (final m (position_sent_by07 port p target)).drive
       ≡ closed (final m (position_sent port p ∷ sent port 8 (target / 256) (target % 256) ∷ [])).drive

@@ -2,8 +2,9 @@
 use Rattle.std.specs.Prelude.{ℕ, ◌≡◌, List}
 use Rattle.laws.specs.Rows.{unless_refused}
 use Rattle.refusals.specs.Refusal.{named}
-use Rattle.drive.specs.Answer.{normal, paper, Says}
+use Rattle.drive.specs.Answer.{paper, Says}
 use Rattle.drive.specs.State.{told, Result, result}
+use Rattle.status.specs.declared.drive_status.DriveStatus.TheVariants.{Normal}
 use Rattle.parts.specs.Kind.{Kind, Select, Deselect, Use, Reset, Unknown, DataControl, WordFromHost, TakeWord, End, Position, Target, ReadStatus, kind_of, word_of, place_of}
 use Rattle.drive.specs.Refusal.{refusal_of}
 use Rattle.drive.specs.Drive.{selected, deselected, after_reset}
@@ -22,7 +23,7 @@ act (Use DataControl) d e sectors staging = result (data_control d e.port e.a0) 
 act (Use WordFromHost) d e sectors staging = word_from_host d e.port (word_of e) sectors staging
 act (Use TakeWord) d e sectors staging = result (word_to_host d e.port sectors) sectors staging
 -- "a finished transfer, End and Step Head give 0"
-act (Use End) d e sectors staging = result (told (Status normal) (ended_early d)) sectors staging
+act (Use End) d e sectors staging = result (told (Status Normal) (ended_early d)) sectors staging
 act (Use Position) d e sectors staging = result (positioned d e.port (place_of e)) sectors staging
 act (Use Target) d e sectors staging = result (targeted d e.port (word_of e)) sectors staging
 act (Use ReadStatus) d e sectors staging = result (status_read d e.port) sectors staging

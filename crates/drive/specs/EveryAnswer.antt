@@ -3,6 +3,9 @@ use Rattle.std.specs.Prelude.{ℕ, ◌≡◌, true, List, [], ◌∷◌}
 use Rattle.laws.specs.Lists.{one_of}
 use Rattle.refusals.specs.Refusal.{number}
 use Rattle.refusals.specs.declared.refusal.Refusal.{Refusal}
+use Rattle.status.specs.declared.drive_status.DriveStatus.TheVariants.{Normal, HeaderMiscompare, OperationException}
+use Rattle.status.specs.DriveStatus.{octet_of}
+use Rattle.status.specs.declared.drive_status.DriveStatus.{DriveStatus}
 use Rattle.parts.specs.Kind.{Kind, Select, Deselect, Use, Reset, DataControl, WordFromHost, TakeWord, End, Position, Target, ReadStatus, kind_of}
 use Rattle.parts.specs.declared.setup.Place.{Place}
 use Rattle.parts.specs.declared.event.Event.{Event}
@@ -23,20 +26,20 @@ pub data Accepted : Kind → Answer → Type 0 where
   reset : Accepted Reset Done
   -- "The answer that opens a transfer tells the number of words to come and the place."
   opened : {words : ℕ} {place : Place} → Accepted (Use DataControl) (Opened words place)
-  controlled : {status : ℕ} → one_of request_statuses status ≡ true → Accepted (Use DataControl) (Status status)
+  controlled : {status : DriveStatus} → one_of request_statuses (octet_of status) ≡ true → Accepted (Use DataControl) (Status status)
   -- "a word before the last carr[ies] no status"; the last one 0, and a header that differs 7.
   more : Accepted (Use WordFromHost) Done
-  finished : Accepted (Use WordFromHost) (Status 0)
-  miscompared : Accepted (Use WordFromHost) (Status 7)
+  finished : Accepted (Use WordFromHost) (Status Normal)
+  miscompared : Accepted (Use WordFromHost) (Status HeaderMiscompare)
   -- A command that is bad: 8, at its last word.
-  disobeyed : Accepted (Use WordFromHost) (Status 8)
+  disobeyed : Accepted (Use WordFromHost) (Status OperationException)
   -- "Take answers the next word."
   taken : {word : ℕ} → Accepted (Use TakeWord) (Word word)
   last_taken : {word : ℕ} → Accepted (Use TakeWord) (LastWord word)
   -- "a finished transfer, End and Step Head give 0"
-  ended : Accepted (Use End) (Status 0)
-  positioned : {status : ℕ} → one_of request_statuses status ≡ true → Accepted (Use Position) (Status status)
-  targeted : {status : ℕ} → one_of request_statuses status ≡ true → Accepted (Use Target) (Status status)
+  ended : Accepted (Use End) (Status Normal)
+  positioned : {status : DriveStatus} → one_of request_statuses (octet_of status) ≡ true → Accepted (Use Position) (Status status)
+  targeted : {status : DriveStatus} → one_of request_statuses (octet_of status) ≡ true → Accepted (Use Target) (Status status)
   -- "Read status answers 0 with the octets".
   status_read : {octet0 octet1 octet2 : ℕ} → Accepted (Use ReadStatus) (Response octet0 octet1 octet2)
 

@@ -1,12 +1,12 @@
 -- `frame`: a commit changes the named written fields of one sector and no other word; staging changes at one index; what is pending changes as listed here.
 use Rattle.std.specs.Prelude.{ℕ, ◌+◌, ◌-◌, ◌≤◌, ◌≡◌, Bool, true, false, ◌&&◌, List, eqb, leb, ltb, length, get_or, set}
 use Rattle.laws.specs.Pick.{pick}
+use Rattle.status.specs.declared.drive_status.DriveStatus.TheVariants.{Normal, OperationException}
 use Rattle.parts.specs.Command.{read_status}
 use Rattle.parts.specs.Control.{control_of, is_write, moves_header, names_field1, names_field2, part}
 use Rattle.parts.specs.Holding.{is_owned_by_other}
 use Rattle.parts.specs.Pending.{nothing_pending, pending_of, reset_complete, OneBit, noticed, faulted}
 use Rattle.parts.specs.Kind.{Kind, Select, Use, Reset, DataControl, WordFromHost, TakeWord, Position, Target, ReadStatus, kind_of, word_of}
-use Rattle.drive.specs.Answer.{normal, operation_exception}
 use Rattle.drive.specs.State.{pending_on}
 use Rattle.drive.specs.Transfer.{committed}
 use Rattle.drive.specs.Able.{Room}
@@ -50,9 +50,9 @@ pub data ClearsFirst (e : Event) : Kind → Type 0 where
 -- What such a request leaves pending on its port, by its answer, where that is neither a refusal nor C: octet 2 was cleared, and its own bit is set if it
 -- is bad.
 pub data RequestLeaves : Answer → Pending → Type 0 where
-  good : RequestLeaves (Status normal) nothing_pending
+  good : RequestLeaves (Status Normal) nothing_pending
   opening : {words : ℕ} {place : Place} → RequestLeaves (Opened words place) nothing_pending
-  bad : {bit : ℕ} → OneBit bit → RequestLeaves (Status operation_exception) (pending_of 0 bit)
+  bad : {bit : ℕ} → OneBit bit → RequestLeaves (Status OperationException) (pending_of 0 bit)
 
 -- What an event that gets this answer leaves pending on a port. A bit more, by the other port's takeover or by a command of its own that is bad at its last
 -- word; octet 2 cleared, by a request of its own that finds octet 1 zero; nothing, by its own read status, kind 9 or the last word of 44; Reset Complete
@@ -61,7 +61,7 @@ pub data PendingFrame (m : Machine) (e : Event) (port : ℕ) (answer : Answer) (
   as_before : left ≡ pending_on m.drive port → PendingFrame m e port answer left
   by_takeover : kind_of e.kind ≡ Select → is_owned_by_other m.drive.holding e.port ≡ true → port ≡ m.drive.holding.owner
       → left ≡ noticed (pending_on m.drive port) → PendingFrame m e port answer left
-  by_command : {bit : ℕ} → kind_of e.kind ≡ Use WordFromHost → port ≡ e.port → answer ≡ Status operation_exception → OneBit bit
+  by_command : {bit : ℕ} → kind_of e.kind ≡ Use WordFromHost → port ≡ e.port → answer ≡ Status OperationException → OneBit bit
       → left ≡ faulted (pending_on m.drive port) bit → PendingFrame m e port answer left
   by_request : ClearsFirst e (kind_of e.kind) → port ≡ e.port → (pending_on m.drive port).octet1 ≡ 0 → RequestLeaves answer left
       → PendingFrame m e port answer left

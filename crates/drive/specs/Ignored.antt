@@ -1,10 +1,10 @@
 -- M-102, ignored operation exceptions: what becomes of a request that is not refused, and that from power-up no port ever has two bits of octet 2.
 use Rattle.std.specs.Prelude.{ℕ, ◌%◌, ◌<◌, ◌≡◌, false, List}
+use Rattle.status.specs.declared.drive_status.DriveStatus.TheVariants.{UnsolicitedException}
 use Rattle.parts.specs.Pending.{OneBit, pending_of}
 use Rattle.parts.specs.Kind.{kind_of}
 use Rattle.parts.specs.declared.setup.Setup.{Setup}
 use Rattle.parts.specs.declared.event.Event.{Event}
-use Rattle.drive.specs.Answer.{unsolicited_exception}
 use Rattle.drive.specs.State.{pending_on, posted_on}
 use Rattle.drive.specs.Request.{octet2_cleared}
 use Rattle.drive.specs.Refusal.{row11}
@@ -17,7 +17,7 @@ use Rattle.drive.specs.declared.answer.Answer.TheVariants.{Status}
 
 -- A bit of octet 1 is pending on the event's port: the answer is C, and nothing changes.
 pub record Stopped (m : Machine) (e : Event) : Type 0 where
-  pub answered : answer_to m e ≡ Status unsolicited_exception
+  pub answered : answer_to m e ≡ Status UnsolicitedException
   pub unchanged : after m e ≡ m
 
 -- The same machine with octet 2 of a port cleared.

@@ -1,5 +1,6 @@
 -- Worked cases of M-102, line by line: runs of the bench drive from power-up, with all words zero. The request's own case stands in `Cases`.
 use Rattle.std.specs.Prelude.{ℕ, ◌≡◌, List, [], ◌∷◌, map, replicate}
+use Rattle.status.specs.declared.drive_status.DriveStatus.TheVariants.{Normal, OperationException, UnsolicitedException}
 use Rattle.parts.specs.Pending.{pending_of, nothing_pending}
 use Rattle.parts.specs.declared.event.Event.{Event}
 use Rattle.parts.specs.declared.pending.Pending.{Pending}
@@ -45,9 +46,9 @@ target port sector = event port 8 0 sector
 abbrev pub own_bit_alone : List Line
 own_bit_alone =
     line (select 0 0x30) Done none none
-    ∷ line (control 0 0xD0) (Status 8) (fault 0x80) none
-    ∷ line (position 0 2 0 0) (Status 8) (fault 0x40) none
-    ∷ line (control 0 0x8C) (Status 8) (fault 0x10) none
+    ∷ line (control 0 0xD0) (Status OperationException) (fault 0x80) none
+    ∷ line (position 0 2 0 0) (Status OperationException) (fault 0x40) none
+    ∷ line (control 0 0x8C) (Status OperationException) (fault 0x10) none
     ∷ line (status 0) (Response 0x20 0x00 0x10) none none
     ∷ []
 
@@ -55,12 +56,12 @@ own_bit_alone =
 abbrev pub c_clears_nothing : List Line
 c_clears_nothing =
     line (select 0 0x30) Done none none
-    ∷ line (control 0 0xD0) (Status 8) (fault 0x80) none
+    ∷ line (control 0 0xD0) (Status OperationException) (fault 0x80) none
     ∷ line (select 1 0x31) Done (pending_of 0x40 0x80) none
     ∷ line (deselect 1) Done (pending_of 0x40 0x80) none
     ∷ line (select 0 0x30) Done (pending_of 0x40 0x80) none
-    ∷ line (control 0 0xC1) (Status 0xC) (pending_of 0x40 0x80) none
-    ∷ line (position 0 0 0 0) (Status 0xC) (pending_of 0x40 0x80) none
+    ∷ line (control 0 0xC1) (Status UnsolicitedException) (pending_of 0x40 0x80) none
+    ∷ line (position 0 0 0 0) (Status UnsolicitedException) (pending_of 0x40 0x80) none
     ∷ line (status 0) (Response 0x60 0x40 0x80) none none
     ∷ []
 
@@ -68,26 +69,26 @@ c_clears_nothing =
 abbrev pub good_ones_clear : List Line
 good_ones_clear =
     line (select 1 0x30) Done none none
-    ∷ line (control 1 0xD0) (Status 8) none (fault 0x80)
+    ∷ line (control 1 0xD0) (Status OperationException) none (fault 0x80)
     ∷ line (deselect 1) Done none (fault 0x80)
     ∷ line (select 0 0x30) Done none (fault 0x80)
-    ∷ line (control 0 0xD0) (Status 8) (fault 0x80) (fault 0x80)
-    ∷ line (control 0 0x90) (Status 0) none (fault 0x80)
-    ∷ line (control 0 0xD0) (Status 8) (fault 0x80) (fault 0x80)
-    ∷ line (target 0 1) (Status 0) none (fault 0x80)
-    ∷ line (control 0 0xD0) (Status 8) (fault 0x80) (fault 0x80)
-    ∷ line (position 0 1 1 1) (Status 0) none (fault 0x80)
+    ∷ line (control 0 0xD0) (Status OperationException) (fault 0x80) (fault 0x80)
+    ∷ line (control 0 0x90) (Status Normal) none (fault 0x80)
+    ∷ line (control 0 0xD0) (Status OperationException) (fault 0x80) (fault 0x80)
+    ∷ line (target 0 1) (Status Normal) none (fault 0x80)
+    ∷ line (control 0 0xD0) (Status OperationException) (fault 0x80) (fault 0x80)
+    ∷ line (position 0 1 1 1) (Status Normal) none (fault 0x80)
     ∷ []
 
 -- The code that reads status does not clear at its opening; one cut short leaves the bit to the next request.
 abbrev pub status_leaves_it : List Line
 status_leaves_it =
     line (select 0 0x30) Done none none
-    ∷ line (control 0 0xD0) (Status 8) (fault 0x80) none
+    ∷ line (control 0 0xD0) (Status OperationException) (fault 0x80) none
     ∷ line (control 0 0x44) (Opened 4 (at_place 0 0 0)) (fault 0x80) none
     ∷ line (take 0) (Word 0x2000) (fault 0x80) none
     ∷ line (take 0) (Word 0x8000) (fault 0x80) none
-    ∷ line (end 0) (Status 0) (fault 0x80) none
+    ∷ line (end 0) (Status Normal) (fault 0x80) none
     ∷ line (control 0 0x46) (Opened 1 (at_place 0 0 0)) none none
     ∷ []
 

@@ -1,11 +1,11 @@
 -- `never_dead`: "Striking out refused events is also true of an idle drive". A drive that refuses all satisfies the shape of demand 3; this it does not.
 use Rattle.std.specs.Prelude.{ℕ, ◌-◌, ◌*◌, ◌/◌, ◌%◌, ◌≤◌, ◌≡◌, true, List, [], ◌∷◌, ◌++◌, map, length, replicate}
+use Rattle.status.specs.declared.drive_status.DriveStatus.TheVariants.{Normal}
 use Rattle.parts.specs.Setup.{sector_words, sector_at, is_place}
 use Rattle.parts.specs.Pending.{reset_complete}
 use Rattle.parts.specs.declared.setup.Setup.{Setup}
 use Rattle.parts.specs.declared.setup.Place.{Place}
 use Rattle.parts.specs.declared.event.Event.{Event}
-use Rattle.drive.specs.Answer.{normal}
 use Rattle.drive.specs.Run.{Machine, answers, final}
 use Rattle.drive.specs.StaysSound.{IsSound}
 use Rattle.drive.specs.declared.answer.Answer.{Answer}
@@ -46,9 +46,9 @@ its_answers s p =
     Done
     ∷ Done
     ∷ Response 0x40 reset_complete 0
-    ∷ Status normal
+    ∷ Status Normal
     ∷ Opened (sector_words s) p
-    ∷ replicate (sector_words s - 1) Done ++ (Status normal ∷ [])
+    ∷ replicate (sector_words s - 1) Done ++ (Status Normal ∷ [])
 
 -- A sound drive in whatever state, either port, a place in the drive, and the words of a whole sector.
 pub record Possible (m : Machine) (port : ℕ) (p : Place) (words : List ℕ) : Type 0 where

@@ -1,11 +1,11 @@
 -- "Status", kinds 3, 7, 8 and 9: a control, a position, a target, the status response.
 use Rattle.std.specs.Prelude.{ℕ, eqb}
 use Rattle.laws.specs.Pick.{pick}
+use Rattle.status.specs.declared.drive_status.DriveStatus.TheVariants.{Normal, OperationException, UnsolicitedException}
 use Rattle.parts.specs.Setup.{is_place, is_target, no_target}
 use Rattle.parts.specs.Command.{read_status}
 use Rattle.parts.specs.Control.{control_of, is_at_target, words_to_come}
 use Rattle.parts.specs.Pending.{invalid_bus_control, invalid_parameter, unsupported_bus_control, bus_control_context, pending_of, nothing_pending, faulted, octet0}
-use Rattle.drive.specs.Answer.{normal, operation_exception, unsolicited_exception}
 use Rattle.drive.specs.State.{with_place, with_target, with_transfer, pending_on, posted_on, told}
 use Rattle.parts.specs.Tests.{transferring}
 use Rattle.drive.specs.Drive.{head_stepped, at_its_target, ended}
@@ -21,7 +21,7 @@ use Rattle.drive.specs.declared.answer.Answer.TheVariants as answer
 
 -- "a bad request gives 8 and sets a bit in octet 2"
 unfoldable pub bad_request : Drive → ℕ → ℕ → Outcome
-bad_request d port bit = told (Status operation_exception) (posted_on d port (faulted (pending_on d port) bit))
+bad_request d port bit = told (Status OperationException) (posted_on d port (faulted (pending_on d port) bit))
 
 -- M-102: "first clears that port's octet 2". 004: "If the captured status is ignored it will be cleared upon receipt of the next bus control."
 unfoldable pub octet2_cleared : Drive → ℕ → Drive
@@ -30,12 +30,12 @@ octet2_cleared d port = posted_on d port (pending_of (pending_on d port).octet1 
 -- "in order: any pending bit in response octet 1 gives C and changes nothing; then" octet 2 is cleared, and the request is judged by the drive that this
 -- leaves. So if it is bad, its own bit is the only one.
 abbrev pub taken_up : Drive → ℕ → (Drive → Outcome) → Outcome
-taken_up d port request = pick (eqb (pending_on d port).octet1 0) (request (octet2_cleared d port)) (told (Status unsolicited_exception) d)
+taken_up d port request = pick (eqb (pending_on d port).octet1 0) (request (octet2_cleared d port)) (told (Status UnsolicitedException) d)
 
 -- "The answer that opens a transfer tells the number of words to come and the place. No words to come: it ends at once, with status 0 alone."
 unfoldable pub opened : Drive → ℕ → Outcome
 opened d c =
-    pick (eqb (words_to_come d.setup c) 0) (told (Status normal) (ended d))
+    pick (eqb (words_to_come d.setup c) 0) (told (Status Normal) (ended d))
     (told (Opened (words_to_come d.setup c) d.place) (with_transfer d (transferring c 0)))
 
 -- ""At target" with FFFF: bit 4."
@@ -48,17 +48,17 @@ controlled Write d port c = opening d port c
 controlled Read d port c = opening d port c
 controlled Command d port c = opened d c
 controlled Response d port c = opened d c
-controlled StepHead d port c = told (Status normal) (head_stepped d)
+controlled StepHead d port c = told (Status Normal) (head_stepped d)
 controlled Reserved d port c = bad_request d port invalid_bus_control
 controlled Unsupported d port c = bad_request d port unsupported_bus_control
 controlled Invalid d port c = bad_request d port invalid_bus_control
 
 -- "A place or target outside the drive: bit 6. .. Otherwise kinds 7 and 8 give 0".
 abbrev pub placed : Drive → ℕ → Place → Outcome
-placed d port p = pick (is_place d.setup p) (told (Status normal) (with_place d p)) (bad_request d port invalid_parameter)
+placed d port p = pick (is_place d.setup p) (told (Status Normal) (with_place d p)) (bad_request d port invalid_parameter)
 
 abbrev pub aimed : Drive → ℕ → ℕ → Outcome
-aimed d port target = pick (is_target d.setup target) (told (Status normal) (with_target d target)) (bad_request d port invalid_parameter)
+aimed d port target = pick (is_target d.setup target) (told (Status Normal) (with_target d target)) (bad_request d port invalid_parameter)
 
 -- Kind 3. "The code that reads status is never answered C", and it is not one that clears: "(but not M-100's code that reads status)".
 unfoldable pub data_control : Drive → ℕ → ℕ → Outcome

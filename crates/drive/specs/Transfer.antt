@@ -3,9 +3,9 @@ use Rattle.std.specs.Prelude.{ℕ, ◌+◌, Bool, not, ◌&&◌, List, eqb, take
 use Rattle.std.proofs.Math.Seq.{paste}
 use Rattle.laws.specs.Pick.{pick}
 use Rattle.laws.specs.Lists.{same_list}
+use Rattle.status.specs.declared.drive_status.DriveStatus.TheVariants.{Normal, HeaderMiscompare}
 use Rattle.parts.specs.Setup.{sector_start, sector_at}
 use Rattle.parts.specs.Control.{verifies_header, moves_header, names_field1, names_field2, part, words_to_come, words_read}
-use Rattle.drive.specs.Answer.{normal, header_miscompare}
 use Rattle.drive.specs.State.{told, with_transfer, Result, result}
 use Rattle.parts.specs.Tests.{moved_on}
 use Rattle.drive.specs.Drive.{ended}
@@ -35,9 +35,9 @@ committed s c start sectors staging =
 unfoldable pub staged : Drive → ℕ → ℕ → List ℕ → List ℕ → Result
 staged d count start sectors staging =
     let c = d.transfer.control in
-    pick (miscompares d.setup c count start sectors staging) (result (told (Status header_miscompare) (ended d)) sectors staging)
+    pick (miscompares d.setup c count start sectors staging) (result (told (Status HeaderMiscompare) (ended d)) sectors staging)
     (pick (eqb count (words_to_come d.setup c))
-    (result (told (Status normal) (ended d)) (committed d.setup c start sectors staging) staging)
+    (result (told (Status Normal) (ended d)) (committed d.setup c start sectors staging) staging)
     (result (told Done (with_transfer d (moved_on d.transfer count))) sectors staging))
 
 -- "Word k of a write, counted from 0 in that transfer, is staged at index k, and no other staging word changes."

@@ -1,6 +1,7 @@
 -- Runs of wrong drives, and the part of demand 3 that refuses each.
 use Rattle.std.specs.Prelude.{ℕ, ◌≡◌, List, [], ◌∷◌, ◌++◌, map, replicate}
 use Rattle.refusals.specs.declared.refusal.Refusal.TheVariants.{Busy, UnsoundState}
+use Rattle.status.specs.declared.drive_status.DriveStatus.TheVariants.{Normal}
 use Rattle.parts.specs.Pending.{alternate_port_priority_select, reset_complete, invalid_parameter, pending_of, nothing_pending}
 use Rattle.parts.specs.Tests.{transferring, no_transfer}
 use Rattle.parts.specs.declared.holding.Hold.TheVariants.{None}
@@ -92,7 +93,7 @@ refuses_all = all_refused (whole_sector_written 0 3 (at_place 0 0 0) (7 ∷ 1 �
 
 -- "one that always answers 0": P8's control D0 too.
 abbrev pub always_zero : WrongRun
-always_zero = record { events = p8.events; told = Done ∷ Status 0 ∷ Response 0 0 0 ∷ []; end = left 0 0 no_transfer untouched zeros }
+always_zero = record { events = p8.events; told = Done ∷ Status Normal ∷ Response 0 0 0 ∷ []; end = left 0 0 no_transfer untouched zeros }
 
 -- "or does nothing": P11, with the right answers.
 abbrev pub does_nothing : WrongRun
@@ -103,7 +104,7 @@ abbrev pub only_the_first_sector : WrongRun
 only_the_first_sector =
     record {
       events = p11.events ++ (sent 0 3 0x85 0 ∷ word_sent 0 0 ∷ word_sent 0 0xAA ∷ word_sent 0 0xBB ∷ []);
-      told = p11.answers ++ (Opened 3 (at_place 0 0 1) ∷ Done ∷ Done ∷ Status 0 ∷ []);
+      told = p11.answers ++ (Opened 3 (at_place 0 0 1) ∷ Done ∷ Done ∷ Status Normal ∷ []);
       end = left 0 2 no_transfer whole (0 ∷ 0xAA ∷ 0xBB ∷ 0 ∷ []);
     }
 
@@ -129,14 +130,14 @@ abbrev pub end_commits : WrongRun
 end_commits =
     record {
       events = sent 0 1 0x30 0 ∷ sent 0 3 0x85 0 ∷ word_sent 0 7 ∷ word_sent 0 0xAA ∷ sent 0 6 0 0 ∷ [];
-      told = Done ∷ Opened 3 (at_place 0 0 0) ∷ Done ∷ Done ∷ Status 0 ∷ [];
+      told = Done ∷ Opened 3 (at_place 0 0 0) ∷ Done ∷ Done ∷ Status Normal ∷ [];
       end = left 0 1 no_transfer half half;
     }
 
 -- A takeover that keeps the transfer: after P12, port 0's last word is accepted.
 abbrev pub takeover_keeps_the_transfer : WrongRun
 takeover_keeps_the_transfer =
-    record { events = p12.events ++ (word_sent 0 0xBB ∷ []); told = p12.answers ++ (Status 0 ∷ []); end = noticed (left 1 1 no_transfer whole whole) }
+    record { events = p12.events ++ (word_sent 0 0xBB ∷ []); told = p12.answers ++ (Status Normal ∷ []); end = noticed (left 1 1 no_transfer whole whole) }
 
 -- And one that hands it on: nothing is told wrong, but port 1 could now finish port 0's write.
 abbrev pub takeover_hands_on : WrongRun
@@ -156,7 +157,7 @@ abbrev pub half_aglyph : WrongRun
 half_aglyph =
     record {
       events = sent 0 1 0x30 0 ∷ sent 0 3 0x85 0 ∷ word_sent 0 7 ∷ word_sent 0 0xAA ∷ [];
-      told = Done ∷ Opened 3 (at_place 0 0 0) ∷ Done ∷ Status 0 ∷ [];
+      told = Done ∷ Opened 3 (at_place 0 0 0) ∷ Done ∷ Status Normal ∷ [];
       end = left 0 1 no_transfer half half;
     }
 
@@ -226,7 +227,7 @@ abbrev pub command_written : WrongRun
 command_written =
     record {
       events = words_kept.events ++ (word_sent 0 2 ∷ []);
-      told = words_kept.answers ++ (Status 0 ∷ []);
+      told = words_kept.answers ++ (Status Normal ∷ []);
       end = machine position_loaded.end ((0 ∷ 1 ∷ 1 ∷ 2 ∷ []) ++ replicate 44 0) zeros;
     }
 
@@ -235,7 +236,7 @@ abbrev pub command_moves_on : WrongRun
 command_moves_on =
     record {
       events = sent 0 1 0x30 0 ∷ sent 0 3 0x06 0 ∷ word_sent 0 0xFFFF ∷ sent 0 3 0xC1 0 ∷ [];
-      told = Done ∷ Opened 1 (at_place 0 0 0) ∷ Status 0 ∷ Opened 2 (at_place 0 0 1) ∷ [];
+      told = Done ∷ Opened 1 (at_place 0 0 0) ∷ Status Normal ∷ Opened 2 (at_place 0 0 1) ∷ [];
       end = left 0 1 (transferring 0xC1 0) untouched zeros;
     }
 
@@ -253,7 +254,7 @@ abbrev pub reserve_forgotten : WrongRun
 reserve_forgotten =
     record {
       events = sent 0 1 0x30 0 ∷ sent 0 3 0x01 0 ∷ word_sent 0 0x1414 ∷ sent 0 2 0 0 ∷ sent 1 1 0x31 0 ∷ [];
-      told = Done ∷ Opened 1 (at_place 0 0 0) ∷ Status 0 ∷ Done ∷ Done ∷ [];
+      told = Done ∷ Opened 1 (at_place 0 0 0) ∷ Status Normal ∷ Done ∷ Done ∷ [];
       end = left 1 0 no_transfer untouched zeros;
     }
 

@@ -2,6 +2,7 @@
 use crate::drive::Drive;
 use parts::Place;
 use refusals::Refusal;
+use status::DriveStatus;
 
 #[derive(Clone, Copy)]
 pub enum Answer {
@@ -9,8 +10,7 @@ pub enum Answer {
     Refused(Refusal),
     // Kinds 1, 2 and 10, and a word of a write before its last.
     Done,
-    // The drive status octet.
-    Status(u8),
+    Status(DriveStatus),
     // A transfer opens: the words to come, and the place.
     Opened(u16, Place),
     // The next word of a read, and the last one, with status 0.

@@ -2,12 +2,12 @@
 -- Assumes nothing.
 use Rattle.std.proofs.Common.{◌≡◌, ℕ, Bool, true, false, List, sym, refl, ◌∙◌, arith, ne_eqb}
 use Rattle.laws.specs.Pick.{pick}
+use Rattle.status.specs.declared.drive_status.DriveStatus.TheVariants.{UnsolicitedException}
 use Rattle.parts.specs.Setup.{no_target}
 use Rattle.parts.specs.Control.{control_of}
 use Rattle.parts.specs.declared.control.Control.{Control}
 use Rattle.drive.specs.State.{posted_on}
 use Rattle.drive.specs.Drive.{at_its_target, closed}
-use Rattle.drive.specs.Answer.{unsolicited_exception}
 use Rattle.drive.specs.Request.{octet2_cleared, taken_up, opened, controlled}
 use Rattle.drive.specs.declared.answer.Answer.{Answer}
 use Rattle.drive.specs.declared.answer.Outcome.{Outcome}
@@ -29,10 +29,10 @@ moved_fit {state} d f o s k e = record { long = rw e (long_again state d f.long)
 
 -- a request that octet 1 stops changes nothing
 pub did_stopped : (state : List ℕ) (port : ℕ) (request : Drive → Outcome) (r : Bool) {state' : List ℕ} → Fit state → TakenUp state port r state' → r ≡ false
-    → Did state (taken_up (drive_in state) port request) (Status unsolicited_exception) state'
+    → Did state (taken_up (drive_in state) port request) (Status UnsolicitedException) state'
 unfolding pick
 did_stopped state port request r f t z =
-    rw (sym t.heard ∙ z, rw z at t.state) (did_nothing (Status unsolicited_exception) f)
+    rw (sym t.heard ∙ z, rw z at t.state) (did_nothing (Status UnsolicitedException) f)
 
 -- and one that goes on finds octet 2 cleared
 cleared : {state state' : List ℕ} {port : ℕ} {r : Bool} → TakenUp state port r state' → r ≡ true → state' ≡ moved_to state (octet2_cleared (drive_in state) port)

@@ -1,8 +1,9 @@
 -- A drive by value is answered as a call on its words is: the call's refusal and its 13 words tell the answer.
 -- Assumes nothing.
-use Rattle.std.proofs.Common.{◌≡◌, ℕ, zero, suc, ◌<◌, ◌≤◌, Bool, true, false, List, ◌++◌, length, get_or, drop, sym, refl, ap, ◌∙◌, subst, arith, length-append, le-ltb}
+use Rattle.std.proofs.Common.{◌≡◌, ℕ, zero, suc, ◌≤◌, Bool, true, false, List, ◌++◌, length, get_or, drop, sym, refl, ap, ◌∙◌, subst, arith, length-append, le-ltb}
 use Rattle.laws.specs.Pick.{pick}
 use Rattle.laws.proofs.Lists.{each_one_of}
+use Rattle.status.specs.DriveStatus.{octet_of, is_drive_status}
 use Rattle.parts.specs.Setup.{within_limits}
 use Rattle.parts.specs.declared.setup.Setup.{Setup}
 use Rattle.parts.specs.declared.event.Event.{Event}
@@ -29,17 +30,17 @@ use Rattle.events.proofs.Promises.{refused_answer, as_the_drive, as_after}
 
 -- ---- the words of an answer
 
--- its status is absent or an octet
+-- its status is absent or one that there is
 status_fits : (s : Setup) (answer : Answer) (rest : List ℕ) → Bounded s answer → (get_or (answer_words answer ++ rest) 1 0 ≡ 0xFFFF → ⊥)
-    → get_or (answer_words answer ++ rest) 1 0 < 256
-unfolding answer_words paper
+    → is_drive_status (get_or (answer_words answer ++ rest) 1 0) ≡ true
+unfolding answer_words paper is_drive_status
 status_fits s (Refused refusal) rest b h = absurd (h refl)
 status_fits s Done rest b h = absurd (h refl)
-status_fits s (Status status) rest b h = each_one_of (λ n. n < 256) statuses status b (omega arith, (omega arith, (omega arith, (omega arith, tt))))
+status_fits s (Status status) rest b h = each_one_of (λ n. is_drive_status n ≡ true) statuses (octet_of status) b (refl, (refl, (refl, (refl, tt))))
 status_fits s (Opened words place) rest b h = absurd (h refl)
 status_fits s (Word word) rest b h = absurd (h refl)
-status_fits s (LastWord word) rest b h = omega arith
-status_fits s (Response first second third) rest b h = omega arith
+status_fits s (LastWord word) rest b h = refl
+status_fits s (Response first second third) rest b h = refl
 
 -- what follows them is not read
 front_read : (answer : Answer) (rest : List ℕ) → accepted_in (answer_words answer ++ rest) ≡ accepted_in (answer_words answer)
@@ -64,7 +65,7 @@ limits_kept state e sectors staging answer long z = (sound (drive_in state) (by_
     by_row11 true u = absurd (let n : 0 ≡ 11 = rw (le-ltb (length state) 21 long, u) at z in omega arith)
 
 -- an answer can be read from the words that a call leaves
-pub told_fit : {state : List ℕ} {e : Event} {sectors staging answer : List ℕ} (r : ℕ) {state' sectors' staging' answer' : List ℕ} → 13 ≤ length answer → get_or answer 1 0 < 256
+pub told_fit : {state : List ℕ} {e : Event} {sectors staging answer : List ℕ} (r : ℕ) {state' sectors' staging' answer' : List ℕ} → 13 ≤ length answer → is_drive_status (get_or answer 1 0) ≡ true
     → OnBoth AreOctets (drive_in state) → EventOnWords state e sectors staging answer r state' sectors' staging' answer' → Told answer'
 told_fit {state} {e} {sectors} {staging} {answer} zero room start octets call =
     let m = machine_in state sectors staging in

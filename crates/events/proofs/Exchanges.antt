@@ -6,6 +6,7 @@ use borrow.Author.Tests.{eqb-false}
 use Rattle.laws.specs.Pick.{pick}
 use Rattle.laws.proofs.Tests.{and_l}
 use Rattle.laws.proofs.Lists.{each_one_of}
+use Rattle.status.specs.declared.drive_status.DriveStatus.TheVariants.{Normal, OperationException}
 use Rattle.parts.specs.Setup.{is_place, is_target}
 use Rattle.parts.specs.Command.{parameter_words, function_in}
 use Rattle.parts.specs.Control.{is_data}
@@ -16,7 +17,6 @@ use Rattle.parts.specs.declared.setup.Setup.{Setup}
 use Rattle.parts.specs.declared.transfer.Transfer.{Transfer}
 use Rattle.parts.proofs.ByBits.{commands_few, single_commands}
 use Rattle.parts.proofs.Bounds.{Limits, limits, code_words}
-use Rattle.drive.specs.Answer.{normal, operation_exception}
 use Rattle.drive.specs.Request.{bad_request}
 use Rattle.drive.specs.State.{at_place, with_place, with_target, told}
 use Rattle.drive.specs.Command.{cylinder_of, place_sought, target_sought, seeking, functioned, obeyed, parameter_sent, status_told, response_taken, word_from_host, word_to_host, ended_early}
@@ -88,7 +88,7 @@ sought_by s high low head sector target l = by_high (eqb high 0) refl
 pub did_seek : (state : List ℕ) (port high low head target : ℕ) {r : Bool} {state' : List ℕ} → Fit state → let d = drive_in state in
     let place = at_place low head d.place.sector in
     r ≡ (eqb high 0 && is_place d.setup place && is_target d.setup target) → r ≡ true → state' ≡ moved_to state (with_target (with_place d place) target)
-    → Did state (seeking d port (at_place (cylinder_of high low) head d.place.sector) target) (Status normal) state'
+    → Did state (seeking d port (at_place (cylinder_of high low) head d.place.sector) target) (Status Normal) state'
 unfolding seeking
 did_seek state port high low head target f e t p =
     let d = drive_in state in
@@ -133,7 +133,7 @@ single_obeyed t d port last low o e =
 
 -- a bad command is told by its status alone
 pub did_bad : (state : List ℕ) (port bit : ℕ) {answer : Answer} {state' : List ℕ} → Did state (bad_request (drive_in state) port bit) answer state'
-    → Did state (bad_request (drive_in state) port bit) (Status operation_exception) state'
+    → Did state (bad_request (drive_in state) port bit) (Status OperationException) state'
 unfolding bad_request
 did_bad state port bit t = record { answer = refl; state = t.state }
 
@@ -146,12 +146,12 @@ did_functioned state port word function e t = rw (← e) t
 -- ---- kinds 4, 5 and 6, by what is open
 
 pub did_ended : (state : List ℕ) {state' : List ℕ} → is_data (drive_in state).transfer.control ≡ true → state' ≡ moved_to state (ended (drive_in state))
-    → Did state (told (Status normal) (ended_early (drive_in state))) (Status normal) state'
+    → Did state (told (Status Normal) (ended_early (drive_in state))) (Status Normal) state'
 unfolding ended_early pick
 did_ended state h e = rw h (record { answer = refl; state = e })
 
 pub did_cut : (state : List ℕ) {state' : List ℕ} → is_data (drive_in state).transfer.control ≡ false → state' ≡ moved_to state (closed (drive_in state))
-    → Did state (told (Status normal) (ended_early (drive_in state))) (Status normal) state'
+    → Did state (told (Status Normal) (ended_early (drive_in state))) (Status Normal) state'
 unfolding ended_early pick
 did_cut state h e = rw h (record { answer = refl; state = e })
 

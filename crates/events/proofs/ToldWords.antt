@@ -7,6 +7,8 @@ use Rattle.laws.specs.Rows.{unless_refused}
 use Rattle.refusals.specs.Refusal.{number}
 use Rattle.refusals.specs.declared.refusal.Refusal.{Refusal}
 use Rattle.refusals.proofs.OnPaper.{left_as_it_was, told_by_name}
+use Rattle.status.specs.DriveStatus.{octet_of}
+use Rattle.status.specs.declared.drive_status.DriveStatus.{DriveStatus}
 use Rattle.parts.specs.declared.setup.Place.{Place}
 use Rattle.events.specs.Turn.{Telling}
 use Rattle.drive.specs.Accepted.{is_refused}
@@ -23,9 +25,9 @@ pub refused_over : (refusal : Refusal) (out done : List ℕ) → IsDone out done
 unfolding answer_words paper
 refused_over refusal out done e = rw e
 
-pub status_over : (s : ℕ) (out done : List ℕ) → IsDone out done → set done 1 s ≡ written_over out (answer_words (Status s))
+pub status_over : (status : DriveStatus) (out done : List ℕ) → IsDone out done → set done 1 (octet_of status) ≡ written_over out (answer_words (Status status))
 unfolding answer_words paper
-status_over s out done e = rw e
+status_over status out done e = rw e
 
 pub opened_over : (n : ℕ) (p : Place) (out done : List ℕ) → IsDone out done → set (set (set (set done 2 n) 3 p.cylinder) 4 p.head) 5 p.sector ≡ written_over out (answer_words (Opened n p))
 unfolding answer_words paper

@@ -2,6 +2,7 @@
 -- Assumes nothing.
 use Rattle.std.proofs.Common.{◌≡◌, ℕ, ◌+◌, ◌<◌, true, false, eqb, List, length, get_or, set, sym, refl, ◌∙◌, arith, length-set, eq-eqb, ne_eqb}
 use Rattle.laws.specs.Pick.{pick}
+use Rattle.status.specs.declared.drive_status.DriveStatus.TheVariants.{Normal, HeaderMiscompare}
 use Rattle.parts.specs.Setup.{within_limits, sector_start, sector_at, is_place}
 use Rattle.parts.specs.declared.transfer.Transfer.{Transfer}
 use Rattle.parts.proofs.ByBits.{writes_take}
@@ -11,7 +12,6 @@ use Rattle.parts.specs.Tests.{moved_on, is_taking}
 use Rattle.parts.specs.declared.setup.Setup.{Setup}
 use Rattle.parts.specs.declared.setup.Place.{Place}
 use Rattle.drive.specs.Able.{Able, Room, ReadsAt}
-use Rattle.drive.specs.Answer.{normal, header_miscompare}
 use Rattle.drive.specs.Drive.{ended}
 use Rattle.drive.specs.Refusal.{row10}
 use Rattle.drive.specs.State.{told, with_transfer, result}
@@ -81,14 +81,14 @@ staging_set i word f =
 
 -- the header differs
 pub differs : (d : Drive) (count start : ℕ) (sectors staging : List ℕ) → miscompares d.setup d.transfer.control count start sectors staging ≡ true
-    → result (told (Status header_miscompare) (ended d)) sectors staging ≡ staged d count start sectors staging
+    → result (told (Status HeaderMiscompare) (ended d)) sectors staging ≡ staged d count start sectors staging
 unfolding staged pick
 differs d count start sectors staging h = rw h
 
 -- it was the last word
 pub last_word : (d : Drive) (c count start : ℕ) (sectors staging : List ℕ) → c ≡ d.transfer.control
     → miscompares d.setup d.transfer.control count start sectors staging ≡ false → eqb count (words_to_come d.setup c) ≡ true
-    → result (told (Status normal) (ended d)) (committed d.setup c start sectors staging) staging ≡ staged d count start sectors staging
+    → result (told (Status Normal) (ended d)) (committed d.setup c start sectors staging) staging ≡ staged d count start sectors staging
 unfolding staged pick
 last_word d c count start sectors staging e h n = rw (h, rw e at n, e)
 

@@ -1,8 +1,9 @@
 -- What the private functions under `event` and `run` do: an event on the words of a state, and so many of them.
-use Rattle.std.specs.Prelude.{◌≡◌, ℕ, zero, suc, ◌*◌, ◌<◌, ◌≤◌, Bool, false, List, [], ◌++◌, length, ◌≢◌, slice_index}
+use Rattle.std.specs.Prelude.{◌≡◌, ℕ, zero, suc, ◌*◌, ◌<◌, ◌≤◌, Bool, true, false, List, [], ◌++◌, length, ◌≢◌, slice_index}
 use Rattle.laws.specs.Pick.{pick}
 use Rattle.laws.specs.Rows.{unless_refused}
 use Rattle.laws.specs.Lists.{written_over}
+use Rattle.status.specs.DriveStatus.{is_drive_status}
 use Rattle.refusals.specs.declared.refusal.Refusal.{Refusal}
 use Rattle.parts.specs.declared.event.Event.{Event}
 use Rattle.drive.specs.Answer.{refusal_in}
@@ -29,10 +30,10 @@ pub record Telling (telling : Bool) (answer : Answer) (out₀ : List ℕ) (r : �
   pub number : r ≡ quietly telling answer
   pub out : out₁ ≡ pick (is_quiet telling answer) out₀ (written_over out₀ (answer_words answer))
 
--- Words that an answer is read from: the status is absent or an octet.
+-- Words that an answer is read from: the status is absent or one that there is.
 pub record Told (words : List ℕ) : Type 0 where
   pub long : 13 ≤ length words
-  pub status : (slice_index words 1 ≢ 0xFFFF) → slice_index words 1 < 256
+  pub status : (slice_index words 1 ≢ 0xFFFF) → is_drive_status (slice_index words 1) ≡ true
 
 -- The words of so many refusals.
 unfoldable pub refusals : Refusal → ℕ → List ℕ

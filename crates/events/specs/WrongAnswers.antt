@@ -2,6 +2,7 @@
 use Rattle.std.specs.Prelude.{ℕ, ◌*◌, List, [], ◌∷◌, ◌++◌, take, drop, replicate, Ok, slice_set}
 use Rattle.laws.specs.Octets.{octets_of}
 use Rattle.refusals.specs.declared.refusal.Refusal.TheVariants.{NotOurAddress, Busy, TransferOpenOrNot}
+use Rattle.status.specs.declared.drive_status.DriveStatus.TheVariants.{Normal, OperationException, UnsolicitedException}
 use Rattle.parts.specs.Pending.{alternate_port_priority_select, pending_of, nothing_pending}
 use Rattle.parts.specs.Tests.{transferring}
 use Rattle.parts.specs.declared.setup.Setup.{Setup}
@@ -101,7 +102,7 @@ pub record WrongAnswers : Type 0 where
   -- A drive that does nothing: it grants the selection, and nobody is selected.
   pub does_nothing : Handles (at_rest bench) (sent 0 1 0x30 0) zeros zeros Done (at_rest bench) zeros zeros → ⊥
   -- 0 for the reserved control D0.
-  pub zero_for_abad_request : Handles (selected_by 0 None) (sent 0 3 0xD0 0) zeros zeros (Status 0) (selected_by 0 None) zeros zeros → ⊥
+  pub zero_for_abad_request : Handles (selected_by 0 None) (sent 0 3 0xD0 0) zeros zeros (Status Normal) (selected_by 0 None) zeros zeros → ⊥
   -- A header that differs goes through.
   pub header_not_compared : Handles (moving 0x85 0) (word_sent 0 8) (sector 7 0 0 0) zeros Done (moving 0x85 1) (sector 7 0 0 0) (sector 8 0 0 0) → ⊥
   -- A word is written as it arrives.
@@ -109,28 +110,28 @@ pub record WrongAnswers : Type 0 where
       Done (moving 0x85 2) (sector 7 0xAA 0 0) (sector 7 0xAA 0 0) → ⊥
   -- Field 1 is put where the sector begins.
   pub field_over_the_header : Handles (moving 0x85 2) (word_sent 0 0xBB) (sector 7 0 0 0) (sector 7 0xAA 0 0)
-      (Status 0) over (sector 0xAA 0xBB 0 0) (sector 7 0xAA 0xBB 0) → ⊥
+      (Status Normal) over (sector 0xAA 0xBB 0 0) (sector 7 0xAA 0xBB 0) → ⊥
   -- Field 2 is put where field 1 stands.
   pub field_two_over_field_one : Handles (moving 0x86 1) (word_sent 0 0xCC) (sector 7 0 0 0) (sector 7 0 0 0)
-      (Status 0) over (sector 7 0xCC 0 0) (sector 7 0xCC 0 0) → ⊥
+      (Status Normal) over (sector 7 0xCC 0 0) (sector 7 0xCC 0 0) → ⊥
   -- A read of field 1 begins with the header's word.
   pub read_afield_too_early : Handles (moving 0xC1 0) (sent 0 5 0 0) (sector 7 1 2 3) zeros (Word 7) (moving 0xC1 1) (sector 7 1 2 3) zeros → ⊥
   -- A good request leaves the bit of the one before.
-  pub old_bit_left : Handles (faulty 0x80 0) (sent 0 8 0 1) zeros zeros (Status 0) (with_target (faulty 0x80 0) 1) zeros zeros → ⊥
+  pub old_bit_left : Handles (faulty 0x80 0) (sent 0 8 0 1) zeros zeros (Status Normal) (with_target (faulty 0x80 0) 1) zeros zeros → ⊥
   -- A request clears the other port's octet 2 as well.
-  pub other_port_cleared : Handles (faulty 0x80 0x80) (sent 0 8 0 1) zeros zeros (Status 0) (with_target (faulty 0 0) 1) zeros zeros → ⊥
+  pub other_port_cleared : Handles (faulty 0x80 0x80) (sent 0 8 0 1) zeros zeros (Status Normal) (with_target (faulty 0 0) 1) zeros zeros → ⊥
   -- A request that is answered C clears octet 2.
-  pub clears_with_c : Handles (warned 0x80) (sent 0 8 0 1) zeros zeros (Status 0xC) (warned 0) zeros zeros → ⊥
+  pub clears_with_c : Handles (warned 0x80) (sent 0 8 0 1) zeros zeros (Status UnsolicitedException) (warned 0) zeros zeros → ⊥
   -- A request that is refused clears octet 2: a write is open.
   pub refused_yet_clears : Handles (with_transfer (faulty 0x80 0) (transferring 0x85 2)) (sent 0 8 0 1) zeros zeros
       (Refused TransferOpenOrNot) (with_transfer (faulty 0 0) (transferring 0x85 2)) zeros zeros → ⊥
   -- A bad request adds its bit to the one that was ignored.
-  pub bits_add_up : Handles (faulty 0x80 0) (sent 0 8 0 3) zeros zeros (Status 8) (faulty 0xC0 0) zeros zeros → ⊥
+  pub bits_add_up : Handles (faulty 0x80 0) (sent 0 8 0 3) zeros zeros (Status OperationException) (faulty 0xC0 0) zeros zeros → ⊥
   -- The code that reads status clears at its opening.
   pub cleared_unread : Handles (faulty 0x80 0) (sent 0 3 0x44 0) zeros zeros
       (Opened 4 (at_place 0 0 0)) (with_transfer (faulty 0 0) (transferring 0x44 0)) zeros zeros → ⊥
   -- A command's bad last word clears the bit that stands: it only sets its own.
-  pub last_word_clears : Handles (with_transfer (faulty 0x80 0) (transferring 0x05 0)) (word_sent 0 2) zeros zeros (Status 8) (faulty 0x40 0) zeros zeros → ⊥
+  pub last_word_clears : Handles (with_transfer (faulty 0x80 0) (transferring 0x05 0)) (word_sent 0 2) zeros zeros (Status OperationException) (faulty 0x40 0) zeros zeros → ⊥
   -- ---- `power_up_words`
   -- Address and field 2 changed over.
   pub address_for_field_two : PowersUp bench (replicate 21 0) 0 (state_words (at_rest (setup_of 2 2 3 1 2 3 1))) → ⊥

@@ -1,15 +1,16 @@
 // The answer as 13 words, at the front of a lent slice.
-ghost use Rattle.std.specs.Prelude.{◌≡◌, ◌/◌, ◌%◌, ◌≤◌, length};
+ghost use Rattle.std.specs.Prelude.{◌≡◌, true, ◌/◌, ◌%◌, ◌≤◌, length};
 ghost use Rattle.laws.specs.Lists.{written_over};
 ghost use Rattle.drive.specs.AnswerWords.{answer_words, accepted_in, answer_in};
 ghost use Rattle.drive.specs.declared.answer.Answer.TheVariants as answer;
+ghost use Rattle.status.specs.DriveStatus.{is_drive_status, status_of};
 ghost use Rattle.refusals.specs.Refusal.{refusal_in};
 ghost use Rattle.events.specs.Turn.{Telling, Told};
 
-use crate::answer;
 use drive::Answer;
 use parts::Place;
 use refusals::Refusal;
+use status::DriveStatus;
 
 // How many words an answer has.
 pub const ANSWER_WORDS: usize = 13;
@@ -67,12 +68,12 @@ pub(crate) fn put_refused(refusal: Refusal, out: &mut [u16])
     out[0] = u8::from(refusal) as u16;
 }
 
-fn put_status(status: u8, out: &mut [u16])
+fn put_status(status: DriveStatus, out: &mut [u16])
     requires { 13 ≤ length out.old }
     ensures { out.new ≡ written_over out.old (answer_words (answer.Status status)) }
 {
     put_done(out);
-    out[1] = status as u16;
+    out[1] = u8::from(status) as u16;
 }
 
 fn put_opened(words: u16, place: Place, out: &mut [u16])
@@ -100,7 +101,7 @@ fn put_last_word(word: u16, out: &mut [u16])
     ensures { out.new ≡ written_over out.old (answer_words (answer.LastWord word)) }
 {
     put_done(out);
-    out[1] = answer::NORMAL as u16;
+    out[1] = u8::from(DriveStatus::Normal) as u16;
     out[6] = 1;
     out[7] = word;
 }
@@ -110,7 +111,7 @@ fn put_response(octet0: u8, octet1: u8, octet2: u8, out: &mut [u16])
     ensures { out.new ≡ written_over out.old (answer_words (answer.Response octet0 octet1 octet2)) }
 {
     put_done(out);
-    out[1] = answer::NORMAL as u16;
+    out[1] = u8::from(DriveStatus::Normal) as u16;
     out[8] = 1;
     out[9] = octet0 as u16 * 256 + octet1 as u16;
     out[10] = octet2 as u16 * 256;
@@ -161,7 +162,7 @@ fn accepted_in(words: &[u16]) -> Answer
         return Answer::LastWord(words[7]);
     }
     if status != ABSENT {
-        return Answer::Status(status as u8);
+        return Answer::Status(status_in(status));
     }
     if words[2] == ABSENT {
         return Answer::Done;
@@ -172,6 +173,13 @@ fn accepted_in(words: &[u16]) -> Answer
         sector: words[5],
     };
     Answer::Opened(words[2], place)
+}
+
+fn status_in(word: u16) -> DriveStatus
+    requires { is_drive_status word ≡ true }
+    ensures { result ≡ status_of word }
+{
+    DriveStatus::try_from(word as u8).unwrap()
 }
 
 fn response_in(first: u16, second: u16) -> Answer

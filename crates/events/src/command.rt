@@ -9,9 +9,10 @@ ghost use Rattle.drive.specs.Command.{cylinder_of, seeking, functioned, obeyed, 
 ghost use Rattle.events.specs.State.{drive_in, moved_to};
 ghost use Rattle.events.specs.Fit.{Fit, Did};
 
-use crate::{answer, layout, pending, place, state};
+use crate::{layout, pending, place, state};
 use drive::Answer;
 use parts::{Fault, Function, Parameters, Place, Transfer};
+use status::DriveStatus;
 
 pub(crate) const READ_STATUS: u16 = 0x44;
 
@@ -63,7 +64,7 @@ fn without_parameters(control: u16) -> Transfer
 }
 
 // The command is closed; this is its last word. The status.
-fn obey(state: &mut [u16], port: u8, t: Transfer, word: u16) -> u8
+fn obey(state: &mut [u16], port: u8, t: Transfer, word: u16) -> DriveStatus
     requires { Fit state.old × (port ≤ 1) }
     ensures { Did state.old (obeyed t (drive_in state.old) port word) (Answer.Status result) state.new }
 {
@@ -81,7 +82,7 @@ fn obey(state: &mut [u16], port: u8, t: Transfer, word: u16) -> u8
 }
 
 // To a cylinder, a head and a target; the sector stays.
-fn seek(state: &mut [u16], port: u8, high: u16, low: u16, head: u16, target: u16) -> u8
+fn seek(state: &mut [u16], port: u8, high: u16, low: u16, head: u16, target: u16) -> DriveStatus
     requires { Fit state.old × (port ≤ 1) }
     ensures { Did state.old (seeking (drive_in state.old) port (at_place (cylinder_of high low) head (drive_in state.old).place.sector) target) (Answer.Status result) state.new }
 {
@@ -93,10 +94,10 @@ fn seek(state: &mut [u16], port: u8, high: u16, low: u16, head: u16, target: u16
     };
     if (high == 0) & setup.is_place(place) & setup.is_target(target) {
         put_aim(state, place, target);
-        return answer::NORMAL;
+        return DriveStatus::Normal;
     }
     pending::fault(state, port, Fault::InvalidParameter);
-    answer::OPERATION_EXCEPTION
+    DriveStatus::OperationException
 }
 
 fn put_aim(state: &mut [u16], place: Place, target: u16)
@@ -110,7 +111,7 @@ fn put_aim(state: &mut [u16], place: Place, target: u16)
 }
 
 // Load Drive Function.
-fn perform(state: &mut [u16], port: u8, word: u16) -> u8
+fn perform(state: &mut [u16], port: u8, word: u16) -> DriveStatus
     requires { Fit state.old × (port ≤ 1) }
     ensures { Did state.old (functioned (function_in word) (drive_in state.old) port) (Answer.Status result) state.new }
 {
@@ -119,30 +120,30 @@ fn perform(state: &mut [u16], port: u8, word: u16) -> u8
         Function::PriorityReserve => {
             let d = state::drive_in(&state[..]);
             state::put_moved(d.priority_reserve(), state);
-            answer::NORMAL
+            DriveStatus::Normal
         }
         Function::Reserve => {
             let d = state::drive_in(&state[..]);
             state::put_moved(d.reserve(), state);
-            answer::NORMAL
+            DriveStatus::Normal
         }
         Function::Release => {
             let d = state::drive_in(&state[..]);
             state::put_moved(d.release(), state);
-            answer::NORMAL
+            DriveStatus::Normal
         }
-        Function::NoOperation => answer::NORMAL,
+        Function::NoOperation => DriveStatus::Normal,
         Function::Recalibrate => {
             state[layout::CYLINDER] = 0;
-            answer::NORMAL
+            DriveStatus::Normal
         }
         Function::ActsOnMore => {
             pending::fault(state, port, Fault::UnsupportedBusControl);
-            answer::OPERATION_EXCEPTION
+            DriveStatus::OperationException
         }
         Function::NotListed => {
             pending::fault(state, port, Fault::InvalidParameter);
-            answer::OPERATION_EXCEPTION
+            DriveStatus::OperationException
         }
     }
 }

@@ -1,7 +1,6 @@
 // What each kind does that leaves the lent words: its own tests, then its work.
 ghost use Rattle.std.specs.Prelude.{◌≤◌};
 ghost use Rattle.parts.specs.Kind.{Kind, Work, word_of, place_of};
-ghost use Rattle.drive.specs.Answer.{normal};
 ghost use Rattle.drive.specs.State.{told};
 ghost use Rattle.drive.specs.Drive.{selected, deselected, after_reset};
 ghost use Rattle.drive.specs.Command.{ended_early};
@@ -10,10 +9,11 @@ ghost use Rattle.drive.specs.Able.{unless_own_row};
 ghost use Rattle.events.specs.State.{drive_in};
 ghost use Rattle.events.specs.Fit.{Fit, Did};
 
-use crate::{answer, layout, pending, place, request, state, timing};
+use crate::{layout, pending, place, request, state, timing};
 use drive::Answer;
 use parts::{Event, Place};
 use refusals::Refusal;
+use status::DriveStatus;
 
 pub(crate) fn on_select(state: &mut [u16], event: Event) -> Answer
     requires { Fit state.old }
@@ -68,7 +68,7 @@ pub(crate) fn on_reset(state: &mut [u16], event: Event) -> Answer
 
 pub(crate) fn on_end(state: &mut [u16], event: Event) -> Answer
     requires { Fit state.old }
-    ensures { Did state.old (unless_own_row (Kind.Use Work.End) (drive_in state.old) event (told (Answer.Status normal) (ended_early (drive_in state.old)))) result state.new }
+    ensures { Did state.old (unless_own_row (Kind.Use Work.End) (drive_in state.old) event (told (Answer.Status DriveStatus.Normal) (ended_early (drive_in state.old)))) result state.new }
 {
     let formed = parts::none_at_all(event);
     let selected = timing::is_selected(&state[..], event.port);
@@ -78,10 +78,10 @@ pub(crate) fn on_end(state: &mut [u16], event: Event) -> Answer
     }
     if parts::is_data(state[layout::CONTROL]) {
         place::end_transfer(state);
-        return Answer::Status(answer::NORMAL);
+        return Answer::Status(DriveStatus::Normal);
     }
     place::close(state);
-    Answer::Status(answer::NORMAL)
+    Answer::Status(DriveStatus::Normal)
 }
 
 pub(crate) fn on_data_control(state: &mut [u16], event: Event) -> Answer

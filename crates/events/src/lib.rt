@@ -1,7 +1,6 @@
 // Every event, on the words of a drive's state: one or many of them for C and Rust, and one on a drive by value.
 #![tactic(auto)]
 
-mod answer;
 mod answer_words;
 mod batch;
 mod by_value;

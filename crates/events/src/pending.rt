@@ -5,9 +5,10 @@ ghost use Rattle.drive.specs.Request.{bad_request, status_read};
 ghost use Rattle.events.specs.State.{drive_in};
 ghost use Rattle.events.specs.Fit.{Fit, Did, TakenUp};
 
-use crate::{answer, layout, state};
+use crate::{layout, state};
 use drive::Answer;
 use parts::Fault;
+use status::DriveStatus;
 
 // Whether a request goes on: a bit of octet 1 stops it. One that goes on has octet 2 cleared, and then nothing is pending.
 pub(crate) fn take_up(state: &mut [u16], port: u8) -> bool
@@ -31,7 +32,7 @@ pub(crate) fn fault(state: &mut [u16], port: u8, fault: Fault) -> Answer
     let pending = state::pending_in(state[at]);
     let word = state::pending_word(pending.faulted(fault));
     state[at] = word;
-    Answer::Status(answer::OPERATION_EXCEPTION)
+    Answer::Status(DriveStatus::OperationException)
 }
 
 // The status response, which clears what it tells.

@@ -5,9 +5,10 @@ ghost use Rattle.drive.specs.Request.{opened, opening, controlled, data_control,
 ghost use Rattle.events.specs.State.{drive_in};
 ghost use Rattle.events.specs.Fit.{Fit, Did};
 
-use crate::{answer, coming, command, layout, pending, place, state};
+use crate::{coming, command, layout, pending, place, state};
 use drive::Answer;
 use parts::{Control, Fault, Place};
+use status::DriveStatus;
 
 // The code that reads status is never answered C, and clears nothing yet.
 pub(crate) fn ask(state: &mut [u16], port: u8, control: u16) -> Answer
@@ -18,7 +19,7 @@ pub(crate) fn ask(state: &mut [u16], port: u8, control: u16) -> Answer
         return open_code(state, control);
     }
     if !pending::take_up(state, port) {
-        return Answer::Status(answer::UNSOLICITED_EXCEPTION);
+        return Answer::Status(DriveStatus::UnsolicitedException);
     }
     carry_out(state, port, control)
 }
@@ -34,7 +35,7 @@ fn carry_out(state: &mut [u16], port: u8, control: u16) -> Answer
         Control::Command | Control::Response => open_code(state, control),
         Control::StepHead => {
             place::step_head(state);
-            Answer::Status(answer::NORMAL)
+            Answer::Status(DriveStatus::Normal)
         }
         Control::Reserved => pending::fault(state, port, Fault::InvalidBusControl),
         Control::Unsupported => pending::fault(state, port, Fault::UnsupportedBusControl),
@@ -76,7 +77,7 @@ fn open(state: &mut [u16], control: u16) -> Answer
     let words = coming::data_words(&state[..], control);
     if words == 0 {
         place::end_transfer(state);
-        return Answer::Status(answer::NORMAL);
+        return Answer::Status(DriveStatus::Normal);
     }
     let here = state::place_in(&state[..]);
     place::put_transfer(state, control);
@@ -88,12 +89,12 @@ pub(crate) fn move_to(state: &mut [u16], port: u8, place: Place) -> Answer
     ensures { Did state.old (positioned (drive_in state.old) port place) result state.new }
 {
     if !pending::take_up(state, port) {
-        return Answer::Status(answer::UNSOLICITED_EXCEPTION);
+        return Answer::Status(DriveStatus::UnsolicitedException);
     }
     let setup = state::setup_in(&state[..]);
     if setup.is_place(place) {
         place::put_place(state, place);
-        return Answer::Status(answer::NORMAL);
+        return Answer::Status(DriveStatus::Normal);
     }
     pending::fault(state, port, Fault::InvalidParameter)
 }
@@ -103,12 +104,12 @@ pub(crate) fn aim_at(state: &mut [u16], port: u8, target: u16) -> Answer
     ensures { Did state.old (targeted (drive_in state.old) port target) result state.new }
 {
     if !pending::take_up(state, port) {
-        return Answer::Status(answer::UNSOLICITED_EXCEPTION);
+        return Answer::Status(DriveStatus::UnsolicitedException);
     }
     let setup = state::setup_in(&state[..]);
     if setup.is_target(target) {
         state[layout::TARGET] = target;
-        return Answer::Status(answer::NORMAL);
+        return Answer::Status(DriveStatus::Normal);
     }
     pending::fault(state, port, Fault::InvalidParameter)
 }

@@ -11,10 +11,11 @@ ghost use Rattle.events.specs.State.{drive_in};
 ghost use Rattle.events.specs.Fit.{Fits, Did, DidIn};
 ghost use Rattle.events.specs.Copy.{fielded, Within};
 
-use crate::{answer, coming, command, layout, place, state, timing, words};
+use crate::{coming, command, layout, place, state, timing, words};
 use drive::Answer;
 use parts::{Event, Setup};
 use refusals::Refusal;
+use status::DriveStatus;
 
 // ---- words from the host
 
@@ -70,14 +71,14 @@ fn after_word(
 {
     if header_miscompares(&state[..], count, &sectors[..], staging) {
         place::end_transfer(state);
-        return Answer::Status(answer::HEADER_MISCOMPARE);
+        return Answer::Status(DriveStatus::HeaderMiscompare);
     }
     if coming::is_last(&state[..], control, count) {
         let setup = state::setup_in(&state[..]);
         let start = setup.sector_start(state::place_in(&state[..]));
         commit(setup, control, start, sectors, staging);
         place::end_transfer(state);
-        return Answer::Status(answer::NORMAL);
+        return Answer::Status(DriveStatus::Normal);
     }
     state[layout::MOVED] = count as u16;
     Answer::Done

@@ -19,7 +19,7 @@ use Rattle.parts.specs.Pending.{pending_of, octet0}
 use Rattle.parts.specs.Tests.{has_stray_bit}
 use Rattle.parts.specs.declared.setup.Setup.{Setup}
 use Rattle.parts.specs.declared.pending.Pending.{Pending}
-use Rattle.status.specs.DriveStatus.{is_drive_status, status_of, DecodedDriveStatus}
+use Rattle.status.specs.DriveStatus.{octet_of, is_drive_status, status_of, DecodedDriveStatus}
 use Rattle.status.specs.Response.{bit_when, unsolicited_octet, bus_control_octet, exception_octet, response_of, response_octets, DecodedResponse}
 use Rattle.std.specs.Prelude.{Ok}
 use Rattle.status.proofs.Only.{decode_drive_status_only, decode_response_only}
@@ -50,7 +50,7 @@ status_in : (s : Setup) (answer : Answer) → Bounded s answer → (octet : ℕ)
 unfolding paper
 status_in s (Refused refusal) b octet h = absent refl h
 status_in s Done b octet h = absent refl h
-status_in s (Status status) b octet h = let same : status ≡ octet = cc in rw same at b
+status_in s (Status status) b octet h = let same : octet_of status ≡ octet = cc in rw same at b
 status_in s (Opened words place) b octet h = absent refl h
 status_in s (Word word) b octet h = absent refl h
 status_in s (LastWord word) b octet h = let same : 0 ≡ octet = cc in rw (← same)

@@ -3,6 +3,7 @@
 use Rattle.std.specs.Prelude.{ℕ, List, [], ◌∷◌, ◌++◌, replicate, set}
 use Rattle.laws.specs.Octets.{octets_of}
 use Rattle.refusals.specs.declared.refusal.Refusal.TheVariants.{SliceTooShort}
+use Rattle.status.specs.declared.drive_status.DriveStatus.TheVariants.{Normal}
 use Rattle.parts.specs.Tests.{parameters, no_parameters, transferring_with}
 use Rattle.parts.specs.declared.holding.Hold.TheVariants.{None}
 use Rattle.parts.specs.declared.transfer.Parameters.{Parameters}
@@ -71,7 +72,7 @@ pub record WrongAnswers : Type 0 where
   pub staging_for_sectors : RunOnWords rest (selection 0) (disk zeros) zeros (replicate 13 0) 0 rest (disk zeros) zeros (answer_words (Refused SliceTooShort)) → ⊥
   -- Reserved and deselected, the drive is free.
   pub reservation_forgotten : RunOnWords rest reservation (disk zeros) zeros (replicate 52 0)
-      0 rest (disk zeros) zeros (answer_words Done ++ answer_words (Opened 1 (at_place 0 0 0)) ++ answer_words (Status 0) ++ answer_words Done) → ⊥
+      0 rest (disk zeros) zeros (answer_words Done ++ answer_words (Opened 1 (at_place 0 0 0)) ++ answer_words (Status Normal) ++ answer_words Done) → ⊥
   -- ---- `pg_replay`
   -- `from` and `limit` changed over: nothing is run.
   pub limit_for_from : ReplayOnWords rest (selection 0 ++ selection 1) 0 1 (disk zeros) zeros (replicate 13 0) (0 ∷ []) (7 ∷ [])

@@ -6,10 +6,6 @@ ghost use Rattle.parts.specs.Tests.{inside_rows, select_rows};
 
 use refusals::Refusal;
 
-pub const MALFORMED: u8 = 8;
-
-pub const OUTSIDE_ITS_LIMITS: u8 = 9;
-
 pub const SLICE_TOO_SHORT: u8 = 10;
 
 // Kinds 2 to 9: 8, then 2, then 7.

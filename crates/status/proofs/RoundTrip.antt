@@ -33,7 +33,7 @@ has_written {octets} {before} h e =
 
 -- ---- the drive status octet
 
-status_of_octet : (status : DriveStatus) → (is_drive_status (octet_of status) ≡ true) × (status_of (octet_of status) ≡ status)
+pub status_of_octet : (status : DriveStatus) → (is_drive_status (octet_of status) ≡ true) × (status_of (octet_of status) ≡ status)
 unfolding is_drive_status status_of pick
 status_of_octet Normal = (refl, refl)
 status_of_octet Busy = (refl, refl)

@@ -17,8 +17,8 @@ pub returns-then-words-eq1-2 : goal.returns-then-words-eq1-2
 unfolding pick
 returns-then-words-eq1-2 c = search steps
 
-pub overflow_cast-result : goal.overflow_cast-result
-overflow_cast-result c = record { fits = c.requires.status c.if-status-2.true }
+pub status_in-requires : goal.status_in-requires
+status_in-requires c = c.requires.status c.if-status-2.true
 
 pub returns-then-status-2 : goal.returns-then-status-2
 unfolding pick

@@ -11,4 +11,4 @@ pub bounds-out-7 : goal.bounds-out-7
 bounds-out-7 c = simp length-set (omega (arith, c.requires))
 
 pub returns : goal.returns
-returns c = last_word_over _ _ _ (c.put_done.ensures)
+returns c = rw c.from.ensures (last_word_over _ _ _ (c.put_done.ensures))

@@ -4,4 +4,4 @@ use Rattle.events.proofs.ToldWords.{status_over}
 use Rattle.events.proofs.answer_words.put_status.Goals as goal
 
 pub returns : goal.returns
-returns c = status_over _ _ _ (c.put_done.ensures)
+returns c = rw c.from.ensures (status_over _ _ _ (c.put_done.ensures))

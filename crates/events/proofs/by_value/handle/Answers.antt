@@ -1,6 +1,7 @@
 -- `handle` meets its contract.
 -- Assumes nothing.
-use Rattle.std.proofs.Common.{◌≡◌, ◌≤◌, length, ap, ◌∙◌, arith}
+use Rattle.std.proofs.Common.{◌≡◌, ◌≤◌, length, refl, ap, ◌∙◌, arith}
+use Rattle.status.specs.DriveStatus.{is_drive_status}
 use Rattle.drive.specs.Bounded.{AreOctets}
 use Rattle.drive.proofs.Posted.{OnBoth}
 use Rattle.events.specs.State.{drive_in, moving_words, state_words}
@@ -16,9 +17,10 @@ same : (c : After-put_state) → drive_in c.put_state.new.state ≡ c.args.drive
 same c = let o = octets c in ap drive_in c.put_state.ensures ∙ read_again _ _ (o.0.1, o.1.1)
 
 pub answer_in-answer-requires : goal.answer_in-answer-requires
+unfolding is_drive_status
 answer_in-answer-requires c =
     let made = (goal.at.answer_in-answer-requires c).After-put_state in
-    told_fit _ (omega arith) (omega arith) (octets_made _ _ (same made) (octets made)) c.answer_event-refused.ensures
+    told_fit _ (omega arith) refl (octets_made _ _ (same made) (octets made)) c.answer_event-refused.ensures
 
 pub returns : goal.returns
 unfolding state_words moving_words
