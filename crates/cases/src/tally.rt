@@ -1,4 +1,5 @@
 // The lines that the program writes: one for each case, then a count.
+use std::fmt;
 use std::io::Stdout;
 
 #[derive(Clone, Copy)]
@@ -18,7 +19,7 @@ impl Tally {
     }
 
     // A case, and whether all of it came out as document 01 says. A line that cannot be written is let go.
-    pub(crate) fn case(self, name: &str, same: bool) -> Tally {
+    pub(crate) fn case<N: fmt::Display + Drop>(self, name: N, same: bool) -> Tally {
         let verdict = if same { "ok" } else { "DIFFERS" };
         let _ = println!(self.out; "{verdict} {name}");
         Tally {

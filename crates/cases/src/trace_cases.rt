@@ -14,8 +14,10 @@ const BIT_7: u8 = 128;
 
 pub(crate) fn run(tally: Tally) -> Tally {
     let mut told = tally;
-    for (name, case) in NAMES.iter().zip(&CASES) {
-        told = told.case(name, traces::is_read(case));
+    for case in &CASES {
+        let name = case.name;
+        let same = traces::is_read(case);
+        told = told.case(format_args!("104: {name}, by both readers"), same);
     }
     for case in &LONGER {
         told = told.case(case.name, traces::is_read(case));
@@ -25,18 +27,6 @@ pub(crate) fn run(tally: Tally) -> Tally {
         is_too_short(Reader::Table) & is_too_short(Reader::Plain),
     )
 }
-
-// Of the line cases, by both readers.
-const NAMES: [&str; 8] = [
-    "104: 25 to 24 is undefined, by both readers",
-    "104: 28 to 24 is undefined, by both readers",
-    "104: 24 to 28 straight after selection is undefined, by both readers",
-    "104: 16 to 0 is undefined unless 16 came from 0, by both readers",
-    "104: a repeated setting keeps the history, by both readers",
-    "104: lost until 0, by both readers",
-    "104: refusal 8: a setting over 31, by both readers",
-    "104: refusal 11: a follower no trace reaches, by both readers",
-];
 
 const LONGER: [Case; 5] = [
     Case {

@@ -5,8 +5,8 @@ ghost use Rattle.laws.specs.Pick.{pick};
 use parts::Setup;
 use std::rt::Env;
 
-// The program's name, and the four numbers.
-const ARGUMENT_COUNT: usize = 5;
+// The four numbers.
+const ARGUMENT_COUNT: usize = 4;
 
 // No number of a word has more.
 const MOST_DIGITS: usize = 5;

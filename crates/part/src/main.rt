@@ -12,8 +12,8 @@ ghost use Rattle.std.specs.Prelude.{◌≤◌, length};
 
 use std::rt::Env;
 
-// The program's name, FROM and LIMIT.
-const ARGUMENT_COUNT: usize = 3;
+// FROM and LIMIT.
+const ARGUMENT_COUNT: usize = 2;
 
 fn main(rt: HostRuntime) {
     let mut from = [0u8; numbers::MOST_DIGITS];

@@ -52,11 +52,9 @@ pub fn part_input(
     count
 }
 
-// Are there so many arguments, with the program's name? No contract says what they are.
-pub fn has_arguments(env: &impl Env, count: usize) -> bool
-    requires { 0 < count }
-{
-    is_given(env, count - 1) && !is_given(env, count)
+// Are there so many arguments behind the program's name? No contract says what they are.
+pub fn has_arguments(env: &impl Env, count: usize) -> bool {
+    is_given(env, count) && !is_given(env, count.saturating_add(1))
 }
 
 fn is_given(env: &impl Env, index: usize) -> bool {
