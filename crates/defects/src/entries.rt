@@ -6,7 +6,7 @@ ghost use Rattle.defects.specs.Field.{slots};
 ghost use Rattle.defects.specs.Steps.{Sized, EntryJudged, EntriesJudged};
 
 use crate::defect::{Defect, ENTRY_LENGTH, defect_at, is_blank};
-use crate::judging::CRC_LENGTH;
+use crate::judging::{CRC_LENGTH, Field};
 use crate::offence::{Offence, refuse_if};
 use parts::Setup;
 use refusals::Refusal;
@@ -26,17 +26,17 @@ pub(crate) fn judge_entries(
     setup: Setup,
     flagged: bool,
     least: u64,
-    start: usize,
-    field: &[u8],
+    field: Field,
 ) -> Result<Entries, Offence>
-    requires { Sized setup start field.now }
-    ensures { EntriesJudged setup flagged least start field.now result }
+    requires { Sized setup field.start field.octets.now }
+    ensures { EntriesJudged setup flagged least field.entry.start field.entry.octets.now result }
 {
-    let slots = slots_of(field.len());
+    let Field { start, octets } = field;
+    let slots = slots_of(octets.len());
     let mut above = least;
     for i in 0..slots {
         let at = ENTRIES + ENTRY_LENGTH * i;
-        let d = defect_at(field, at);
+        let d = defect_at(octets, at);
         if is_blank(d) {
             return Ok(Entries {
                 count: i,

@@ -4,7 +4,7 @@ ghost use Rattle.defects.specs.Walk.{outset, is_ended, after_original, after_cop
 ghost use Rattle.defects.specs.Steps.{Judgeable, StepTaken};
 
 use crate::front::{COPY, Front, front_of};
-use crate::judging::{judge_copy, judge_original};
+use crate::judging::{Field, judge_copy, judge_original};
 use crate::offence::Offence;
 use parts::Setup;
 
@@ -93,26 +93,25 @@ pub(crate) fn step(
     setup: Setup,
     progress: Progress,
     k: usize,
-    start: usize,
     original: &[u8],
-    field: &[u8],
+    field: Field,
 ) -> Result<Progress, Offence>
-    requires { Judgeable setup progress.walk start original.now field.now }
-    ensures { StepTaken setup progress.walk progress.least k start original.now field.now result }
+    requires { Judgeable setup progress.walk field.start original.now field.octets.now }
+    ensures { StepTaken setup progress.walk progress.least k field.entry.start original.now field.entry.octets.now result }
 {
     let Progress { walk, least } = progress;
-    if field[COPY] == IGNORED {
+    if field.octets[COPY] == IGNORED {
         return Ok(progress);
     }
     if walk.copy != 0 {
-        judge_copy(walk, start, original, field)?;
+        judge_copy(walk, original, field)?;
         return Ok(Progress {
             walk: walk.after_copy(),
             least,
         });
     }
-    let front = front_of(field);
-    let above = judge_original(setup, walk, least, start, front, field)?;
+    let front = front_of(field.octets);
+    let above = judge_original(setup, walk, least, front, field)?;
     Ok(Progress {
         walk: walk.after_original(k, front),
         least: above,

@@ -6,6 +6,7 @@ ghost use Rattle.defects.specs.Walk.{field_at};
 ghost use Rattle.defects.specs.Source.{string_in, Readable, Loadable};
 ghost use Rattle.defects.specs.Steps.{last_tests, StepTaken, MapJudged};
 
+use crate::judging::Field;
 use crate::offence::{Offence, refuse_if};
 use crate::place::{MOST_OCTETS, data_fields, field_octets};
 use crate::source::Source;
@@ -67,8 +68,8 @@ fn turn(
 {
     let start = k * field_octets(setup);
     let begun = source.field(setup, progress.walk.original, original);
-    let here = source.field(setup, k, field);
-    step(setup, progress, k, start, begun, here)
+    let octets = source.field(setup, k, field);
+    step(setup, progress, k, begun, Field { start, octets })
 }
 
 // Behind the last data field of the cylinder.

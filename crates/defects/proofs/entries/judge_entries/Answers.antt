@@ -14,10 +14,10 @@ use Rattle.defects.proofs.entries.judge_entries.Goals.{After-is_blank, In-loop-i
 pub loop-i-init : goal.loop-i-init
 loop-i-init c = left_start _ _ _ _ _
 
-in_slot : (c : In-loop-i) → c.loop-i.i < slots (length c.args.field.now)
+in_slot : (c : In-loop-i) → c.loop-i.i < slots (length c.args.field.octets.now)
 in_slot c = omega (arith, c.slots_of-slots.ensures)
 
-blank_told : (c : After-is_blank) → is_blank (defect_at (14 + 12 * c.loop-i.i) c.args.field.now) ≡ c.is_blank.result
+blank_told : (c : After-is_blank) → is_blank (defect_at (14 + 12 * c.loop-i.i) c.args.field.octets.now) ≡ c.is_blank.result
 blank_told c = sym (c.is_blank.ensures ∙ ap is_blank c.defect_at-d.ensures)
 
 pub returns-then-is_blank : goal.returns-then-is_blank

@@ -4,4 +4,4 @@ use Rattle.defects.proofs.EntriesLeft.{Left}
 use Rattle.defects.proofs.entries.judge_entries.Given as goal
 
 abbrev pub invariant-loop-i : goal.invariant-loop-i
-invariant-loop-i l = Left l.setup l.flagged l.least l.start l.field l.i l.above
+invariant-loop-i l = Left l.setup l.flagged l.least l.start l.octets l.i l.above

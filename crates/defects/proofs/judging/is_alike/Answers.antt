@@ -16,12 +16,12 @@ pub loop-i-init : goal.loop-i-init
 loop-i-init c =
     let a = c.args in
     let all : a.count ≡ a.from + a.count - a.from = omega arith in
-    λ begin h. ap (λ (n : ℕ). first_of (tests_over (same_test begin a.field.now a.original.now) a.from n)) all
+    λ begin h. ap (λ (n : ℕ). first_of (tests_over (same_test begin a.octets.now a.original.now) a.from n)) all
 
 pub loop-i-preserved : goal.loop-i-preserved
 loop-i-preserved c =
     let i = c.loop-i.i in
-    let same = eqb (get_or c.args.field.now i 0) (get_or c.args.original.now i 0) in
+    let same = eqb (get_or c.args.octets.now i 0) (get_or c.args.original.now i 0) in
     λ begin h. over_next _ i _ _ c.loop-i-test.true (one_fails _ (not_f same (and_r c.loop-i.alike same h))) (c.loop-i.invariant begin (and_l c.loop-i.alike same h))
 
 pub returns : goal.returns

@@ -8,4 +8,4 @@ use Rattle.defects.specs.Judging.{same_test}
 use Rattle.defects.proofs.judging.is_alike.Given as goal
 
 abbrev pub invariant-loop-i : goal.invariant-loop-i
-invariant-loop-i l = (start : ℕ) → l.alike ≡ true → first_of (tests_over (same_test start l.field l.original) l.from l.count) ≡ first_of (tests_over (same_test start l.field l.original) l.i (l.from + l.count - l.i))
+invariant-loop-i l = (start : ℕ) → l.alike ≡ true → first_of (tests_over (same_test start l.octets l.original) l.from l.count) ≡ first_of (tests_over (same_test start l.octets l.original) l.i (l.from + l.count - l.i))

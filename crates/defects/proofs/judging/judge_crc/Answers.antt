@@ -9,4 +9,4 @@ pub slice_bounds-crc-end : goal.slice_bounds-crc-end
 slice_bounds-crc-end c = sym (length-take-le _ _ (search rules))
 
 pub returns : goal.returns
-returns c = c.refuse_if.ensures ∙ rw (c.word_at.ensures, c.crc.ensures)
+returns c = c.refuse_if.ensures ∙ rw (c.word_at-told.ensures, c.crc.ensures)

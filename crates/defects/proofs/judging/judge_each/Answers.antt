@@ -12,7 +12,7 @@ pub loop-i-init : goal.loop-i-init
 loop-i-init c =
     let a = c.args in
     let all : a.count ≡ a.from + a.count - a.from = omega arith in
-    ap (λ (n : ℕ). first_of (tests_over (same_test a.start a.field.now a.original.now) a.from n)) all
+    ap (λ (n : ℕ). first_of (tests_over (same_test a.field.start a.field.octets.now a.original.now) a.from n)) all
 
 pub returns-in_err-refuse_if : goal.returns-in_err-refuse_if
 returns-in_err-refuse_if c = rw (passed_on c.from_residual.ensures) (over_hit _ c.loop-i.i _ _ c.loop-i-test.true c.in_err-refuse_if.ensures c.loop-i.invariant)

@@ -7,4 +7,4 @@ use Rattle.defects.specs.Judging.{same_test}
 use Rattle.defects.proofs.judging.judge_each.Given as goal
 
 abbrev pub invariant-loop-i : goal.invariant-loop-i
-invariant-loop-i l = first_of (tests_over (same_test l.start l.field l.original) l.from l.count) ≡ first_of (tests_over (same_test l.start l.field l.original) l.i (l.from + l.count - l.i))
+invariant-loop-i l = first_of (tests_over (same_test l.start l.octets l.original) l.from l.count) ≡ first_of (tests_over (same_test l.start l.octets l.original) l.i (l.from + l.count - l.i))

@@ -16,7 +16,7 @@ use Rattle.defects.proofs.Originals.{in_front, in_entries, in_padding, in_crc}
 use Rattle.defects.proofs.judging.judge_original.Goals as goal
 use Rattle.defects.proofs.judging.judge_original.Goals.{In_ok-entries}
 
-many : (c : In_ok-entries) → c.in_ok-entries.entries.count ≡ length (defects_in c.args.field.now)
+many : (c : In_ok-entries) → c.in_ok-entries.entries.count ≡ length (defects_in c.args.field.octets.now)
 many c = ap (λ (e : Entries). e.count) c.in_ok-entries.ensures.entries
 
 padding : (field : List ℕ) (start count : ℕ) → count ≡ length (defects_in field) → {x : Option Found} → x ≡ first_of (padding_tests start field count)
@@ -32,7 +32,7 @@ returns-in_err-entries c =
 
 pub judge_padding-requires : goal.judge_padding-requires
 judge_padding-requires c =
-    let few = entries_few c.args.field.now 14 (slots (length c.args.field.now)) in
+    let few = entries_few c.args.field.octets.now 14 (slots (length c.args.field.octets.now)) in
     let sized = c.requires.0 in
     let count = many (goal.at.judge_padding-requires c).In_ok-entries in
     (omega (arith, count, few, sized.least), record { within = omega (arith, sized.within, sized.most) })

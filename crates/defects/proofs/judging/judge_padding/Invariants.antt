@@ -8,4 +8,4 @@ use Rattle.defects.specs.Judging.{zero_test, padding_tests}
 use Rattle.defects.proofs.judging.judge_padding.Given as goal
 
 abbrev pub invariant-loop-i : goal.invariant-loop-i
-invariant-loop-i l = first_of (padding_tests l.start l.field l.count) ≡ first_of (tests_over (zero_test l.start l.field) l.i (length l.field - 2 - l.i))
+invariant-loop-i l = first_of (padding_tests l.start l.octets l.count) ≡ first_of (tests_over (zero_test l.start l.octets) l.i (length l.octets - 2 - l.i))

@@ -14,7 +14,7 @@ pub field-begun-requires : goal.field-begun-requires
 field-begun-requires c = loadable_before c.args.progress.walk.original c.requires.0 c.requires.2
 
 pub step-requires : goal.step-requires
-step-requires c = judgeable _ _ _ _ c.requires.0 c.requires.1 c.requires.2 (rw c.field_octets.ensures) c.field-begun.ensures c.field-here.ensures
+step-requires c = judgeable _ _ _ _ c.requires.0 c.requires.1 c.requires.2 (rw c.field_octets.ensures) c.field-begun.ensures c.field-octets.ensures
 
 pub returns : goal.returns
-returns c = rw (← c.field-begun.ensures, ← c.field-here.ensures, ← c.field_octets.ensures) c.step.ensures
+returns c = rw (← c.field-begun.ensures, ← c.field-octets.ensures, ← c.field_octets.ensures) c.step.ensures
