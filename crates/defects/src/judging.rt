@@ -56,6 +56,7 @@ pub(crate) fn judge_copy(walk: Walk, original: &[u8], field: Field) -> Result<()
 }
 
 // The octets behind so many entries are zero.
+// This loop and that of `judge_each` are a line each: one function of both would take the test as a closure, and say what it asks of an index.
 fn judge_padding(field: Field, count: usize) -> Result<(), Offence>
     requires { (14 + 12 * count + 2 ≤ length field.octets.now) × IsNear field.start field.octets.now }
     ensures { offence_in result ≡ first_of (padding_tests field.entry.start field.entry.octets.now count) }
