@@ -21,7 +21,10 @@ use Rattle.status.proofs.RoundTrip.{status_of_octet}
 use Rattle.parts.specs.Setup.{within_limits, sector_words}
 use Rattle.parts.specs.Control.{is_data, words_to_come}
 use Rattle.parts.specs.Pending.{bit6, noticed, faulted}
-use Rattle.parts.specs.Kind.{Kind, Select, Deselect, Use, Reset, Unknown, Work, kind_of}
+use Rattle.parts.specs.Kind.{kind_of}
+use Rattle.parts.specs.declared.kind.Kind.{Kind}
+use Rattle.parts.specs.declared.kind.Kind.TheVariants.{Select, Deselect, Use, Reset, Unknown}
+use Rattle.parts.specs.declared.kind.Work.{Work}
 use Rattle.parts.specs.declared.setup.Setup.{Setup}
 use Rattle.parts.specs.declared.event.Event.{Event}
 use Rattle.parts.proofs.Bits.{bit_fits}

@@ -14,7 +14,8 @@ use Rattle.status.specs.declared.drive_status.DriveStatus.TheVariants.{Normal}
 use Rattle.parts.specs.Setup.{is_place, is_target}
 use Rattle.parts.specs.Command.{load_position, read_status, code_of, parameter_words}
 use Rattle.parts.specs.Control.{control_of, words_to_come}
-use Rattle.parts.specs.Kind.{DataControl, WordFromHost, TakeWord, Target, ReadStatus, kind_of}
+use Rattle.parts.specs.Kind.{kind_of}
+use Rattle.parts.specs.declared.kind.Work.TheVariants.{DataControl, WordFromHost, TakeWord, Target, ReadStatus}
 use Rattle.parts.specs.Pending.{nothing_pending}
 use Rattle.parts.specs.Tests.{parameters, no_parameters, transferring_with}
 use Rattle.parts.specs.declared.setup.Place.{Place}

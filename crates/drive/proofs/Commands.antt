@@ -14,7 +14,10 @@ use Rattle.laws.proofs.Pick.{either, cases}
 use Rattle.parts.specs.Command.{load_drive_function, read_status, parameter_words}
 use Rattle.parts.specs.Control.{control_of, is_write, is_read, takes_words, gives_words, is_data, words_to_come}
 use Rattle.parts.specs.Holding.{with_hold, is_owned_by_other, granted_to}
-use Rattle.parts.specs.Kind.{Select, Use, Reset, Work, DataControl, WordFromHost, TakeWord, End, kind_of, word_of}
+use Rattle.parts.specs.Kind.{kind_of, word_of}
+use Rattle.parts.specs.declared.kind.Kind.TheVariants.{Select, Use, Reset}
+use Rattle.parts.specs.declared.kind.Work.{Work}
+use Rattle.parts.specs.declared.kind.Work.TheVariants.{DataControl, WordFromHost, TakeWord, End}
 use Rattle.parts.specs.Tests.{is_taking, no_parameters, transferring, transferring_with, no_transfer}
 use Rattle.parts.specs.declared.command.Function.{Function}
 use Rattle.parts.specs.declared.holding.Hold.{Hold}

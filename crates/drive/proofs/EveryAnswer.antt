@@ -12,7 +12,10 @@ use Rattle.laws.proofs.Lists.{each_one_of}
 use Rattle.refusals.specs.Refusal.{number, named}
 use Rattle.status.specs.DriveStatus.{octet_of}
 use Rattle.status.specs.declared.drive_status.DriveStatus.{DriveStatus}
-use Rattle.parts.specs.Kind.{Kind, Select, Deselect, Use, Reset, Unknown, Work, kind_of}
+use Rattle.parts.specs.Kind.{kind_of}
+use Rattle.parts.specs.declared.kind.Kind.{Kind}
+use Rattle.parts.specs.declared.kind.Kind.TheVariants.{Select, Deselect, Use, Reset, Unknown}
+use Rattle.parts.specs.declared.kind.Work.{Work}
 use Rattle.parts.specs.declared.event.Event.{Event}
 use Rattle.drive.specs.Answer.{refusal_in}
 use Rattle.drive.specs.State.{Result, told, result}

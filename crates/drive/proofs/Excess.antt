@@ -11,7 +11,11 @@ use lib.Seq.{drop-set-lt, get_or-drop, ext_get_or}
 use Rattle.laws.specs.Pick.{pick}
 use Rattle.parts.specs.Setup.{sector_words, all_words, sector_start}
 use Rattle.parts.specs.Control.{is_data, moves_header, names_field1, names_field2}
-use Rattle.parts.specs.Kind.{Kind, Select, Deselect, Use, Reset, Unknown, Work, WordFromHost, word_of}
+use Rattle.parts.specs.Kind.{word_of}
+use Rattle.parts.specs.declared.kind.Kind.{Kind}
+use Rattle.parts.specs.declared.kind.Kind.TheVariants.{Select, Deselect, Use, Reset, Unknown}
+use Rattle.parts.specs.declared.kind.Work.{Work}
+use Rattle.parts.specs.declared.kind.Work.TheVariants.{WordFromHost}
 use Rattle.parts.specs.Tests.{is_taking}
 use Rattle.parts.specs.declared.setup.Setup.{Setup}
 use Rattle.parts.specs.declared.event.Event.{Event}

@@ -16,7 +16,10 @@ use Rattle.laws.proofs.Tests.{and_l, and_r}
 use Rattle.laws.proofs.Windows.{paste_at}
 use Rattle.parts.specs.Tests.{is_taking}
 use Rattle.parts.specs.Control.{control_of, is_write, is_data, moves_header, names_field1, names_field2, part}
-use Rattle.parts.specs.Kind.{Kind, Select, Deselect, Use, Reset, Unknown, Work, kind_of}
+use Rattle.parts.specs.Kind.{kind_of}
+use Rattle.parts.specs.declared.kind.Kind.{Kind}
+use Rattle.parts.specs.declared.kind.Kind.TheVariants.{Select, Deselect, Use, Reset, Unknown}
+use Rattle.parts.specs.declared.kind.Work.{Work}
 use Rattle.drive.specs.State.{Result, pending_on}
 use Rattle.drive.specs.Transfer.{committed}
 use Rattle.drive.specs.Refusal.{row7}

@@ -17,7 +17,9 @@ use Rattle.parts.specs.Control.{control_of, is_read, is_data, header_passes, nam
 use Rattle.parts.specs.declared.control.Control.TheVariants.{Response}
 use Rattle.parts.proofs.ByBits.{reads_give, low_responds}
 use Rattle.parts.proofs.Bounds.{data_words_lem}
-use Rattle.parts.specs.Kind.{Kind, Select, Deselect, Use, Reset, Unknown, Work}
+use Rattle.parts.specs.declared.kind.Kind.{Kind}
+use Rattle.parts.specs.declared.kind.Kind.TheVariants.{Select, Deselect, Use, Reset, Unknown}
+use Rattle.parts.specs.declared.kind.Work.{Work}
 use Rattle.parts.specs.Tests.{is_giving}
 use Rattle.parts.specs.declared.setup.Setup.{Setup}
 use Rattle.parts.specs.declared.setup.Place.{Place}

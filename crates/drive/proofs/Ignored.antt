@@ -8,7 +8,11 @@ use borrow.Author.Tests.{eq-eqb, ne_eqb, ltb-false}
 use Rattle.laws.specs.Pick.{pick}
 use Rattle.status.specs.declared.drive_status.DriveStatus.TheVariants.{UnsolicitedException}
 use Rattle.parts.specs.Control.{control_of}
-use Rattle.parts.specs.Kind.{Kind, Use, Work, DataControl, Position, Target, kind_of, word_of, place_of}
+use Rattle.parts.specs.Kind.{kind_of, word_of, place_of}
+use Rattle.parts.specs.declared.kind.Kind.{Kind}
+use Rattle.parts.specs.declared.kind.Kind.TheVariants.{Use}
+use Rattle.parts.specs.declared.kind.Work.{Work}
+use Rattle.parts.specs.declared.kind.Work.TheVariants.{DataControl, Position, Target}
 use Rattle.parts.specs.declared.event.Event.{Event}
 use Rattle.parts.specs.declared.pending.Pending.{Pending}
 use Rattle.drive.specs.State.{pending_on, posted_on, told, Result, result}

@@ -19,7 +19,10 @@ use Rattle.parts.specs.Setup.{sector_start}
 use Rattle.parts.specs.Command.{code_of}
 use Rattle.parts.specs.Control.{control_of, is_write, gives_words, is_data, moves_header, names_field1, names_field2, part, words_to_come}
 use Rattle.drive.specs.Answer.{Paper, paper}
-use Rattle.parts.specs.Kind.{Kind, Select, Deselect, Use, Reset, Unknown, Work, kind_of, word_of, place_of}
+use Rattle.parts.specs.Kind.{kind_of, word_of, place_of}
+use Rattle.parts.specs.declared.kind.Kind.{Kind}
+use Rattle.parts.specs.declared.kind.Kind.TheVariants.{Select, Deselect, Use, Reset, Unknown}
+use Rattle.parts.specs.declared.kind.Work.{Work}
 use Rattle.drive.specs.State.{Result, with_place, with_transfer, posted_on}
 use Rattle.parts.specs.Tests.{moved_on, no_transfer, is_taking, is_giving}
 use Rattle.drive.specs.Drive.{selected, deselected, after_reset, reserved, unreserved, priority_reserved, head_stepped, closed, ended}

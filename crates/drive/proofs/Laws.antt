@@ -14,7 +14,10 @@ use Rattle.refusals.specs.Refusal.{named}
 use Rattle.refusals.specs.declared.refusal.Refusal.{Refusal}
 use Rattle.status.specs.declared.drive_status.DriveStatus.TheVariants.{Normal}
 use Rattle.parts.specs.Holding.{nobody, granted_to, released, released_from}
-use Rattle.parts.specs.Kind.{Kind, Select, Deselect, Use, Reset, Unknown, Work, kind_of}
+use Rattle.parts.specs.Kind.{kind_of}
+use Rattle.parts.specs.declared.kind.Kind.{Kind}
+use Rattle.parts.specs.declared.kind.Kind.TheVariants.{Select, Deselect, Use, Reset, Unknown}
+use Rattle.parts.specs.declared.kind.Work.{Work}
 use Rattle.drive.specs.State.{Result, told, posted_on}
 use Rattle.drive.specs.Drive.{selected, deselected, after_reset, reserved, unreserved, priority_reserved, head_stepped, at_its_target, closed, ended}
 use Rattle.drive.specs.Request.{octet2_cleared}

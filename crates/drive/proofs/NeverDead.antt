@@ -23,7 +23,11 @@ use Rattle.parts.specs.Command.{code_of}
 use Rattle.parts.specs.Control.{control_of, header_passes, data_words, words_to_come}
 use Rattle.parts.specs.Holding.{nobody, is_busy, granted_to}
 use Rattle.parts.specs.Pending.{reset_complete, pending_of, nothing_pending, octet0}
-use Rattle.parts.specs.Kind.{Kind, Select, Use, Reset, Work, DataControl, WordFromHost, Position, ReadStatus, kind_of}
+use Rattle.parts.specs.Kind.{kind_of}
+use Rattle.parts.specs.declared.kind.Kind.{Kind}
+use Rattle.parts.specs.declared.kind.Kind.TheVariants.{Select, Use, Reset}
+use Rattle.parts.specs.declared.kind.Work.{Work}
+use Rattle.parts.specs.declared.kind.Work.TheVariants.{DataControl, WordFromHost, Position, ReadStatus}
 use Rattle.parts.specs.Tests.{transferring, is_misaddressed, changes_mode}
 use Rattle.parts.specs.declared.setup.Setup.{Setup}
 use Rattle.parts.specs.declared.setup.Place.{Place}

@@ -12,7 +12,9 @@ use Rattle.laws.proofs.Tests.{or_l}
 use Rattle.parts.specs.Command.{read_status, code_of}
 use Rattle.parts.specs.Control.{control_of}
 use Rattle.parts.specs.Pending.{OneBit, bit7, bit6, bit5, bit4, with_bit, nothing_pending, noticed, faulted}
-use Rattle.parts.specs.Kind.{Kind, Select, Deselect, Use, Reset, Unknown, Work}
+use Rattle.parts.specs.declared.kind.Kind.{Kind}
+use Rattle.parts.specs.declared.kind.Kind.TheVariants.{Select, Deselect, Use, Reset, Unknown}
+use Rattle.parts.specs.declared.kind.Work.{Work}
 use Rattle.parts.specs.Tests.{is_taking, is_giving, no_transfer, transferring}
 use Rattle.parts.specs.declared.command.Function.{Function}
 use Rattle.parts.specs.declared.event.Event.{Event}

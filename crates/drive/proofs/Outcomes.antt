@@ -23,7 +23,10 @@ use Rattle.drive.specs.Drive.{reserved, unreserved, priority_reserved, head_step
 use Rattle.drive.specs.Request.{octet2_cleared, taken_up, bad_request, controlled, data_control, opened, opening, positioned, targeted, status_read}
 use Rattle.drive.specs.Transfer.{committed, staged, word_staged, word_taken}
 use Rattle.drive.specs.Command.{with_parameter, place_sought, target_sought, seeking, functioned, obeyed, parameter_sent, words_told, status_cleared, response_taken, word_from_host, word_to_host, ended_early}
-use Rattle.parts.specs.Kind.{Use, Work, DataControl, WordFromHost, TakeWord, End, Position, Target, ReadStatus, word_of, place_of}
+use Rattle.parts.specs.Kind.{word_of, place_of}
+use Rattle.parts.specs.declared.kind.Kind.TheVariants.{Use}
+use Rattle.parts.specs.declared.kind.Work.{Work}
+use Rattle.parts.specs.declared.kind.Work.TheVariants.{DataControl, WordFromHost, TakeWord, End, Position, Target, ReadStatus}
 use Rattle.drive.specs.Refusal.{is_one_open, row7}
 use Rattle.drive.specs.Event.{act}
 use Rattle.drive.specs.Frame.{ClearsFirst, control, position, target}

@@ -15,7 +15,7 @@ use Rattle.refusals.proofs.OnPaper.{told_by_name}
 use Rattle.parts.specs.Command.{code_of}
 use Rattle.parts.specs.Control.{control_of, takes_words, gives_words, words_to_come}
 use Rattle.parts.specs.Holding.{nobody}
-use Rattle.parts.specs.Kind.{Kind}
+use Rattle.parts.specs.declared.kind.Kind.{Kind}
 use Rattle.drive.specs.State.{told, Result, result}
 use Rattle.drive.specs.Refusal.{own_rows}
 use Rattle.parts.specs.Tests.{is_taking, is_giving, is_open, is_broken_transfer}

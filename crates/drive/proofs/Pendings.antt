@@ -12,7 +12,10 @@ use Rattle.laws.proofs.Pick.{cases}
 use Rattle.laws.proofs.Tests.{and_l}
 use Rattle.parts.specs.Holding.{nobody, is_owned_by_other}
 use Rattle.parts.specs.Pending.{OneBit, bit7, bit6, bit5, bit4, with_bit, pending_of, noticed, faulted, nothing_pending}
-use Rattle.parts.specs.Kind.{Kind, Select, Deselect, Use, Reset, Unknown, Work, kind_of}
+use Rattle.parts.specs.Kind.{kind_of}
+use Rattle.parts.specs.declared.kind.Kind.{Kind}
+use Rattle.parts.specs.declared.kind.Kind.TheVariants.{Select, Deselect, Use, Reset, Unknown}
+use Rattle.parts.specs.declared.kind.Work.{Work}
 use Rattle.parts.specs.Command.{read_status, parameter_words}
 use Rattle.parts.specs.Control.{words_to_come}
 use Rattle.parts.specs.declared.command.Function.{Function}

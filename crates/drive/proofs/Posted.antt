@@ -4,7 +4,9 @@ use Prim.Native.Nat.{ℕ}
 use mathlib.Core.List.{List}
 use Rattle.laws.proofs.Pick.{either}
 use Rattle.parts.specs.Pending.{OneBit, reset_complete, pending_of, nothing_pending, noticed, faulted}
-use Rattle.parts.specs.Kind.{Kind, Select, Deselect, Use, Reset, Unknown, Work}
+use Rattle.parts.specs.declared.kind.Kind.{Kind}
+use Rattle.parts.specs.declared.kind.Kind.TheVariants.{Select, Deselect, Use, Reset, Unknown}
+use Rattle.parts.specs.declared.kind.Work.{Work}
 use Rattle.parts.specs.declared.event.Event.{Event}
 use Rattle.parts.specs.declared.pending.Pending.{Pending}
 use Rattle.drive.specs.State.{Result, pending_on, posted_on}

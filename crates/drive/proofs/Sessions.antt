@@ -7,7 +7,8 @@ use native.Mathlib.Omega.{arith}
 use lib.Seq.{append_snoc}
 use Rattle.laws.proofs.Pick.{cases}
 use Rattle.parts.specs.Holding.{nobody}
-use Rattle.parts.specs.Kind.{Select, Use, Work}
+use Rattle.parts.specs.declared.kind.Kind.TheVariants.{Select, Use}
+use Rattle.parts.specs.declared.kind.Work.{Work}
 use Rattle.drive.specs.Run.{Machine, answer_to, after, answers}
 use Rattle.drive.specs.Accepted.{is_refused, accepted}
 use Rattle.drive.specs.Sessions.{Is, Works, none, one, Sessions, nothing, reset, deselected, taken_over, cut_by_reset, still_open}

@@ -8,7 +8,10 @@ use mathlib.Core.Option.{none}
 use Rattle.laws.specs.Pick.{pick}
 use Rattle.parts.specs.Control.{control_of, is_write, is_read, is_data}
 use Rattle.parts.specs.Tests.{transferring, no_transfer}
-use Rattle.parts.specs.Kind.{Kind, Select, Deselect, Use, Reset, Unknown, Work, kind_of}
+use Rattle.parts.specs.Kind.{kind_of}
+use Rattle.parts.specs.declared.kind.Kind.{Kind}
+use Rattle.parts.specs.declared.kind.Kind.TheVariants.{Select, Deselect, Use, Reset, Unknown}
+use Rattle.parts.specs.declared.kind.Work.{Work}
 use Rattle.parts.specs.declared.control.Control.{Control}
 use Rattle.parts.specs.declared.command.Function.{Function}
 use Rattle.parts.specs.declared.setup.Setup.{Setup}

@@ -17,7 +17,10 @@ use Rattle.parts.specs.declared.command.Function.{Function}
 use Rattle.parts.specs.declared.holding.Hold.TheVariants.{None, Strong}
 use Rattle.parts.specs.Pending.{nothing_pending}
 use Rattle.drive.specs.Answer.{refusal_in}
-use Rattle.parts.specs.Kind.{Kind, Select, Deselect, Use, Reset, Unknown, Work, kind_of, word_of}
+use Rattle.parts.specs.Kind.{kind_of, word_of}
+use Rattle.parts.specs.declared.kind.Kind.{Kind}
+use Rattle.parts.specs.declared.kind.Kind.TheVariants.{Select, Deselect, Use, Reset, Unknown}
+use Rattle.parts.specs.declared.kind.Work.{Work}
 use Rattle.drive.specs.State.{Result, posted_on}
 use Rattle.drive.specs.Drive.{owner_noticed, selected, deselected, after_reset, reserved, unreserved, priority_reserved, at_its_target, closed}
 use Rattle.drive.specs.Request.{octet2_cleared}

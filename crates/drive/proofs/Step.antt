@@ -7,7 +7,9 @@ use mathlib.Core.List.{List}
 use Rattle.laws.specs.Pick.{pick}
 use Rattle.laws.specs.Rows.{first, unless_refused}
 use Rattle.refusals.specs.Refusal.{named}
-use Rattle.parts.specs.Kind.{Kind, Unknown, kind_of}
+use Rattle.parts.specs.Kind.{kind_of}
+use Rattle.parts.specs.declared.kind.Kind.{Kind}
+use Rattle.parts.specs.declared.kind.Kind.TheVariants.{Unknown}
 use Rattle.drive.specs.Answer.{paper, Says}
 use Rattle.drive.specs.State.{told, Result, result}
 use Rattle.drive.specs.Refusal.{row1, row10, row11, own_rows, refusal_of}

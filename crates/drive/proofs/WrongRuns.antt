@@ -14,7 +14,9 @@ use Rattle.laws.proofs.Differ.{told_apart, absent}
 use Rattle.refusals.specs.declared.refusal.Refusal.TheVariants.{Busy}
 use Rattle.parts.specs.Control.{control_of, is_read}
 use Rattle.parts.specs.Holding.{nobody}
-use Rattle.parts.specs.Kind.{Kind, Select, Deselect, Use, Reset, Unknown, kind_of}
+use Rattle.parts.specs.Kind.{kind_of}
+use Rattle.parts.specs.declared.kind.Kind.{Kind}
+use Rattle.parts.specs.declared.kind.Kind.TheVariants.{Select, Deselect, Use, Reset, Unknown}
 use Rattle.parts.specs.declared.control.Control.TheVariants.{Read}
 use Rattle.parts.specs.declared.setup.Place.{Place}
 use Rattle.parts.specs.declared.event.Event.{Event}

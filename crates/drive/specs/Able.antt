@@ -5,7 +5,7 @@ use Rattle.laws.specs.Lists.{written_over}
 use Rattle.refusals.specs.Refusal.{named}
 use Rattle.parts.specs.Setup.{sector_words}
 use Rattle.parts.specs.Control.{words_to_come, words_read}
-use Rattle.parts.specs.Kind.{Kind}
+use Rattle.parts.specs.declared.kind.Kind.{Kind}
 use Rattle.parts.specs.declared.event.Event.{Event}
 use Rattle.parts.specs.declared.setup.Setup.{Setup}
 use Rattle.drive.specs.State.{told, Result}

@@ -6,7 +6,11 @@ use Rattle.parts.specs.Setup.{is_place, is_target}
 use Rattle.parts.specs.Command.{load_drive_function, load_position, read_status, function_in}
 use Rattle.parts.specs.Control.{is_data}
 use Rattle.parts.specs.Holding.{at_least_plain, with_hold}
-use Rattle.parts.specs.Kind.{Kind, Select, Deselect, Use, Reset, Unknown, Work, DataControl, WordFromHost, TakeWord, End, Position, Target, ReadStatus, kind_of, word_of}
+use Rattle.parts.specs.Kind.{kind_of, word_of}
+use Rattle.parts.specs.declared.kind.Kind.{Kind}
+use Rattle.parts.specs.declared.kind.Kind.TheVariants.{Select, Deselect, Use, Reset, Unknown}
+use Rattle.parts.specs.declared.kind.Work.{Work}
+use Rattle.parts.specs.declared.kind.Work.TheVariants.{DataControl, WordFromHost, TakeWord, End, Position, Target, ReadStatus}
 use Rattle.parts.specs.Tests.{transferring}
 use Rattle.parts.specs.declared.command.Function.{Function}
 use Rattle.parts.specs.declared.command.Function.TheVariants.{PriorityReserve, Reserve, Release, NoOperation, Recalibrate, ActsOnMore, NotListed}

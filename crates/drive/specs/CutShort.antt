@@ -1,7 +1,9 @@
 -- "A write cut short at any word writes nothing", said of the machine itself, from any state.
 use Rattle.std.specs.Prelude.{ℕ, zero, suc, ◌<◌, ◌≡◌, Bool, true, false, List, [], ◌∷◌}
 use Rattle.parts.specs.Control.{control_of, is_write}
-use Rattle.parts.specs.Kind.{Select, Use, Reset, Work, WordFromHost, End}
+use Rattle.parts.specs.declared.kind.Kind.TheVariants.{Select, Use, Reset}
+use Rattle.parts.specs.declared.kind.Work.{Work}
+use Rattle.parts.specs.declared.kind.Work.TheVariants.{WordFromHost, End}
 use Rattle.parts.specs.declared.setup.Place.{Place}
 use Rattle.parts.specs.declared.event.Event.{Event}
 use Rattle.drive.specs.Accepted.{is_refused}

@@ -5,7 +5,10 @@ use Rattle.refusals.specs.Refusal.{named}
 use Rattle.drive.specs.Answer.{paper, Says}
 use Rattle.drive.specs.State.{told, Result, result}
 use Rattle.status.specs.declared.drive_status.DriveStatus.TheVariants.{Normal}
-use Rattle.parts.specs.Kind.{Kind, Select, Deselect, Use, Reset, Unknown, DataControl, WordFromHost, TakeWord, End, Position, Target, ReadStatus, kind_of, word_of, place_of}
+use Rattle.parts.specs.Kind.{kind_of, word_of, place_of}
+use Rattle.parts.specs.declared.kind.Kind.{Kind}
+use Rattle.parts.specs.declared.kind.Kind.TheVariants.{Select, Deselect, Use, Reset, Unknown}
+use Rattle.parts.specs.declared.kind.Work.TheVariants.{DataControl, WordFromHost, TakeWord, End, Position, Target, ReadStatus}
 use Rattle.drive.specs.Refusal.{refusal_of}
 use Rattle.drive.specs.Drive.{selected, deselected, after_reset}
 use Rattle.drive.specs.Request.{data_control, positioned, targeted, status_read}

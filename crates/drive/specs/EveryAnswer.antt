@@ -6,7 +6,10 @@ use Rattle.refusals.specs.declared.refusal.Refusal.{Refusal}
 use Rattle.status.specs.declared.drive_status.DriveStatus.TheVariants.{Normal, HeaderMiscompare, OperationException}
 use Rattle.status.specs.DriveStatus.{octet_of}
 use Rattle.status.specs.declared.drive_status.DriveStatus.{DriveStatus}
-use Rattle.parts.specs.Kind.{Kind, Select, Deselect, Use, Reset, DataControl, WordFromHost, TakeWord, End, Position, Target, ReadStatus, kind_of}
+use Rattle.parts.specs.Kind.{kind_of}
+use Rattle.parts.specs.declared.kind.Kind.{Kind}
+use Rattle.parts.specs.declared.kind.Kind.TheVariants.{Select, Deselect, Use, Reset}
+use Rattle.parts.specs.declared.kind.Work.TheVariants.{DataControl, WordFromHost, TakeWord, End, Position, Target, ReadStatus}
 use Rattle.parts.specs.declared.setup.Place.{Place}
 use Rattle.parts.specs.declared.event.Event.{Event}
 use Rattle.drive.specs.Event.{handled}

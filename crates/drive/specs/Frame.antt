@@ -6,7 +6,10 @@ use Rattle.parts.specs.Command.{read_status}
 use Rattle.parts.specs.Control.{control_of, is_write, moves_header, names_field1, names_field2, part}
 use Rattle.parts.specs.Holding.{is_owned_by_other}
 use Rattle.parts.specs.Pending.{nothing_pending, pending_of, reset_complete, OneBit, noticed, faulted}
-use Rattle.parts.specs.Kind.{Kind, Select, Use, Reset, DataControl, WordFromHost, TakeWord, Position, Target, ReadStatus, kind_of, word_of}
+use Rattle.parts.specs.Kind.{kind_of, word_of}
+use Rattle.parts.specs.declared.kind.Kind.{Kind}
+use Rattle.parts.specs.declared.kind.Kind.TheVariants.{Select, Use, Reset}
+use Rattle.parts.specs.declared.kind.Work.TheVariants.{DataControl, WordFromHost, TakeWord, Position, Target, ReadStatus}
 use Rattle.drive.specs.State.{pending_on}
 use Rattle.drive.specs.Transfer.{committed}
 use Rattle.drive.specs.Able.{Room}

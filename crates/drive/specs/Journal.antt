@@ -5,7 +5,10 @@ use Rattle.laws.specs.Pick.{pick}
 use Rattle.parts.specs.Setup.{sector_start, is_place}
 use Rattle.parts.specs.Control.{control_of, is_write, words_to_come}
 use Rattle.drive.specs.Answer.{Paper, paper, normal}
-use Rattle.parts.specs.Kind.{Kind, Select, Deselect, Use, Reset, Unknown, DataControl, WordFromHost, TakeWord, End, Position, Target, ReadStatus, kind_of, word_of}
+use Rattle.parts.specs.Kind.{kind_of, word_of}
+use Rattle.parts.specs.declared.kind.Kind.{Kind}
+use Rattle.parts.specs.declared.kind.Kind.TheVariants.{Select, Deselect, Use, Reset, Unknown}
+use Rattle.parts.specs.declared.kind.Work.TheVariants.{DataControl, WordFromHost, TakeWord, End, Position, Target, ReadStatus}
 use Rattle.drive.specs.Accepted.{is_refused}
 use Rattle.drive.specs.Frame.{word_written}
 use Rattle.parts.specs.declared.setup.Setup.{Setup}

@@ -4,7 +4,11 @@ use Rattle.laws.specs.Rows.{Row, first, ◌when◌}
 use Rattle.parts.specs.Tests.{is_taking, is_giving, is_outside_limits, is_disowned, is_broken_transfer, has_stray_bit, is_misaddressed, changes_mode}
 use Rattle.parts.specs.Setup.{sector_words, all_words, is_place, is_target}
 use Rattle.parts.specs.Holding.{is_busy}
-use Rattle.parts.specs.Kind.{Kind, Select, Deselect, Use, Reset, Unknown, Work, DataControl, WordFromHost, TakeWord, End, Position, Target, ReadStatus, uses_only_its_own}
+use Rattle.parts.specs.Kind.{uses_only_its_own}
+use Rattle.parts.specs.declared.kind.Kind.{Kind}
+use Rattle.parts.specs.declared.kind.Kind.TheVariants.{Select, Deselect, Use, Reset, Unknown}
+use Rattle.parts.specs.declared.kind.Work.{Work}
+use Rattle.parts.specs.declared.kind.Work.TheVariants.{DataControl, WordFromHost, TakeWord, End, Position, Target, ReadStatus}
 use Rattle.parts.specs.declared.setup.Setup.{Setup}
 use Rattle.drive.specs.declared.drive.Drive.{Drive}
 use Rattle.parts.specs.declared.event.Event.{Event}

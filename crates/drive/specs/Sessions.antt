@@ -1,7 +1,10 @@
 -- "A session is a granted selection and that port's accepted events up to its deselection, a takeover or a reset; a reset is a session of its own."
 -- The events here are those that were not refused.
 use Rattle.std.specs.Prelude.{ℕ, ◌≡◌, List, [], ◌∷◌, ◌++◌}
-use Rattle.parts.specs.Kind.{Kind, Select, Deselect, Use, Reset, Work, kind_of}
+use Rattle.parts.specs.Kind.{kind_of}
+use Rattle.parts.specs.declared.kind.Kind.{Kind}
+use Rattle.parts.specs.declared.kind.Kind.TheVariants.{Select, Deselect, Use, Reset}
+use Rattle.parts.specs.declared.kind.Work.{Work}
 use Rattle.parts.specs.declared.event.Event.{Event}
 
 abbrev pub Is : Kind → Event → Type 0

@@ -6,7 +6,10 @@ use Rattle.parts.specs.Setup.{no_target, following, is_place}
 use Rattle.parts.specs.Command.{load_drive_function, function_in}
 use Rattle.parts.specs.Control.{control_of, is_data, is_at_target, words_to_come}
 use Rattle.parts.specs.Tests.{transferring, moved_on, no_transfer}
-use Rattle.parts.specs.Kind.{Kind, Select, Deselect, Use, Reset, Unknown, DataControl, WordFromHost, TakeWord, End, Position, Target, ReadStatus, kind_of, word_of, place_of}
+use Rattle.parts.specs.Kind.{kind_of, word_of, place_of}
+use Rattle.parts.specs.declared.kind.Kind.{Kind}
+use Rattle.parts.specs.declared.kind.Kind.TheVariants.{Select, Deselect, Use, Reset, Unknown}
+use Rattle.parts.specs.declared.kind.Work.TheVariants.{DataControl, WordFromHost, TakeWord, End, Position, Target, ReadStatus}
 use Rattle.parts.specs.declared.control.Control.{Control}
 use Rattle.parts.specs.declared.control.Control.TheVariants.{Write, Read, Command, Response, StepHead, Reserved, Unsupported, Invalid}
 use Rattle.parts.specs.declared.command.Function.{Function}

@@ -4,7 +4,7 @@ use parts::Place;
 use refusals::Refusal;
 use status::DriveStatus;
 
-#[derive(Clone, Copy)]
+#[derive(Clone, Copy, Debug, PartialEq, Eq)]
 pub enum Answer {
     // Nothing changed.
     Refused(Refusal),
@@ -20,7 +20,7 @@ pub enum Answer {
     Response(u8, u8, u8),
 }
 
-#[derive(Clone, Copy)]
+#[derive(Clone, Copy, Debug, PartialEq, Eq)]
 pub struct Outcome {
     pub answer: Answer,
     pub drive: Drive,

@@ -7,7 +7,7 @@ ghost use Rattle.drive.specs.Drive.{owner_noticed, selected, deselected, after_r
 
 use parts::{Hold, Holding, Pending, Place, Setup, Transfer};
 
-#[derive(Clone, Copy)]
+#[derive(Clone, Copy, Debug, PartialEq, Eq)]
 pub struct Drive {
     pub setup: Setup,
     pub holding: Holding,
@@ -22,44 +22,40 @@ impl Drive {
     fn posted_on(self, port: u16, pending: Pending) -> Drive
         ensures { result ≡ posted_on self port pending }
     {
-        let p0 = self.pending0;
-        let p1 = self.pending1;
-        let q0 = chosen(port == 0, pending, p0);
-        let q1 = chosen(port == 0, p1, pending);
-        let mut d = self;
-        d.pending0 = q0;
-        d.pending1 = q1;
-        d
+        let q0 = chosen(port == 0, pending, self.pending0);
+        let q1 = chosen(port == 0, self.pending1, pending);
+        Drive {
+            pending0: q0,
+            pending1: q1,
+            ..self
+        }
     }
 
     // A granted selection.
     pub fn select(self, port: u16, octet: u8) -> Drive
         ensures { result ≡ selected self port octet }
     {
-        let granted = parts::granted_to(port, octet);
-        let none = parts::no_transfer();
-        let mut d = self.owner_noticed(port);
-        d.holding = granted;
-        d.transfer = none;
-        d
+        Drive {
+            holding: parts::granted_to(port, octet),
+            transfer: parts::no_transfer(),
+            ..self.owner_noticed(port)
+        }
     }
 
     pub fn deselect(self) -> Drive
         ensures { result ≡ deselected self }
     {
-        let h = self.holding;
-        let left = h.released();
-        let mut d = self;
-        d.holding = left;
-        d
+        Drive {
+            holding: self.holding.released(),
+            ..self
+        }
     }
 
     pub fn reset(self) -> Drive
         ensures { result ≡ after_reset self }
     {
-        let s = self.setup;
         Drive {
-            setup: s,
+            setup: self.setup,
             holding: parts::no_holding(),
             place: Place {
                 cylinder: 0,
@@ -83,9 +79,7 @@ impl Drive {
     pub fn reserve(self) -> Drive
         ensures { result ≡ reserved self }
     {
-        let h = self.holding;
-        let hold = h.hold;
-        self.with_hold(at_least_plain(hold))
+        self.with_hold(at_least_plain(self.holding.hold))
     }
 
     pub fn priority_reserve(self) -> Drive
@@ -103,27 +97,22 @@ impl Drive {
     fn with_hold(self, hold: Hold) -> Drive
         ensures { result ≡ with_holding self (with_hold self.holding hold) }
     {
-        let h = self.holding;
-        let held = Holding {
-            selected: h.selected,
-            owner: h.owner,
-            hold,
-        };
-        let mut d = self;
-        d.holding = held;
-        d
+        Drive {
+            holding: Holding {
+                hold,
+                ..self.holding
+            },
+            ..self
+        }
     }
 
     // A takeover is told to the port that loses the drive.
     fn owner_noticed(self, port: u16) -> Drive
         ensures { result ≡ owner_noticed self port }
     {
-        let h = self.holding;
-        let owner = h.owner;
-        let p0 = self.pending0;
-        let p1 = self.pending1;
-        if h.is_owned_by_other(port) {
-            let p = chosen(owner == 0, p0, p1);
+        let owner = self.holding.owner;
+        if self.holding.is_owned_by_other(port) {
+            let p = chosen(owner == 0, self.pending0, self.pending1);
             return self.posted_on(owner, p.noticed());
         }
         self
@@ -134,8 +123,7 @@ fn at_least_plain(hold: Hold) -> Hold
     ensures { result ≡ at_least_plain hold }
 {
     match hold {
-        Hold::None => Hold::Plain,
-        Hold::Plain => Hold::Plain,
+        Hold::None | Hold::Plain => Hold::Plain,
         Hold::Strong => Hold::Strong,
     }
 }

@@ -6,7 +6,7 @@ use Rattle.laws.specs.Rows.{first}
 use Rattle.refusals.specs.Refusal.{number}
 use Rattle.refusals.specs.declared.refusal.Refusal.{Refusal}
 use Rattle.parts.specs.Holding.{nobody}
-use Rattle.parts.specs.Kind.{Kind}
+use Rattle.parts.specs.declared.kind.Kind.{Kind}
 use Rattle.parts.specs.declared.event.Event.{Event}
 use Rattle.drive.specs.State.{Result, result, told}
 use Rattle.drive.specs.Refusal.{own_rows}

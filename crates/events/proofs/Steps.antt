@@ -2,7 +2,9 @@
 -- Assumes nothing.
 use Rattle.std.proofs.Common.{◌≡◌, ℕ, true, false, List, sym, refl}
 use Rattle.refusals.specs.declared.refusal.Refusal.TheVariants.{NoSuchPort, Malformed}
-use Rattle.parts.specs.Kind.{Kind, Unknown, kind_of}
+use Rattle.parts.specs.Kind.{kind_of}
+use Rattle.parts.specs.declared.kind.Kind.{Kind}
+use Rattle.parts.specs.declared.kind.Kind.TheVariants.{Unknown}
 use Rattle.parts.specs.declared.event.Event.{Event}
 use Rattle.drive.specs.State.{result}
 use Rattle.drive.specs.Refusal.{row1}

@@ -1,6 +1,8 @@
 // What each kind does that leaves the lent words: its own tests, then its work.
 ghost use Rattle.std.specs.Prelude.{◌≤◌};
-ghost use Rattle.parts.specs.Kind.{Kind, Work, word_of, place_of};
+ghost use Rattle.parts.specs.Kind.{word_of, place_of};
+ghost use Rattle.parts.specs.declared.kind.Kind.TheVariants as kind;
+ghost use Rattle.parts.specs.declared.kind.Work.TheVariants as work;
 ghost use Rattle.drive.specs.State.{told};
 ghost use Rattle.drive.specs.Drive.{selected, deselected, after_reset};
 ghost use Rattle.drive.specs.Command.{ended_early};
@@ -17,7 +19,7 @@ use status::DriveStatus;
 
 pub(crate) fn on_select(state: &mut [u16], event: Event) -> Answer
     requires { Fit state.old }
-    ensures { Did state.old (unless_own_row Kind.Select (drive_in state.old) event (told Answer.Done (selected (drive_in state.old) event.port event.a0))) result state.new }
+    ensures { Did state.old (unless_own_row kind.Select (drive_in state.old) event (told Answer.Done (selected (drive_in state.old) event.port event.a0))) result state.new }
 {
     let d = state::drive_in(&state[..]);
     let s = d.setup;
@@ -28,7 +30,7 @@ pub(crate) fn on_select(state: &mut [u16], event: Event) -> Answer
     let changes_mode = parts::changes_mode(octet);
     let busy = h.is_busy(port, octet);
     let refused = parts::select_refusal(
-        parts::none_after_1(event),
+        event.none_after_1(),
         h.selected == port,
         misaddressed,
         changes_mode,
@@ -43,9 +45,9 @@ pub(crate) fn on_select(state: &mut [u16], event: Event) -> Answer
 
 pub(crate) fn on_deselect(state: &mut [u16], event: Event) -> Answer
     requires { Fit state.old }
-    ensures { Did state.old (unless_own_row Kind.Deselect (drive_in state.old) event (told Answer.Done (deselected (drive_in state.old)))) result state.new }
+    ensures { Did state.old (unless_own_row kind.Deselect (drive_in state.old) event (told Answer.Done (deselected (drive_in state.old)))) result state.new }
 {
-    let formed = parts::none_at_all(event);
+    let formed = event.none_at_all();
     if let Err(refusal) = timing::refusal(&state[..], event.port, formed) {
         return Answer::Refused(refusal);
     }
@@ -56,9 +58,9 @@ pub(crate) fn on_deselect(state: &mut [u16], event: Event) -> Answer
 
 pub(crate) fn on_reset(state: &mut [u16], event: Event) -> Answer
     requires { Fit state.old }
-    ensures { Did state.old (unless_own_row Kind.Reset (drive_in state.old) event (told Answer.Done (after_reset (drive_in state.old)))) result state.new }
+    ensures { Did state.old (unless_own_row kind.Reset (drive_in state.old) event (told Answer.Done (after_reset (drive_in state.old)))) result state.new }
 {
-    if !parts::none_at_all(event) {
+    if !event.none_at_all() {
         return Answer::Refused(Refusal::Malformed);
     }
     let d = state::drive_in(&state[..]);
@@ -68,9 +70,9 @@ pub(crate) fn on_reset(state: &mut [u16], event: Event) -> Answer
 
 pub(crate) fn on_end(state: &mut [u16], event: Event) -> Answer
     requires { Fit state.old }
-    ensures { Did state.old (unless_own_row (Kind.Use Work.End) (drive_in state.old) event (told (Answer.Status DriveStatus.Normal) (ended_early (drive_in state.old)))) result state.new }
+    ensures { Did state.old (unless_own_row (kind.Use work.End) (drive_in state.old) event (told (Answer.Status DriveStatus.Normal) (ended_early (drive_in state.old)))) result state.new }
 {
-    let formed = parts::none_at_all(event);
+    let formed = event.none_at_all();
     let selected = timing::is_selected(&state[..], event.port);
     let closed = !timing::is_one_open(&state[..]);
     if let Err(refusal) = parts::inside_refusal(formed, selected, closed) {
@@ -86,9 +88,9 @@ pub(crate) fn on_end(state: &mut [u16], event: Event) -> Answer
 
 pub(crate) fn on_data_control(state: &mut [u16], event: Event) -> Answer
     requires { Fit state.old × (event.port ≤ 1) }
-    ensures { Did state.old (unless_own_row (Kind.Use Work.DataControl) (drive_in state.old) event (data_control (drive_in state.old) event.port event.a0)) result state.new }
+    ensures { Did state.old (unless_own_row (kind.Use work.DataControl) (drive_in state.old) event (data_control (drive_in state.old) event.port event.a0)) result state.new }
 {
-    let formed = parts::none_after_1(event);
+    let formed = event.none_after_1();
     if let Err(refusal) = timing::refusal(&state[..], event.port, formed) {
         return Answer::Refused(refusal);
     }
@@ -97,13 +99,13 @@ pub(crate) fn on_data_control(state: &mut [u16], event: Event) -> Answer
 
 pub(crate) fn on_position(state: &mut [u16], event: Event) -> Answer
     requires { Fit state.old × (event.port ≤ 1) }
-    ensures { Did state.old (unless_own_row (Kind.Use Work.Position) (drive_in state.old) event (positioned (drive_in state.old) event.port (place_of event))) result state.new }
+    ensures { Did state.old (unless_own_row (kind.Use work.Position) (drive_in state.old) event (positioned (drive_in state.old) event.port (place_of event))) result state.new }
 {
     if let Err(refusal) = timing::refusal(&state[..], event.port, true) {
         return Answer::Refused(refusal);
     }
     let place = Place {
-        cylinder: parts::word_of(event),
+        cylinder: event.word(),
         head: event.a2 as u16,
         sector: event.a3 as u16,
     };
@@ -112,20 +114,20 @@ pub(crate) fn on_position(state: &mut [u16], event: Event) -> Answer
 
 pub(crate) fn on_target(state: &mut [u16], event: Event) -> Answer
     requires { Fit state.old × (event.port ≤ 1) }
-    ensures { Did state.old (unless_own_row (Kind.Use Work.Target) (drive_in state.old) event (targeted (drive_in state.old) event.port (word_of event))) result state.new }
+    ensures { Did state.old (unless_own_row (kind.Use work.Target) (drive_in state.old) event (targeted (drive_in state.old) event.port (word_of event))) result state.new }
 {
-    let formed = parts::none_after_2(event);
+    let formed = event.none_after_2();
     if let Err(refusal) = timing::refusal(&state[..], event.port, formed) {
         return Answer::Refused(refusal);
     }
-    request::aim_at(state, event.port, parts::word_of(event))
+    request::aim_at(state, event.port, event.word())
 }
 
 pub(crate) fn on_read_status(state: &mut [u16], event: Event) -> Answer
     requires { Fit state.old × (event.port ≤ 1) }
-    ensures { Did state.old (unless_own_row (Kind.Use Work.ReadStatus) (drive_in state.old) event (status_read (drive_in state.old) event.port)) result state.new }
+    ensures { Did state.old (unless_own_row (kind.Use work.ReadStatus) (drive_in state.old) event (status_read (drive_in state.old) event.port)) result state.new }
 {
-    let formed = parts::none_at_all(event);
+    let formed = event.none_at_all();
     if let Err(refusal) = timing::refusal(&state[..], event.port, formed) {
         return Answer::Refused(refusal);
     }

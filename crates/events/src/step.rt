@@ -7,7 +7,7 @@ ghost use Rattle.events.specs.Turn.{Turn};
 
 use crate::{answer_words, kinds, transfer};
 use drive::Answer;
-use parts::Event;
+use parts::{Event, Kind, Work};
 use refusals::Refusal;
 
 const LAST_PORT: u8 = 1;
@@ -26,26 +26,33 @@ pub(crate) fn step(
     if LAST_PORT < event.port {
         return answer_words::tell(Answer::Refused(Refusal::NoSuchPort), telling, out);
     }
-    let kind = event.kind;
-    match kind {
-        1 => answer_words::tell(kinds::on_select(state, event), telling, out),
-        2 => answer_words::tell(kinds::on_deselect(state, event), telling, out),
-        3 => answer_words::tell(kinds::on_data_control(state, event), telling, out),
-        4 => answer_words::tell(
+    match Kind::from(event.kind) {
+        Kind::Select => answer_words::tell(kinds::on_select(state, event), telling, out),
+        Kind::Deselect => answer_words::tell(kinds::on_deselect(state, event), telling, out),
+        Kind::Use(Work::DataControl) => {
+            answer_words::tell(kinds::on_data_control(state, event), telling, out)
+        }
+        Kind::Use(Work::WordFromHost) => answer_words::tell(
             transfer::on_word_from_host(state, event, sectors, staging),
             telling,
             out,
         ),
-        5 => answer_words::tell(
+        Kind::Use(Work::TakeWord) => answer_words::tell(
             transfer::on_take_word(state, event, &sectors[..], &staging[..]),
             telling,
             out,
         ),
-        6 => answer_words::tell(kinds::on_end(state, event), telling, out),
-        7 => answer_words::tell(kinds::on_position(state, event), telling, out),
-        8 => answer_words::tell(kinds::on_target(state, event), telling, out),
-        9 => answer_words::tell(kinds::on_read_status(state, event), telling, out),
-        10 => answer_words::tell(kinds::on_reset(state, event), telling, out),
-        _ => answer_words::tell(Answer::Refused(Refusal::Malformed), telling, out),
+        Kind::Use(Work::End) => answer_words::tell(kinds::on_end(state, event), telling, out),
+        Kind::Use(Work::Position) => {
+            answer_words::tell(kinds::on_position(state, event), telling, out)
+        }
+        Kind::Use(Work::Target) => {
+            answer_words::tell(kinds::on_target(state, event), telling, out)
+        }
+        Kind::Use(Work::ReadStatus) => {
+            answer_words::tell(kinds::on_read_status(state, event), telling, out)
+        }
+        Kind::Reset => answer_words::tell(kinds::on_reset(state, event), telling, out),
+        Kind::Unknown => answer_words::tell(Answer::Refused(Refusal::Malformed), telling, out),
     }
 }

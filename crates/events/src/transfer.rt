@@ -3,7 +3,9 @@
 ghost use Rattle.std.specs.Prelude.{◌≡◌, ◌-◌, ◌<◌, ◌≤◌, true};
 ghost use Rattle.parts.specs.Setup.{sector_start};
 ghost use Rattle.parts.specs.Control.{control_of, is_write, is_read, data_words};
-ghost use Rattle.parts.specs.Kind.{Kind, Work, word_of};
+ghost use Rattle.parts.specs.Kind.{word_of};
+ghost use Rattle.parts.specs.declared.kind.Kind.TheVariants as kind;
+ghost use Rattle.parts.specs.declared.kind.Work.TheVariants as work;
 ghost use Rattle.drive.specs.Transfer.{miscompares, committed, staged, word_staged, word_taken};
 ghost use Rattle.drive.specs.Command.{word_from_host, word_to_host};
 ghost use Rattle.drive.specs.Able.{Able, Room, ReadsAt, unless_own_row, unless_own_row_in};
@@ -26,13 +28,13 @@ pub(crate) fn on_word_from_host(
     staging: &mut [u16],
 ) -> Answer
     requires { Fits state.old sectors.old staging.old × (event.port ≤ 1) }
-    ensures { DidIn state.old (unless_own_row_in (Kind.Use Work.WordFromHost) (drive_in state.old) event sectors.old staging.old (word_from_host (drive_in state.old) event.port (word_of event) sectors.old staging.old)) result state.new sectors.new staging.new }
+    ensures { DidIn state.old (unless_own_row_in (kind.Use work.WordFromHost) (drive_in state.old) event sectors.old staging.old (word_from_host (drive_in state.old) event.port (word_of event) sectors.old staging.old)) result state.new sectors.new staging.new }
 {
-    if let Err(refusal) = timing::stranger(&state[..], event.port, parts::none_after_2(event)) {
+    if let Err(refusal) = timing::stranger(&state[..], event.port, event.none_after_2()) {
         return Answer::Refused(refusal);
     }
     let control = state[layout::CONTROL];
-    let word = parts::word_of(event);
+    let word = event.word();
     if control / 64 == timing::WRITE {
         return stage(state, control, word, sectors, staging);
     }
@@ -157,9 +159,9 @@ pub(crate) fn on_take_word(
     staging: &[u16],
 ) -> Answer
     requires { Fits state.old sectors.now staging.now × (event.port ≤ 1) }
-    ensures { Did state.old (unless_own_row (Kind.Use Work.TakeWord) (drive_in state.old) event (word_to_host (drive_in state.old) event.port sectors.now)) result state.new }
+    ensures { Did state.old (unless_own_row (kind.Use work.TakeWord) (drive_in state.old) event (word_to_host (drive_in state.old) event.port sectors.now)) result state.new }
 {
-    if let Err(refusal) = timing::stranger(&state[..], event.port, parts::none_at_all(event)) {
+    if let Err(refusal) = timing::stranger(&state[..], event.port, event.none_at_all()) {
         return Answer::Refused(refusal);
     }
     let control = state[layout::CONTROL];

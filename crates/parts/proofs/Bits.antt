@@ -7,6 +7,7 @@ use mathlib.Core.List.{List, [], ◌∷◌}
 use native.Mathlib.Omega.{arith}
 use borrow.Author.Tests.{eqb-true, eqb-false}
 use lib.Dec.{eqb}
+use lib.Bits.{bit_or}
 use Rattle.laws.specs.Pick.{pick}
 use Rattle.laws.specs.Lists.{one_of}
 use Rattle.laws.proofs.Pick.{cases}
@@ -21,13 +22,7 @@ one_bit InvalidParameter = bit6
 one_bit UnsupportedBusControl = bit5
 one_bit BusControlContext = bit4
 
-pub positive : {bit : ℕ} → OneBit bit → 0 < bit
-positive bit7 = omega arith
-positive bit6 = omega arith
-positive bit5 = omega arith
-positive bit4 = omega arith
-
-pub has_room : {bit : ℕ} (octet : ℕ) → OneBit bit → octet < 256 → (octet / bit % 2 ≡ 1 → ⊥) → octet + bit < 256
+has_room : {bit : ℕ} (octet : ℕ) → OneBit bit → octet < 256 → (octet / bit % 2 ≡ 1 → ⊥) → octet + bit < 256
 has_room octet bit7 h n = omega arith
 has_room octet bit6 h n = omega arith
 has_room octet bit5 h n = omega arith
@@ -48,6 +43,19 @@ one_of_bits bit7 = refl
 one_of_bits bit6 = refl
 one_of_bits bit5 = refl
 one_of_bits bit4 = refl
+
+-- a bit that goes pending is joined to the octet by `or`
+joins : ℕ → ℕ → Bool
+joins octet bit = eqb (bit_or octet bit) (with_bit octet bit)
+
+all_join : every_below 256 (λ octet. every (joins octet) bits) ≡ true
+unfolding bits joins with_bit pick
+all_join = refl
+
+pub joined_by_or : {bit : ℕ} (octet : ℕ) → OneBit bit → octet < 256 → bit_or octet bit ≡ with_bit octet bit
+unfolding joins
+joined_by_or {bit} octet o h =
+    eqb-true (bit_or octet bit) (with_bit octet bit) (every_one_of (joins octet) bits bit (one_of_bits o) (every_below_lem 256 (λ n. every (joins n) bits) all_join octet h))
 
 keeps : ℕ → ℕ → ℕ → Bool
 keeps octet bit other = not (eqb (octet / other % 2) 1) || eqb (with_bit octet bit / other % 2) 1

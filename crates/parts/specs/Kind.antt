@@ -3,14 +3,10 @@ use Rattle.std.specs.Prelude.{ℕ, ◌+◌, ◌*◌, Bool, true, false, ◌&&◌
 use Rattle.laws.specs.Pick.{pick}
 use Rattle.parts.specs.declared.setup.Place.{Place}
 use Rattle.parts.specs.declared.event.Event.{Event}
-
--- Kinds 3 to 9: what a selected port does.
-pub data Work : Type 0 where
-  DataControl WordFromHost TakeWord End Position Target ReadStatus : Work
-
-pub data Kind : Type 0 where
-  Select Deselect Reset Unknown : Kind
-  Use : Work → Kind
+use Rattle.parts.specs.declared.kind.Kind.{Kind}
+use Rattle.parts.specs.declared.kind.Kind.TheVariants.{Select, Deselect, Reset, Unknown, Use}
+use Rattle.parts.specs.declared.kind.Work.{Work}
+use Rattle.parts.specs.declared.kind.Work.TheVariants.{DataControl, WordFromHost, TakeWord, End, Position, Target, ReadStatus}
 
 -- "1 Select(octet), 2 Deselect, 3 Data control(octet), 4 Word from host, 5 Take a word, 6 End, 7 Position(cylinder, head, sector),
 -- 8 Target(sector or FFFF), 9 Read status, 10 Reset."

@@ -9,7 +9,7 @@ use crate::control::Control;
 const FIRST_RESPONSE: u16 = 0x40;
 
 // What the word of Load Drive Function asks for.
-#[derive(Clone, Copy)]
+#[derive(Clone, Copy, Debug, PartialEq, Eq)]
 pub enum Function {
     PriorityReserve,
     Reserve,
@@ -39,25 +39,19 @@ pub(crate) fn code_of(code: u16) -> Control
 fn is_command(code: u16) -> bool
     ensures { result ≡ one_of commands code }
 {
-    (code == 0x01) | (code == 0x04) | (code == 0x05) | (code == 0x06) | (code == 0x07)
+    matches!(code, 0x01 | 0x04..=0x07)
 }
 
 fn is_response(code: u16) -> bool
     ensures { result ≡ one_of responses code }
 {
-    (code == 0x44) | (code == 0x46) | (code == 0x47)
+    matches!(code, 0x44 | 0x46 | 0x47)
 }
 
 fn acts_on_more(code: u16) -> bool
     ensures { result ≡ one_of codes_acting_on_more code }
 {
-    (code == 0x02)
-        | (code == 0x03)
-        | (code == 0x41)
-        | (code == 0x42)
-        | (code == 0x43)
-        | (code == 0x45)
-        | (code == 0x48)
+    matches!(code, 0x02 | 0x03 | 0x41..=0x43 | 0x45 | 0x48)
 }
 
 // The words of a command or response, 0 for what is neither.
@@ -128,33 +122,16 @@ fn listed_as(code: u16) -> Function
 fn function_acts_on_more(code: u16) -> bool
     ensures { result ≡ one_of functions_acting_on_more code }
 {
-    (code == 0x10)
-        | (code == 0x11)
-        | (code == 0x12)
-        | (code == 0x16)
-        | (code == 0x18)
-        | (code == 0x19)
-        | (code == 0x1a)
-        | (code == 0x1b)
-        | (code == 0x1c)
-        | (code == 0x1d)
-        | (code == 0x1e)
-        | (code == 0x1f)
-        | (code == 0x22)
-        | (code == 0x23)
-        | (code == 0x29)
-        | (code == 0x2b)
-        | (code == 0x2c)
-        | (code == 0x2d)
-        | (code == 0x41)
-        | (code == 0x42)
-        | (code == 0x43)
-        | (code == 0x44)
-        | (code == 0x45)
-        | (code == 0x46)
-        | (code == 0x47)
-        | (code == 0x48)
-        | (code == 0x49)
-        | (code == 0x4a)
-        | (code == 0x81)
+    matches!(
+        code,
+        0x10..=0x12
+            | 0x16
+            | 0x18..=0x1f
+            | 0x22
+            | 0x23
+            | 0x29
+            | 0x2b..=0x2d
+            | 0x41..=0x4a
+            | 0x81
+    )
 }

@@ -5,7 +5,7 @@ ghost use Rattle.parts.specs.Control.{control_of, ControlSaid, is_data, is_write
 use crate::command;
 use crate::setup::Setup;
 
-#[derive(Clone, Copy)]
+#[derive(Clone, Copy, Debug, PartialEq, Eq)]
 pub enum Control {
     Write,
     Read,

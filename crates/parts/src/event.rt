@@ -1,9 +1,9 @@
 // An event of a port, and what its octets say.
-ghost use Rattle.std.specs.Prelude.{◌+◌, ◌*◌, ◌≡◌};
+ghost use Rattle.std.specs.Prelude.{◌≡◌};
 ghost use Rattle.parts.specs.Kind.{none_after1, none_after2, none_at_all, word_of};
 ghost use Rattle.parts.specs.Tests.{is_misaddressed, changes_mode};
 
-#[derive(Clone, Copy)]
+#[derive(Clone, Copy, Debug, PartialEq, Eq)]
 pub struct Event {
     pub port: u8,
     pub kind: u8,
@@ -13,29 +13,31 @@ pub struct Event {
     pub a3: u8,
 }
 
-pub fn none_after_1(event: Event) -> bool
-    ensures { result ≡ none_after1 event }
-{
-    (event.a1 == 0) & (event.a2 == 0) & (event.a3 == 0)
-}
+impl Event {
+    pub fn none_after_1(self) -> bool
+        ensures { result ≡ none_after1 self }
+    {
+        (self.a1 == 0) & (self.a2 == 0) & (self.a3 == 0)
+    }
 
-pub fn none_after_2(event: Event) -> bool
-    ensures { result ≡ none_after2 event }
-{
-    (event.a2 == 0) & (event.a3 == 0)
-}
+    pub fn none_after_2(self) -> bool
+        ensures { result ≡ none_after2 self }
+    {
+        (self.a2 == 0) & (self.a3 == 0)
+    }
 
-pub fn none_at_all(event: Event) -> bool
-    ensures { result ≡ none_at_all event }
-{
-    (event.a0 == 0) & (event.a1 == 0) & (event.a2 == 0) & (event.a3 == 0)
-}
+    pub fn none_at_all(self) -> bool
+        ensures { result ≡ none_at_all self }
+    {
+        (self.a0 == 0) & (self.a1 == 0) & (self.a2 == 0) & (self.a3 == 0)
+    }
 
-// A word of two octets, high first.
-pub fn word_of(event: Event) -> u16
-    ensures { result ≡ word_of event }
-{
-    event.a0 as u16 * 256 + event.a1 as u16
+    // A word of two octets, high first.
+    pub fn word(self) -> u16
+        ensures { result ≡ word_of self }
+    {
+        u16::from_be_bytes([self.a0, self.a1])
+    }
 }
 
 pub fn is_misaddressed(octet: u8, address: u16) -> bool

@@ -2,7 +2,7 @@
 ghost use Rattle.std.specs.Prelude.{◌≡◌};
 ghost use Rattle.parts.specs.Holding.{priority_hold, priority_select, hold_set, holds_against, is_owned_by_other, is_busy, Granted, NotHeld, Released};
 
-#[derive(Clone, Copy)]
+#[derive(Clone, Copy, Debug, PartialEq, Eq)]
 pub enum Hold {
     None,
     Plain,
@@ -12,7 +12,7 @@ pub enum Hold {
 // Ports are 0 and 1.
 pub const NOBODY: u16 = 2;
 
-#[derive(Clone, Copy)]
+#[derive(Clone, Copy, Debug, PartialEq, Eq)]
 pub struct Holding {
     pub selected: u16,
     pub owner: u16,
@@ -93,18 +93,11 @@ impl Holding {
     pub fn released(self) -> Holding
         ensures { Released self result }
     {
-        let hold = self.hold;
-        match hold {
+        match self.hold {
             Hold::None => no_holding(),
-            Hold::Plain => Holding {
+            Hold::Plain | Hold::Strong => Holding {
                 selected: NOBODY,
-                owner: self.owner,
-                hold: Hold::Plain,
-            },
-            Hold::Strong => Holding {
-                selected: NOBODY,
-                owner: self.owner,
-                hold: Hold::Strong,
+                ..self
             },
         }
     }

@@ -5,6 +5,7 @@ mod command;
 mod control;
 mod event;
 mod holding;
+mod kind;
 mod pending;
 mod refusal;
 mod setup;
@@ -15,10 +16,9 @@ pub use control::{
     Control, control_of, header_passes, is_at_target, is_data, is_read, is_write, moves_header,
     names_field1, names_field2, part_of, verifies_header,
 };
-pub use event::{
-    Event, changes_mode, is_misaddressed, none_after_1, none_after_2, none_at_all, word_of,
-};
+pub use event::{Event, changes_mode, is_misaddressed};
 pub use holding::{Hold, Holding, NOBODY, granted_to, no_holding};
+pub use kind::{Kind, Work};
 pub use pending::{Fault, Pending, RESET_COMPLETE};
 pub use refusal::{SLICE_TOO_SHORT, inside_refusal, select_refusal};
 pub use setup::{NO_TARGET, Place, Setup, next_of};

@@ -2,14 +2,14 @@
 ghost use Rattle.std.specs.Prelude.{◌≡◌};
 ghost use Rattle.parts.specs.Pending.{OneBit, with_bit, bit_of, noticed, faulted, octet0};
 
-#[derive(Clone, Copy)]
+#[derive(Clone, Copy, Debug, PartialEq, Eq)]
 pub struct Pending {
     pub octet1: u8,
     pub octet2: u8,
 }
 
 // What is wrong with a bad request: each has its bit of octet 2.
-#[derive(Clone, Copy)]
+#[derive(Clone, Copy, Debug, PartialEq, Eq)]
 pub enum Fault {
     InvalidBusControl,
     InvalidParameter,
@@ -50,7 +50,7 @@ impl Pending {
     {
         Pending {
             octet1: self.octet1,
-            octet2: with_bit(self.octet2, bit_of(fault)),
+            octet2: with_bit(self.octet2, u8::from(fault)),
         }
     }
 
@@ -70,14 +70,16 @@ impl Pending {
     }
 }
 
-fn bit_of(fault: Fault) -> u8
-    ensures { result ≡ bit_of fault }
-{
-    match fault {
-        Fault::InvalidBusControl => INVALID_BUS_CONTROL,
-        Fault::InvalidParameter => INVALID_PARAMETER,
-        Fault::UnsupportedBusControl => UNSUPPORTED_BUS_CONTROL,
-        Fault::BusControlContext => BUS_CONTROL_CONTEXT,
+impl From<Fault> for u8 {
+    ghost from_gives = { λ fault bit. bit ≡ bit_of fault };
+
+    fn from(fault: Fault) -> u8 {
+        match fault {
+            Fault::InvalidBusControl => INVALID_BUS_CONTROL,
+            Fault::InvalidParameter => INVALID_PARAMETER,
+            Fault::UnsupportedBusControl => UNSUPPORTED_BUS_CONTROL,
+            Fault::BusControlContext => BUS_CONTROL_CONTEXT,
+        }
     }
 }
 
@@ -85,8 +87,5 @@ fn with_bit(octet: u8, bit: u8) -> u8
     requires { OneBit bit }
     ensures { result ≡ with_bit octet bit }
 {
-    if octet / bit % 2 == 1 {
-        return octet;
-    }
-    octet + bit
+    octet | bit
 }

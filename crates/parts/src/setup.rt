@@ -2,7 +2,7 @@
 ghost use Rattle.std.specs.Prelude.{◌≡◌, true};
 ghost use Rattle.parts.specs.Setup.{between, within_limits, sector_words, all_words, lacks_room, sector_number, sector_start, is_place, is_target, following};
 
-#[derive(Clone, Copy)]
+#[derive(Clone, Copy, Debug, PartialEq, Eq)]
 pub struct Setup {
     pub cylinders: u16,
     pub heads: u16,
@@ -13,7 +13,7 @@ pub struct Setup {
     pub address: u16,
 }
 
-#[derive(Clone, Copy)]
+#[derive(Clone, Copy, Debug, PartialEq, Eq)]
 pub struct Place {
     pub cylinder: u16,
     pub head: u16,

@@ -3,7 +3,7 @@ ghost use Rattle.std.specs.Prelude.{◌≡◌};
 ghost use Rattle.parts.specs.Tests.{no_transfer};
 
 // The words of a command before its last one, 0 wherever they stand for nothing.
-#[derive(Clone, Copy)]
+#[derive(Clone, Copy, Debug, PartialEq, Eq)]
 pub struct Parameters {
     pub word0: u16,
     pub word1: u16,
@@ -11,7 +11,7 @@ pub struct Parameters {
 }
 
 // Control 0 with no words moved is none.
-#[derive(Clone, Copy)]
+#[derive(Clone, Copy, Debug, PartialEq, Eq)]
 pub struct Transfer {
     pub control: u16,
     pub moved: u16,

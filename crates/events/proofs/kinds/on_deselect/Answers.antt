@@ -3,7 +3,7 @@
 use Rattle.std.proofs.Common.{refl, ◌∙◌}
 use Rattle.events.proofs.Done.{did_accepted, did_refused}
 use Rattle.events.proofs.Timely.{number_as, timely_told}
-use Rattle.parts.specs.Kind.{Deselect}
+use Rattle.parts.specs.declared.kind.Kind.TheVariants.{Deselect}
 use Rattle.events.proofs.kinds.on_deselect.Goals as goal
 
 pub returns-in-Err : goal.returns-in-Err

@@ -1,7 +1,8 @@
 -- `on_end` meets its contract.
 -- Assumes nothing.
 use Rattle.std.proofs.Common.{sym, ◌∙◌}
-use Rattle.parts.specs.Kind.{End, Use}
+use Rattle.parts.specs.declared.kind.Kind.TheVariants.{Use}
+use Rattle.parts.specs.declared.kind.Work.TheVariants.{End}
 use Rattle.events.specs.State.{drive_in}
 use Rattle.events.proofs.Done.{did_accepted, did_refused}
 use Rattle.events.proofs.Exchanges.{did_ended, did_cut}

@@ -2,7 +2,8 @@
 -- Assumes nothing.
 use Rattle.events.proofs.Done.{did_accepted, did_refused}
 use Rattle.events.proofs.Timely.{number_as, timely_told}
-use Rattle.parts.specs.Kind.{Use, Position}
+use Rattle.parts.specs.declared.kind.Kind.TheVariants.{Use}
+use Rattle.parts.specs.declared.kind.Work.TheVariants.{Position}
 use Rattle.std.proofs.Common.{true, refl}
 use Rattle.events.proofs.kinds.on_position.Goals as goal
 
@@ -12,4 +13,4 @@ returns-in-Err c =
 
 pub returns : goal.returns
 returns c =
-    did_accepted (Use Position) _ _ _ (number_as _ {formed = true} c.in_default.ensures refl (timely_told c.requires.0).one) (rw c.word_of.ensures at c.move_to.ensures)
+    did_accepted (Use Position) _ _ _ (number_as _ {formed = true} c.in_default.ensures refl (timely_told c.requires.0).one) (rw c.word.ensures at c.move_to.ensures)

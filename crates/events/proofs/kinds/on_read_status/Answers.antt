@@ -2,7 +2,8 @@
 -- Assumes nothing.
 use Rattle.events.proofs.Done.{did_accepted, did_refused}
 use Rattle.events.proofs.Timely.{number_as, timely_told}
-use Rattle.parts.specs.Kind.{Use, ReadStatus}
+use Rattle.parts.specs.declared.kind.Kind.TheVariants.{Use}
+use Rattle.parts.specs.declared.kind.Work.TheVariants.{ReadStatus}
 use Rattle.events.proofs.kinds.on_read_status.Goals as goal
 
 pub returns-in-Err : goal.returns-in-Err

@@ -3,7 +3,7 @@
 use Rattle.std.proofs.Common.{refl, ◌∙◌}
 use Rattle.events.proofs.Done.{did_refused, did_accepted}
 use Rattle.refusals.specs.declared.refusal.Refusal.TheVariants.{Malformed}
-use Rattle.parts.specs.Kind.{Reset}
+use Rattle.parts.specs.declared.kind.Kind.TheVariants.{Reset}
 use Rattle.laws.specs.Pick.{pick}
 use Rattle.events.proofs.kinds.on_reset.Goals as goal
 

@@ -1,7 +1,7 @@
 -- `on_select` meets its contract.
 -- Assumes nothing.
 use Rattle.events.proofs.Done.{did_refused, did_accepted}
-use Rattle.parts.specs.Kind.{Select}
+use Rattle.parts.specs.declared.kind.Kind.TheVariants.{Select}
 use Rattle.std.proofs.Common.{refl, ◌∙◌}
 use Rattle.events.proofs.kinds.on_select.Goals as goal
 

@@ -2,7 +2,8 @@
 -- Assumes nothing.
 use Rattle.events.proofs.Done.{did_accepted, did_refused}
 use Rattle.events.proofs.Timely.{number_as, timely_told}
-use Rattle.parts.specs.Kind.{Use, Target}
+use Rattle.parts.specs.declared.kind.Kind.TheVariants.{Use}
+use Rattle.parts.specs.declared.kind.Work.TheVariants.{Target}
 use Rattle.events.proofs.kinds.on_target.Goals as goal
 
 pub returns-in-Err : goal.returns-in-Err
@@ -11,4 +12,4 @@ returns-in-Err c =
 
 pub returns : goal.returns
 returns c =
-    did_accepted (Use Target) _ _ _ (number_as _ c.in_default.ensures c.none_after_2-formed.ensures (timely_told c.requires.0).one) (rw c.word_of.ensures at c.aim_at.ensures)
+    did_accepted (Use Target) _ _ _ (number_as _ c.in_default.ensures c.none_after_2-formed.ensures (timely_told c.requires.0).one) (rw c.word.ensures at c.aim_at.ensures)

@@ -2,68 +2,55 @@
 -- Assumes nothing.
 use Rattle.events.proofs.Answering.{step_told}
 use Rattle.events.proofs.Steps.{refused_1, refused_8, stepped, stepped_in}
-use Rattle.parts.specs.Kind.{DataControl, Deselect, End, Position, ReadStatus, Reset, Select, TakeWord, Target, Use, WordFromHost, kind_of}
-use Rattle.laws.specs.Pick.{pick}
-use Rattle.std.proofs.Common.{refl, le-ltb, lt-ltb, ne_eqb}
+use Rattle.parts.specs.declared.kind.Kind.TheVariants.{Deselect, Reset, Select, Use}
+use Rattle.parts.specs.declared.kind.Work.TheVariants.{DataControl, End, Position, ReadStatus, TakeWord, Target, WordFromHost}
+use Rattle.std.proofs.Common.{sym, refl, le-ltb, lt-ltb}
 use Rattle.events.proofs.step.step.Goals as goal
 
 pub returns-then-event-gt-LAST_PORT : goal.returns-then-event-gt-LAST_PORT
-unfolding kind_of pick
 returns-then-event-gt-LAST_PORT c =
     step_told c.requires.0 (refused_1 _ _ _ _ c.requires.0 (lt-ltb _ _ c.if-event-gt-LAST_PORT.true)) c.tell.ensures
 
-pub returns-in-1 : goal.returns-in-1
-unfolding kind_of pick
-returns-in-1 c =
-    step_told c.requires.0 (stepped _ _ _ _ Select _ c.requires.0 (le-ltb _ _ c.if-event-gt-LAST_PORT.false) (rw c.in-1.is) c.on_select.ensures refl) c.tell-in-1.ensures
+pub returns-in-Select : goal.returns-in-Select
+returns-in-Select c =
+    step_told c.requires.0 (stepped _ _ _ _ Select _ c.requires.0 (le-ltb _ _ c.if-event-gt-LAST_PORT.false) (sym c.in-Select.ensures) c.on_select.ensures refl) c.tell-in-Select.ensures
 
-pub returns-in-2 : goal.returns-in-2
-unfolding kind_of pick
-returns-in-2 c =
-    step_told c.requires.0 (stepped _ _ _ _ Deselect _ c.requires.0 (le-ltb _ _ c.if-event-gt-LAST_PORT.false) (rw c.in-2.is) c.on_deselect.ensures refl) c.tell-in-2.ensures
+pub returns-in-Deselect : goal.returns-in-Deselect
+returns-in-Deselect c =
+    step_told c.requires.0 (stepped _ _ _ _ Deselect _ c.requires.0 (le-ltb _ _ c.if-event-gt-LAST_PORT.false) (sym c.in-Deselect.ensures) c.on_deselect.ensures refl) c.tell-in-Deselect.ensures
 
-pub returns-in-3 : goal.returns-in-3
-unfolding kind_of pick
-returns-in-3 c =
-    step_told c.requires.0 (stepped _ _ _ _ (Use DataControl) _ c.requires.0 (le-ltb _ _ c.if-event-gt-LAST_PORT.false) (rw c.in-3.is) c.on_data_control.ensures refl) c.tell-in-3.ensures
+pub returns-in-Use-DataControl : goal.returns-in-Use-DataControl
+returns-in-Use-DataControl c =
+    step_told c.requires.0 (stepped _ _ _ _ (Use DataControl) _ c.requires.0 (le-ltb _ _ c.if-event-gt-LAST_PORT.false) (sym (rw c.in-Use-DataControl.field-0-is at c.in-Use-DataControl.ensures)) c.on_data_control.ensures refl) c.tell-in-Use-DataControl.ensures
 
-pub returns-in-4 : goal.returns-in-4
-unfolding kind_of pick
-returns-in-4 c =
-    step_told c.requires.0 (stepped_in _ _ _ _ (Use WordFromHost) c.requires.0 (le-ltb _ _ c.if-event-gt-LAST_PORT.false) (rw c.in-4.is) c.on_word_from_host.ensures) c.tell-in-4.ensures
+pub returns-in-Use-WordFromHost : goal.returns-in-Use-WordFromHost
+returns-in-Use-WordFromHost c =
+    step_told c.requires.0 (stepped_in _ _ _ _ (Use WordFromHost) c.requires.0 (le-ltb _ _ c.if-event-gt-LAST_PORT.false) (sym (rw c.in-Use-WordFromHost.field-0-is at c.in-Use-WordFromHost.ensures)) c.on_word_from_host.ensures) c.tell-in-Use-WordFromHost.ensures
 
-pub returns-in-5 : goal.returns-in-5
-unfolding kind_of pick
-returns-in-5 c =
-    step_told c.requires.0 (stepped _ _ _ _ (Use TakeWord) _ c.requires.0 (le-ltb _ _ c.if-event-gt-LAST_PORT.false) (rw c.in-5.is) c.on_take_word.ensures refl) c.tell-in-5.ensures
+pub returns-in-Use-TakeWord : goal.returns-in-Use-TakeWord
+returns-in-Use-TakeWord c =
+    step_told c.requires.0 (stepped _ _ _ _ (Use TakeWord) _ c.requires.0 (le-ltb _ _ c.if-event-gt-LAST_PORT.false) (sym (rw c.in-Use-TakeWord.field-0-is at c.in-Use-TakeWord.ensures)) c.on_take_word.ensures refl) c.tell-in-Use-TakeWord.ensures
 
-pub returns-in-6 : goal.returns-in-6
-unfolding kind_of pick
-returns-in-6 c =
-    step_told c.requires.0 (stepped _ _ _ _ (Use End) _ c.requires.0 (le-ltb _ _ c.if-event-gt-LAST_PORT.false) (rw c.in-6.is) c.on_end.ensures refl) c.tell-in-6.ensures
+pub returns-in-Use-End : goal.returns-in-Use-End
+returns-in-Use-End c =
+    step_told c.requires.0 (stepped _ _ _ _ (Use End) _ c.requires.0 (le-ltb _ _ c.if-event-gt-LAST_PORT.false) (sym (rw c.in-Use-End.field-0-is at c.in-Use-End.ensures)) c.on_end.ensures refl) c.tell-in-Use-End.ensures
 
-pub returns-in-7 : goal.returns-in-7
-unfolding kind_of pick
-returns-in-7 c =
-    step_told c.requires.0 (stepped _ _ _ _ (Use Position) _ c.requires.0 (le-ltb _ _ c.if-event-gt-LAST_PORT.false) (rw c.in-7.is) c.on_position.ensures refl) c.tell-in-7.ensures
+pub returns-in-Use-Position : goal.returns-in-Use-Position
+returns-in-Use-Position c =
+    step_told c.requires.0 (stepped _ _ _ _ (Use Position) _ c.requires.0 (le-ltb _ _ c.if-event-gt-LAST_PORT.false) (sym (rw c.in-Use-Position.field-0-is at c.in-Use-Position.ensures)) c.on_position.ensures refl) c.tell-in-Use-Position.ensures
 
-pub returns-in-8 : goal.returns-in-8
-unfolding kind_of pick
-returns-in-8 c =
-    step_told c.requires.0 (stepped _ _ _ _ (Use Target) _ c.requires.0 (le-ltb _ _ c.if-event-gt-LAST_PORT.false) (rw c.in-8.is) c.on_target.ensures refl) c.tell-in-8.ensures
+pub returns-in-Use-Target : goal.returns-in-Use-Target
+returns-in-Use-Target c =
+    step_told c.requires.0 (stepped _ _ _ _ (Use Target) _ c.requires.0 (le-ltb _ _ c.if-event-gt-LAST_PORT.false) (sym (rw c.in-Use-Target.field-0-is at c.in-Use-Target.ensures)) c.on_target.ensures refl) c.tell-in-Use-Target.ensures
 
-pub returns-in-9 : goal.returns-in-9
-unfolding kind_of pick
-returns-in-9 c =
-    step_told c.requires.0 (stepped _ _ _ _ (Use ReadStatus) _ c.requires.0 (le-ltb _ _ c.if-event-gt-LAST_PORT.false) (rw c.in-9.is) c.on_read_status.ensures refl) c.tell-in-9.ensures
+pub returns-in-Use-ReadStatus : goal.returns-in-Use-ReadStatus
+returns-in-Use-ReadStatus c =
+    step_told c.requires.0 (stepped _ _ _ _ (Use ReadStatus) _ c.requires.0 (le-ltb _ _ c.if-event-gt-LAST_PORT.false) (sym (rw c.in-Use-ReadStatus.field-0-is at c.in-Use-ReadStatus.ensures)) c.on_read_status.ensures refl) c.tell-in-Use-ReadStatus.ensures
 
-pub returns-in-10 : goal.returns-in-10
-unfolding kind_of pick
-returns-in-10 c =
-    step_told c.requires.0 (stepped _ _ _ _ Reset _ c.requires.0 (le-ltb _ _ c.if-event-gt-LAST_PORT.false) (rw c.in-10.is) c.on_reset.ensures refl) c.tell-in-10.ensures
+pub returns-in-Reset : goal.returns-in-Reset
+returns-in-Reset c =
+    step_told c.requires.0 (stepped _ _ _ _ Reset _ c.requires.0 (le-ltb _ _ c.if-event-gt-LAST_PORT.false) (sym c.in-Reset.ensures) c.on_reset.ensures refl) c.tell-in-Reset.ensures
 
-pub returns-in_default : goal.returns-in_default
-unfolding kind_of pick
-returns-in_default c =
-    let none = c.in_default.in_default-own.rest in
-    step_told c.requires.0 (refused_8 _ _ _ _ c.requires.0 (le-ltb _ _ c.if-event-gt-LAST_PORT.false) (rw (ne_eqb _ 1 none.0.0.0.0.0.0.0.0.0.1, ne_eqb _ 2 none.0.0.0.0.0.0.0.0.1, ne_eqb _ 3 none.0.0.0.0.0.0.0.1, ne_eqb _ 4 none.0.0.0.0.0.0.1, ne_eqb _ 5 none.0.0.0.0.0.1, ne_eqb _ 6 none.0.0.0.0.1, ne_eqb _ 7 none.0.0.0.1, ne_eqb _ 8 none.0.0.1, ne_eqb _ 9 none.0.1, ne_eqb _ 10 none.1))) c.tell-in_default.ensures
+pub returns-in-Unknown : goal.returns-in-Unknown
+returns-in-Unknown c =
+    step_told c.requires.0 (refused_8 _ _ _ _ c.requires.0 (le-ltb _ _ c.if-event-gt-LAST_PORT.false) (sym c.in-Unknown.ensures)) c.tell-in-Unknown.ensures

@@ -2,7 +2,8 @@
 -- Assumes nothing.
 use Rattle.std.proofs.Common.{not, ap}
 use Rattle.refusals.specs.declared.refusal.Refusal.TheVariants.{TransferOpenOrNot}
-use Rattle.parts.specs.Kind.{TakeWord, Use}
+use Rattle.parts.specs.declared.kind.Kind.TheVariants.{Use}
+use Rattle.parts.specs.declared.kind.Work.TheVariants.{TakeWord}
 use Rattle.drive.proofs.Own.{able_to_read}
 use Rattle.events.specs.State.{drive_in}
 use Rattle.events.proofs.Done.{did_accepted, did_refused, fit}

@@ -2,7 +2,8 @@
 -- Assumes nothing.
 use Rattle.std.proofs.Common.{not, refl, ap}
 use Rattle.refusals.specs.declared.refusal.Refusal.TheVariants.{TransferOpenOrNot}
-use Rattle.parts.specs.Kind.{Use, WordFromHost}
+use Rattle.parts.specs.declared.kind.Kind.TheVariants.{Use}
+use Rattle.parts.specs.declared.kind.Work.TheVariants.{WordFromHost}
 use Rattle.events.specs.State.{drive_in}
 use Rattle.events.proofs.Done.{did_accepted_in, did_refused_in, fit}
 use Rattle.events.proofs.Exchanges.{did_write, did_command}
@@ -23,7 +24,7 @@ pub returns-then-control-eq-WRITE : goal.returns-then-control-eq-WRITE
 unfolding drive_in
 returns-then-control-eq-WRITE c =
     let w = written {t = (drive_in c.args.state.now).transfer} refl (write_sent (timely_told (fit c.requires.0)) c.if-control-eq-WRITE.true) in
-    did_accepted_in (Use WordFromHost) _ _ _ _ _ (number_passed _ _ c.in_default.ensures c.none_after_2.ensures (ap not w.takes)) (did_write _ _ _ _ w.high (rw c.word_of-word.ensures at c.stage.ensures))
+    did_accepted_in (Use WordFromHost) _ _ _ _ _ (number_passed _ _ c.in_default.ensures c.none_after_2.ensures (ap not w.takes)) (did_write _ _ _ _ w.high (rw c.word-word.ensures at c.stage.ensures))
 
 pub returns-then-control : goal.returns-then-control
 unfolding drive_in
@@ -41,4 +42,4 @@ pub returns : goal.returns
 unfolding drive_in
 returns c =
     let told = command_sent (timely_told (fit c.requires.0)) c.if-control.false in
-    did_accepted_in (Use WordFromHost) _ _ _ _ _ (number_passed _ _ c.in_default.ensures c.none_after_2.ensures (ap not told.takes)) (did_command _ _ _ _ told.low (rw c.word_of-word.ensures at c.send.ensures))
+    did_accepted_in (Use WordFromHost) _ _ _ _ _ (number_passed _ _ c.in_default.ensures c.none_after_2.ensures (ap not told.takes)) (did_command _ _ _ _ told.low (rw c.word-word.ensures at c.send.ensures))

@@ -5,7 +5,7 @@ use Rattle.parts.proofs.Bits.{one_bit}
 use Rattle.parts.proofs.pending.Pending.faulted.Goals as goal
 
 pub with_bit-requires : goal.with_bit-requires
-with_bit-requires c = rw c.bit_of.ensures (one_bit c.args.fault)
+with_bit-requires c = rw c.from.ensures (one_bit c.args.fault)
 
 pub returns : goal.returns
 unfolding faulted
