@@ -7,6 +7,7 @@ ghost use Rattle.status.specs.DriveStatus.{is_drive_status, status_of};
 ghost use Rattle.refusals.specs.Refusal.{refusal_in};
 ghost use Rattle.events.specs.Turn.{Telling, Told};
 
+use crate::state;
 use drive::Answer;
 use parts::Place;
 use refusals::Refusal;
@@ -113,7 +114,7 @@ fn put_response(octet0: u8, octet1: u8, octet2: u8, out: &mut [u16])
     put_done(out);
     out[1] = u8::from(DriveStatus::Normal) as u16;
     out[8] = 1;
-    out[9] = octet0 as u16 * 256 + octet1 as u16;
+    out[9] = state::word(octet0, octet1);
     out[10] = octet2 as u16 * 256;
 }
 
@@ -185,9 +186,7 @@ fn status_in(word: u16) -> DriveStatus
 fn response_in(first: u16, second: u16) -> Answer
     ensures { result ≡ answer.Response (first / 256) (first % 256) (second / 256) }
 {
-    Answer::Response(
-        (first / 256) as u8,
-        (first % 256) as u8,
-        (second / 256) as u8,
-    )
+    let [octet0, octet1] = first.to_be_bytes();
+    let [octet2, _] = second.to_be_bytes();
+    Answer::Response(octet0, octet1, octet2)
 }

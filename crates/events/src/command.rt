@@ -14,7 +14,17 @@ use drive::Answer;
 use parts::{Fault, Function, Parameters, Place, Transfer};
 use status::DriveStatus;
 
+const LOAD_DRIVE_FUNCTION: u16 = 0x01;
+
+const LOAD_CYLINDER_ADDRESS: u16 = 0x04;
+
+const LOAD_HEAD_ADDRESS: u16 = 0x05;
+
+const LOAD_TARGET_SECTOR_ADDRESS: u16 = 0x06;
+
 pub(crate) const READ_STATUS: u16 = 0x44;
+
+const READ_CURRENT_SECTOR_ADDRESS: u16 = 0x46;
 
 // ---- commands
 
@@ -73,10 +83,11 @@ fn obey(state: &mut [u16], port: u8, t: Transfer, word: u16) -> DriveStatus
     let here = state::place_in(&state[..]);
     let target = state[layout::TARGET];
     match control {
-        0x01 => perform(state, port, word),
-        0x04 => seek(state, port, p.word0, word, here.head, target),
-        0x05 => seek(state, port, 0, here.cylinder, word, target),
-        0x06 => seek(state, port, 0, here.cylinder, here.head, word),
+        LOAD_DRIVE_FUNCTION => perform(state, port, word),
+        LOAD_CYLINDER_ADDRESS => seek(state, port, p.word0, word, here.head, target),
+        LOAD_HEAD_ADDRESS => seek(state, port, 0, here.cylinder, word, target),
+        LOAD_TARGET_SECTOR_ADDRESS => seek(state, port, 0, here.cylinder, here.head, word),
+        // Load Position.
         _ => seek(state, port, p.word0, p.word1, p.word2, word),
     }
 }
@@ -184,8 +195,8 @@ fn word_told(state: &[u16], port: u8, control: u16, moved: u16) -> u16
     ensures { result ≡ slice_index (words_told control (pending_on (drive_in state.now) port) (drive_in state.now).place (drive_in state.now).target) moved }
 {
     match control {
-        0x44 => status_word(state, port, moved),
-        0x46 => state[layout::SECTOR],
+        READ_STATUS => status_word(state, port, moved),
+        READ_CURRENT_SECTOR_ADDRESS => state[layout::SECTOR],
         _ => position_word(state, moved),
     }
 }
@@ -197,7 +208,7 @@ fn status_word(state: &[u16], port: u8, moved: u16) -> u16
     let at = layout::PENDING_0 + port as usize;
     let pending = state::pending_in(state[at]);
     match moved {
-        0 => pending.octet0() as u16 * 256 + pending.octet1 as u16,
+        0 => state::word(pending.octet0(), pending.octet1),
         1 => pending.octet2 as u16 * 256,
         _ => 0,
     }

@@ -63,12 +63,10 @@ fn put_gaps(records: &[u8], from: usize, count: usize, gaps: &mut [u16])
     ensures { gaps.new ≡ written_over gaps.old (table_from (gap_at records.now) from count) }
 {
     let mut earlier = tick_before(records, from);
-    let mut i = 0;
-    while i < count {
+    for i in 0..count {
         let later = tick_at(records, from + i);
         gaps[i] = std::num::wrapping_sub_u16(later, earlier);
         earlier = later;
-        i += 1;
     }
 }
 
@@ -88,15 +86,5 @@ fn tick_at(records: &[u8], index: usize) -> u16
     ensures { result ≡ tick_at records.now index }
 {
     let at = event::RECORD_OCTETS * index;
-    word(records[at], records[at + 1])
-}
-
-// The octets as they lie in memory are one load, and the middle of that pair written twice is the pair changed over. Said so, the compiler makes
-// eight gaps at a time; said as `high * 256 + low` it loads each octet by itself, nearly twice the instructions.
-fn word(high: u8, low: u8) -> u16
-    ensures { result ≡ high * 256 + low }
-{
-    let pair = low as u32 * 256 + high as u32;
-    let twice = pair * 65_536 + pair;
-    (twice / 256 % 65_536) as u16
+    state::word(records[at], records[at + 1])
 }

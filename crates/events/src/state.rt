@@ -1,5 +1,5 @@
 // The 21 words of the state: read into a drive, and written from one.
-ghost use Rattle.std.specs.Prelude.{◌≡◌, ◌≤◌, length};
+ghost use Rattle.std.specs.Prelude.{◌≡◌, ◌+◌, ◌*◌, ◌≤◌, length};
 ghost use Rattle.laws.specs.Lists.{written_over};
 ghost use Rattle.events.specs.State.{hold_word, hold_of, pending_word, pending_in, selected_in, drive_in, state_words, moved_to};
 
@@ -140,6 +140,7 @@ fn selected_in(state: &[u16]) -> u16
     NO_PORT
 }
 
+// Functions and no `From`, here and below: the types are of another crate, and which word tells them is a matter of the layout.
 fn hold_of(word: u16) -> Hold
     ensures { result ≡ hold_of word }
 {
@@ -163,14 +164,19 @@ fn hold_word(hold: Hold) -> u16
 pub(crate) fn pending_in(word: u16) -> Pending
     ensures { result ≡ pending_in word }
 {
-    Pending {
-        octet1: (word / 256) as u8,
-        octet2: (word % 256) as u8,
-    }
+    let [octet1, octet2] = word.to_be_bytes();
+    Pending { octet1, octet2 }
 }
 
 pub(crate) fn pending_word(pending: Pending) -> u16
     ensures { result ≡ pending_word pending }
 {
-    pending.octet1 as u16 * 256 + pending.octet2 as u16
+    word(pending.octet1, pending.octet2)
+}
+
+// Two octets, high first.
+pub(crate) fn word(high: u8, low: u8) -> u16
+    ensures { result ≡ high * 256 + low }
+{
+    u16::from_be_bytes([high, low])
 }

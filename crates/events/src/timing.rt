@@ -9,7 +9,8 @@ ghost use Rattle.events.specs.Fit.{Fit};
 use crate::layout;
 use refusals::Refusal;
 
-// What is open, by the upper two bits of its control: bit 7 tells data from codes, bit 6 words to the host from words of the host. Control 0 is none.
+// What is open, by the upper two bits of its control: bit 7 tells data from codes, bit 6 words to the host from words of the host. Control 0 is none. Numbers: an enum of the four would be made of a
+// control only to be compared with one of them.
 pub(crate) const COMMAND: u16 = 0;
 
 pub(crate) const RESPONSE: u16 = 1;

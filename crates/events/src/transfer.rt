@@ -138,15 +138,13 @@ fn copy(
     requires { Within sectors.old staging.now start first header fields_at count }
     ensures { sectors.new ≡ fielded sectors.old staging.now start first header fields_at (count - header) }
 {
-    let mut k = first;
     let mut at = start + first;
-    while k < count {
+    for k in first..count {
         if k == header {
             at = fields_at;
         }
         sectors[at] = staging[k];
         at += 1;
-        k += 1;
     }
 }
 

@@ -11,7 +11,7 @@ pub(crate) fn same_words(a: &[u16], i: usize, b: &[u16], k: usize, n: usize) -> 
     walk(a, i, b, k, n) == n
 }
 
-// One walk over both runs: it hands back how many words it walked over before it stopped, at the first difference or behind the last word.
+// One walk over both runs (a chain of `zip`, `take_while` and `count` is no plainer): it hands back how many words it walked over before it stopped, at the first difference or behind the last word.
 fn walk(a: &[u16], i: usize, b: &[u16], k: usize, n: usize) -> usize
     requires { (i + n ≤ length a.now) × (k + n ≤ length b.now) }
     ensures { result ≡ alike (take n (drop i a.now)) (take n (drop k b.now)) }

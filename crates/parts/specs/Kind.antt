@@ -5,7 +5,6 @@ use Rattle.parts.specs.declared.setup.Place.{Place}
 use Rattle.parts.specs.declared.event.Event.{Event}
 use Rattle.parts.specs.declared.kind.Kind.{Kind}
 use Rattle.parts.specs.declared.kind.Kind.TheVariants.{Select, Deselect, Reset, Unknown, Use}
-use Rattle.parts.specs.declared.kind.Work.{Work}
 use Rattle.parts.specs.declared.kind.Work.TheVariants.{DataControl, WordFromHost, TakeWord, End, Position, Target, ReadStatus}
 
 -- "1 Select(octet), 2 Deselect, 3 Data control(octet), 4 Word from host, 5 Take a word, 6 End, 7 Position(cylinder, head, sector),

@@ -9,7 +9,7 @@ pub enum Hold {
     Strong,
 }
 
-// Ports are 0 and 1.
+// Ports are 0 and 1. A number and no Option: row 11 judges any word that is handed in for a port.
 pub const NOBODY: u16 = 2;
 
 #[derive(Clone, Copy, Debug, PartialEq, Eq)]

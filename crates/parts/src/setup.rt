@@ -20,6 +20,7 @@ pub struct Place {
     pub sector: u16,
 }
 
+// A number and no Option: row 11 judges any word that is handed in for a target.
 pub const NO_TARGET: u16 = 0xFFFF;
 
 const MOST_CYLINDERS: u16 = 4096;

@@ -14,4 +14,4 @@ pub bounds-out-10 : goal.bounds-out-10
 bounds-out-10 c = simp length-set (omega (arith, c.requires))
 
 pub returns : goal.returns
-returns c = rw c.from.ensures (response_over _ _ _ _ _ (c.put_done.ensures))
+returns c = rw (c.from.ensures, c.word.ensures) (response_over _ _ _ _ _ (c.put_done.ensures))

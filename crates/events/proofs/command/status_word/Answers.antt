@@ -6,7 +6,7 @@ use Rattle.events.proofs.command.status_word.Goals as goal
 
 pub returns-in-0 : goal.returns-in-0
 returns-in-0 c =
-    rw (c.in-0.is, c.octet0.ensures, c.pending_in-pending.ensures, pending_at _ _ c.requires.1)
+    rw (c.in-0.is, c.word.ensures, c.octet0.ensures, c.pending_in-pending.ensures, pending_at _ _ c.requires.1)
 
 pub returns-in-1 : goal.returns-in-1
 returns-in-1 c =

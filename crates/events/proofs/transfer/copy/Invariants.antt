@@ -1,6 +1,6 @@
 -- `copy` meets its contract: after k words, those before k are in their places.
 -- Assumes nothing.
-use Rattle.std.proofs.Common.{◌≡◌, ℕ, ◌-◌, ◌≤◌, List, length}
+use Rattle.std.proofs.Common.{◌≡◌, ℕ, ◌≤◌, List, length}
 use Rattle.events.proofs.Committing.{Committing}
 use Rattle.events.proofs.transfer.copy.Given as goal
 
@@ -13,6 +13,3 @@ pub record Copied (start first header fields count : ℕ) (staging sectors₀ se
 
 abbrev pub invariant-loop-k : goal.invariant-loop-k
 invariant-loop-k l = Copied l.start l.first l.header l.fields_at l.count l.staging l.initial.sectors l.sectors l.k l.at
-
-abbrev pub decreases-loop-k : goal.decreases-loop-k
-decreases-loop-k l = l.count - l.k
