@@ -20,6 +20,6 @@ pub use event::{Event, changes_mode, is_misaddressed};
 pub use holding::{Hold, Holding, NOBODY, granted_to, no_holding};
 pub use kind::{Kind, Work};
 pub use pending::{Fault, Pending, RESET_COMPLETE};
-pub use refusal::{SLICE_TOO_SHORT, inside_refusal, select_refusal};
+pub use refusal::{inside_refusal, select_refusal};
 pub use setup::{NO_TARGET, Place, Setup, next_of};
 pub use transfer::{Parameters, Transfer, no_transfer};

@@ -6,8 +6,6 @@ ghost use Rattle.parts.specs.Tests.{inside_rows, select_rows};
 
 use refusals::Refusal;
 
-pub const SLICE_TOO_SHORT: u8 = 10;
-
 // Kinds 2 to 9: 8, then 2, then 7.
 pub fn inside_refusal(formed: bool, selected: bool, untimely: bool) -> Result<(), Refusal>
     ensures { refusal_in result ≡ first (inside_rows formed selected untimely) }
