@@ -1,9 +1,9 @@
 -- What the words of a state that rows 11 and 10 let pass say of its sector and of its open transfer.
 -- Assumes nothing.
-use Rattle.std.proofs.Common.{◌≡◌, ℕ, ◌+◌, ◌<◌, true, false, eqb, List, length, get_or, set, sym, refl, ◌∙◌, arith, length-set, eq-eqb, ne_eqb}
+use Rattle.std.proofs.Common.{◌≡◌, ℕ, ◌+◌, ◌<◌, true, false, eqb, List, length, get_or, set, sym, refl, ◌∙◌, arith, length-set, eq-eqb, ne_eqb, ◌%◌, ◌^◌}
 use Rattle.laws.specs.Pick.{pick}
 use Rattle.status.specs.declared.drive_status.DriveStatus.TheVariants.{Normal, HeaderMiscompare}
-use Rattle.parts.specs.Setup.{within_limits, sector_start, sector_at, is_place}
+use Rattle.parts.specs.Setup.{sector_start, sector_at}
 use Rattle.parts.specs.declared.transfer.Transfer.{Transfer}
 use Rattle.parts.proofs.ByBits.{writes_take}
 use Rattle.laws.proofs.Tests.{and_l, and_r}
@@ -18,7 +18,7 @@ use Rattle.drive.specs.State.{told, with_transfer, result}
 use Rattle.drive.specs.Transfer.{miscompares, committed, staged, word_taken}
 use Rattle.drive.specs.declared.drive.Drive.{Drive}
 use Rattle.drive.specs.declared.answer.Answer.TheVariants.{Done, Status, Word, LastWord}
-use Rattle.parts.proofs.Bounds.{limits, words_few, words_within}
+use Rattle.parts.proofs.Bounds.{limits, start_exact, words_few, words_within}
 use Rattle.drive.proofs.Own.{able_to_write}
 use Rattle.drive.proofs.Reading.{read_in_place}
 use Rattle.drive.proofs.Sound.{sound, room}
@@ -27,13 +27,13 @@ use Rattle.events.specs.Fit.{Fits}
 
 -- ---- the sector that the state stands at
 
-pub placed : {state sectors staging : List ℕ} → Fits state sectors staging → (s : Setup) (p : Place) → s ≡ (drive_in state).setup → p ≡ (drive_in state).place
-    → (within_limits s ≡ true) × (is_place s p ≡ true)
-placed {state} f s p e q = let k = sound (drive_in state) f.passable.sound in rw (e, q) (k.limits, k.place)
+pub started : {state sectors staging : List ℕ} → Fits state sectors staging → (s : Setup) (p : Place) (start : ℕ) → s ≡ (drive_in state).setup
+    → p ≡ (drive_in state).place → start ≡ sector_start s p % 2 ^ 64 → start ≡ sector_start s p
+started {state} f s p start e q b = let k = sound (drive_in state) f.passable.sound in b ∙ rw (e, q) (start_exact _ _ k.limits k.place)
 
 pub has_room : {state sectors staging : List ℕ} → Fits state sectors staging → (s : Setup) (p : Place) (start : ℕ) → s ≡ (drive_in state).setup
-    → p ≡ (drive_in state).place → start ≡ sector_start s p → Room s start sectors staging
-has_room {state} {sectors} {staging} f s p start e q b = rw (b, e, q) (room (drive_in state) sectors staging f.passable.sound f.passable.room)
+    → p ≡ (drive_in state).place → start ≡ sector_start s p % 2 ^ 64 → Room s start sectors staging
+has_room {state} {sectors} {staging} f s p start e q b = rw (started f s p start e q b, e, q) (room (drive_in state) sectors staging f.passable.sound f.passable.room)
 
 -- ---- the open transfer
 

@@ -1,6 +1,6 @@
 -- The set-up's numbers are small, so no product of them wraps, and a sector of the drive lies within the words of all sectors. The words to come.
 -- Assumes nothing.
-use Prim.Native.Nat.{ℕ, ◌+◌, ◌*◌, ◌≤◌, ◌<◌}
+use Prim.Native.Nat.{ℕ, ◌+◌, ◌*◌, ◌%◌, ◌^◌, ◌≤◌, ◌<◌}
 use mathlib.Core.Path.{◌≡◌, refl}
 use mathlib.Core.Bool.{Bool, true, false, false≢true}
 use native.Mathlib.Nat.{mul-le-mul, mul-le-mul_right, suc-mul}
@@ -170,3 +170,8 @@ start_small s p l i =
     let f = few_words s l in
     let r = in_range s p i in
     mul-le-mul {n₁ = (p.cylinder * s.heads + p.head) * s.sectors + p.sector} {n₂ = 4096 * 32 * 256} (omega arith) (sector_words_few s l)
+
+-- of a place in the drive, the product does not wrap
+pub start_exact : (s : Setup) (p : Place) → within_limits s ≡ true → is_place s p ≡ true → sector_start s p % 2 ^ 64 ≡ sector_start s p
+unfolding sector_start
+start_exact s p w i = let h = start_small s p (limits s w) (inside s p i) in omega (arith, h)

@@ -1,5 +1,5 @@
 // The set-up: its limits, its sizes, and where a sector's words are.
-ghost use Rattle.std.specs.Prelude.{◌≡◌, true};
+ghost use Rattle.std.specs.Prelude.{◌≡◌, ◌%◌, ◌^◌, true};
 ghost use Rattle.parts.specs.Setup.{between, within_limits, sector_words, all_words, lacks_room, sector_number, sector_start, is_place, is_target, following};
 
 #[derive(Clone, Copy, Debug, PartialEq, Eq)]
@@ -82,20 +82,20 @@ impl Setup {
     }
 
     // The sectors before the one at a place.
+    #[tactic(auto, unfolding(crate::specs::Setup::sector_number))]
     fn sector_number(self, place: Place) -> usize
-        requires { (within_limits self ≡ true) × (is_place self place ≡ true) }
         ensures { result ≡ sector_number self place }
     {
         let track = place.cylinder as usize * self.heads as usize + place.head as usize;
         track * self.sectors as usize + place.sector as usize
     }
 
-    // Where the words of the sector at a place begin.
+    // Where the words of the sector at a place begin. Of numbers outside their limits the product can wrap.
+    #[tactic(auto, unfolding(crate::specs::Setup::sector_start))]
     pub fn sector_start(self, place: Place) -> usize
-        requires { (within_limits self ≡ true) × (is_place self place ≡ true) }
-        ensures { result ≡ sector_start self place }
+        ensures { result ≡ sector_start self place % 2 ^ 64 }
     {
-        self.sector_number(place) * self.sector_words()
+        self.sector_number(place).wrapping_mul(self.sector_words())
     }
 
     pub fn is_target(self, target: u16) -> bool

@@ -2,7 +2,7 @@
 -- Assumes nothing.
 use Rattle.events.proofs.Changes.{word_moved}
 use Rattle.events.proofs.Done.{did_as_in, fit, known}
-use Rattle.events.proofs.Transfers.{differs, has_room, last_word, one_of_more, placed}
+use Rattle.events.proofs.Transfers.{differs, has_room, last_word, one_of_more, started}
 use Rattle.events.specs.State.{drive_in}
 use Rattle.std.proofs.Common.{sym, refl, ◌∙◌}
 use Rattle.events.proofs.transfer.after_word.Goals as goal
@@ -11,10 +11,6 @@ pub returns-then-header_miscompares : goal.returns-then-header_miscompares
 returns-then-header_miscompares c =
     did_as_in _ _ (differs (drive_in c.args.state.now) _ _ _ _ (sym c.header_miscompares.ensures ∙ c.if-header_miscompares.true))
     (record { answer = refl; state = c.end_transfer.ensures; sectors = refl; staging = refl })
-
-pub sector_start-start-requires : goal.sector_start-start-requires
-sector_start-start-requires c =
-    placed c.requires.0 _ _ c.setup_in-setup.ensures c.place_in.ensures
 
 pub commit-requires : goal.commit-requires
 commit-requires c =
@@ -30,7 +26,7 @@ returns-then-is_last c =
     (record {
       answer = refl;
       state = c.end_transfer-then-is_last.ensures;
-      sectors = c.commit.ensures ∙ rw (c.sector_start-start.ensures, c.setup_in-setup.ensures, c.place_in.ensures);
+      sectors = c.commit.ensures ∙ rw ((started c.requires.0 _ _ _ c.setup_in-setup.ensures c.place_in.ensures c.sector_start-start.ensures), c.setup_in-setup.ensures, c.place_in.ensures);
       staging = refl;
     })
 

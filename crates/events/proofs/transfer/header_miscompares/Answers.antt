@@ -7,7 +7,7 @@ use Rattle.parts.specs.declared.setup.Setup.{Setup}
 use Rattle.laws.specs.Lists.{same_list}
 use Rattle.drive.specs.Transfer.{miscompares}
 use Rattle.events.specs.State.{drive_in}
-use Rattle.events.proofs.Transfers.{has_room, placed}
+use Rattle.events.proofs.Transfers.{has_room, started}
 use Rattle.events.proofs.transfer.header_miscompares.Goals as goal
 
 -- the word 3 that the code reads is the header of the set-up that a callee told
@@ -38,10 +38,6 @@ unfolding miscompares drive_in
 returns-then-not-verifies_header c =
     rw (← c.verifies_header.ensures, c.if-not-verifies_header.true)
 
-pub sector_start-start-requires : goal.sector_start-start-requires
-sector_start-start-requires c =
-    placed c.requires _ _ c.setup_in-setup.ensures c.place_in.ensures
-
 pub same_words-requires : goal.same_words-requires
 same_words-requires c =
     let n = header_word _ _ _ c.setup_in-setup.ensures c.if-count-state.false in
@@ -51,5 +47,5 @@ same_words-requires c =
 pub returns : goal.returns
 returns c =
     let state = c.args.state.now in
-    rw (← c.setup_in-setup.ensures, ← c.place_in.ensures, ← c.sector_start-start.ensures, c.same_words.ensures)
+    rw (← c.setup_in-setup.ensures, ← c.place_in.ensures, ← (started c.requires _ _ _ c.setup_in-setup.ensures c.place_in.ensures c.sector_start-start.ensures), c.same_words.ensures)
     (sym (compared _ _ _ _ _ _ (verified state _ c.verifies_header.ensures (c.if-not-verifies_header.false)) (header_word state _ _ c.setup_in-setup.ensures c.if-count-state.false)))

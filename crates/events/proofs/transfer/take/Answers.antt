@@ -2,16 +2,12 @@
 -- Assumes nothing.
 use Rattle.events.proofs.Changes.{word_moved}
 use Rattle.events.proofs.Done.{did_as, fit, known}
-use Rattle.events.proofs.Transfers.{has_room, last_taken_lem, moving, one_taken, placed}
+use Rattle.events.proofs.Transfers.{has_room, last_taken_lem, moving, one_taken, started}
 use Rattle.events.specs.State.{drive_in}
 use Rattle.std.proofs.Common.{sym, refl, ◌∙◌, arith}
 use Rattle.parts.proofs.Bounds.{data_words_lem}
 use Rattle.parts.proofs.ByBits.{read_is_data}
 use Rattle.events.proofs.transfer.take.Goals as goal
-
-pub sector_start-start-requires : goal.sector_start-start-requires
-sector_start-start-requires c =
-    placed c.requires.0 _ _ c.setup_in-setup.ensures c.place_in.ensures
 
 pub word_offset-requires : goal.word_offset-requires
 unfolding drive_in
@@ -52,7 +48,7 @@ pub returns-then-moved-read_words : goal.returns-then-moved-read_words
 unfolding drive_in
 returns-then-moved-read_words c =
     let room = has_room c.requires.0 _ _ _ c.setup_in-setup.ensures c.place_in.ensures c.sector_start-start.ensures in
-    did_as _ _ (last_taken_lem (drive_in c.args.state.now) _ _ _ _ _ _ c.setup_in-setup.ensures c.place_in.ensures c.sector_start-start.ensures room c.word_offset.ensures (c.if-moved-read_words.true ∙ c.read_words.ensures ∙ sym (data_words_lem _ _ (read_is_data _ c.requires.2))))
+    did_as _ _ (last_taken_lem (drive_in c.args.state.now) _ _ _ _ _ _ c.setup_in-setup.ensures c.place_in.ensures (started c.requires.0 _ _ _ c.setup_in-setup.ensures c.place_in.ensures c.sector_start-start.ensures) room c.word_offset.ensures (c.if-moved-read_words.true ∙ c.read_words.ensures ∙ sym (data_words_lem _ _ (read_is_data _ c.requires.2))))
     (record { answer = refl; state = c.end_transfer.ensures })
 
 pub overflow_add-state : goal.overflow_add-state
@@ -64,5 +60,5 @@ pub returns : goal.returns
 unfolding drive_in
 returns c =
     let room = has_room c.requires.0 _ _ _ c.setup_in-setup.ensures c.place_in.ensures c.sector_start-start.ensures in
-    did_as _ _ (one_taken (drive_in c.args.state.now) _ _ _ _ _ _ c.setup_in-setup.ensures c.place_in.ensures c.sector_start-start.ensures room c.word_offset.ensures (λ e. c.if-moved-read_words.false (e ∙ data_words_lem _ _ (read_is_data _ c.requires.2) ∙ sym c.read_words.ensures)))
+    did_as _ _ (one_taken (drive_in c.args.state.now) _ _ _ _ _ _ c.setup_in-setup.ensures c.place_in.ensures (started c.requires.0 _ _ _ c.setup_in-setup.ensures c.place_in.ensures c.sector_start-start.ensures) room c.word_offset.ensures (λ e. c.if-moved-read_words.false (e ∙ data_words_lem _ _ (read_is_data _ c.requires.2) ∙ sym c.read_words.ensures)))
     (record { answer = refl; state = word_moved _ _ c.requires.0.long (known (fit c.requires.0)) })
