@@ -55,7 +55,7 @@ fn put_lines(
     line::put_owner(text, drive.holding.owner);
 }
 
-// The event of the record that starts at an index.
+// The event of the record that starts at an index, as `capture` decodes it.
 fn event_at(records: &[u8], at: usize) -> Event
     requires { at + 8 ≤ length records.now }
     ensures { result ≡ event_of (drop at records.now) }

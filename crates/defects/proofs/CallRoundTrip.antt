@@ -20,7 +20,7 @@ use Rattle.parts.specs.Setup.{within_limits}
 use Rattle.parts.specs.declared.setup.Setup.{Setup}
 use Rattle.defects.specs.Defect.{list_octets}
 use Rattle.defects.specs.Place.{field_octets, data_fields}
-use Rattle.defects.specs.Decoding.{tells, decode_offence, defects_of, map_of, DecodedMap}
+use Rattle.defects.specs.Decoding.{map_told, decode_offence, defects_of, map_of, DecodedMap}
 use Rattle.defects.specs.Encoding.{Value, defects_listed, map_octets, is_encodable, encode_rows, EncodedMap}
 use Rattle.defects.specs.RoundTrip.{tells_of}
 use Rattle.defects.specs.Sectors.{last_cylinder, read_offence, ReadMap, write_rows, WroteMap}
@@ -28,7 +28,7 @@ use Rattle.defects.specs.OnTheCylinder.{CanBePut, with_map}
 use Rattle.defects.specs.CallRoundTrip.{CallRoundTrip}
 use Rattle.defects.specs.declared.decoding.MapRead.{MapRead}
 use Rattle.defects.specs.declared.offence.Offence.{Offence}
-use Rattle.defects.specs.Offence.{Found, on_paper, offence_or, unless_found}
+use Rattle.defects.specs.Offence.{Found, found_on_paper, offence_or, unless_found}
 use Rattle.defects.proofs.Answers.{value_told}
 use Rattle.defects.proofs.Only.{found_only}
 use Rattle.defects.proofs.EncodableValue.{encodable}
@@ -55,16 +55,16 @@ module _ (s : Setup) (cylinder head : ℕ) (defects : List ℕ) where
     -- what tells the value's map gives the octets back
     told_again : (o : Option Found) (octets lent lent' : List ℕ) (r : Result MapRead Offence) → length defects % 12 ≡ 0
         → (offence_or o (map_of s octets) ≡ Ok (tells_of (value_listed cylinder head defects))) × (defects_of s octets ≡ defects_listed defects)
-        → on_paper r ≡ offence_or o (map_of s octets)
+        → found_on_paper r ≡ offence_or o (map_of s octets)
         → lent' ≡ unless_found o lent (written_over lent (list_octets (defects_of s octets)))
-        → (r ≡ Ok (tells (length defects / 12) cylinder head)) × (lent' ≡ written_over lent defects)
+        → (r ≡ Ok (map_told (length defects / 12) cylinder head)) × (lent' ≡ written_over lent defects)
     told_again o octets lent lent' r whole (told, listed) answer slice =
         let (free, is) = value_told o (map_of s octets) (tells_of (value_listed cylinder head defects)) (sym told) in
         (found_only answer (sym (told ∙ rw count)), slice ∙ rw (free, listed, same_octets defects all whole))
 
     decoded_again : (before after lent lent' : List ℕ) (size : ℕ) (r : Result MapRead Offence) → EncodedMap s cylinder head defects before after (Ok size)
         → size / 3 ≤ length lent → DecodedMap s (take size after) lent lent' r
-        → (r ≡ Ok (tells (length defects / 12) cylinder head)) × (lent' ≡ written_over lent defects)
+        → (r ≡ Ok (map_told (length defects / 12) cylinder head)) × (lent' ≡ written_over lent defects)
     decoded_again before after lent lent' size r e room d =
         let v = value_listed cylinder head defects in
         let octets = map_octets s v in
@@ -84,7 +84,7 @@ module _ (s : Setup) (cylinder head : ℕ) (defects : List ℕ) where
 
     read_again : (before after lent lent' : List ℕ) (r : Result MapRead Offence) → WroteMap s cylinder head defects before after (Ok tt)
         → data_fields s * field_octets s / 3 ≤ length lent → ReadMap s after lent lent' r
-        → (r ≡ Ok (tells (length defects / 12) cylinder head)) × (lent' ≡ written_over lent defects)
+        → (r ≡ Ok (map_told (length defects / 12) cylinder head)) × (lent' ≡ written_over lent defects)
     read_again before after lent lent' r e room d =
         let v = value_listed cylinder head defects in
         let rows = write_rows s cylinder head defects before in

@@ -20,7 +20,7 @@ use Rattle.defects.specs.Defect.{behind_all}
 use Rattle.defects.specs.Field.{front_of, is_last, is_ignored, slots, defects_from, defects_in}
 use Rattle.defects.specs.Place.{field_octets, data_fields}
 use Rattle.defects.specs.Walk.{is_ended, field_at, walk_at, is_original, defects_before, map_tests}
-use Rattle.defects.specs.Decoding.{tells, DecodedMap}
+use Rattle.defects.specs.Decoding.{map_told, DecodedMap}
 use Rattle.defects.specs.Encoding.{Value, defects_of_set, defects_before_set, is_unordered, data_field, map_octets, map_length, EncodedMap}
 use Rattle.defects.specs.RoundTrip.{AllFitting}
 use Rattle.defects.specs.Plain.{value_of, PlainSet, Plain, EncodeDecode}
@@ -144,7 +144,7 @@ module _ (s : Setup) (octets : List ℕ) (w : within_limits s ≡ true) (all : A
   both_ways = (encodes_to_itself, λ plain. plain_spelling s octets accepted plain all)
 
 of_the_calls : (s : Setup) (octets lent lent' before after : List ℕ) (count cylinder head : ℕ) (answer : Result ℕ Refusal)
-    → AllOctets octets → DecodedMap s octets lent lent' (Ok (tells count cylinder head))
+    → AllOctets octets → DecodedMap s octets lent lent' (Ok (map_told count cylinder head))
     → map_length s count ≤ length before → EncodedMap s cylinder head (take (12 * count) lent') before after answer
     → (answer ≡ Ok (map_length s count)) × (take (map_length s count) after ≡ octets ↔ Plain s octets)
 of_the_calls s octets lent lent' before after count cylinder head answer all d room e =

@@ -9,7 +9,7 @@ use Rattle.refusals.specs.declared.refusal.Refusal.{Refusal}
 use Rattle.refusals.proofs.OnPaper.{number_only, answer_only, done_only}
 use Rattle.parts.specs.declared.setup.Place.{Place}
 use Rattle.parts.specs.declared.setup.Setup.{Setup}
-use Rattle.defects.specs.Offence.{Found, on_paper}
+use Rattle.defects.specs.Offence.{Found, found_on_paper}
 use Rattle.defects.specs.Defect.{DecodedDefect, EncodedDefect}
 use Rattle.defects.specs.Place.{Placed}
 use Rattle.defects.specs.declared.defect.Defect.{Defect}
@@ -28,10 +28,10 @@ offset_told (Ok value) = 0
 offset_told (Err found) = found.offset
 
 -- an offence on paper is one offence
-pub found_only : {A : Type 0} {r s : Result A Offence} {p : Result A Found} → on_paper r ≡ p → on_paper s ≡ p → r ≡ s
+pub found_only : {A : Type 0} {r s : Result A Offence} {p : Result A Found} → found_on_paper r ≡ p → found_on_paper s ≡ p → r ≡ s
 found_only {r = r} {s = s} p q = same r s (p ∙ sym q)
   where
-    same : {A : Type 0} (r s : Result A Offence) → on_paper r ≡ on_paper s → r ≡ s
+    same : {A : Type 0} (r s : Result A Offence) → found_on_paper r ≡ found_on_paper s → r ≡ s
     same (Ok x) (Ok y) e = cc
     same (Err x) (Err y) e =
         let refusal : x.refusal ≡ y.refusal = number_only (ap number_told e) in

@@ -16,7 +16,7 @@ use Rattle.parts.specs.Setup.{within_limits}
 use Rattle.parts.specs.declared.setup.Setup.{Setup}
 use Rattle.defects.specs.Defect.{defect_octets, list_octets}
 use Rattle.defects.specs.Decoded.{WithoutOffence}
-use Rattle.defects.specs.Decoding.{tells, decode_offence, defects_of, map_of, DecodedMap}
+use Rattle.defects.specs.Decoding.{map_told, decode_offence, defects_of, map_of, DecodedMap}
 use Rattle.defects.specs.Encoding.{list_from, defects_listed, is_encodable, map_length, map_octets, encode_rows, EncodedMap}
 use Rattle.defects.specs.RoundTrip.{AllFitting}
 use Rattle.defects.specs.Plain.{value_of}
@@ -57,12 +57,12 @@ pub record Told (s : Setup) (octets lent' : List ℕ) (count cylinder head : ℕ
   pub head_is : head ≡ (value_of s octets).head
   pub listed : take (12 * count) lent' ≡ list_octets (defects_of s octets)
 
-pub told : (s : Setup) (octets lent lent' : List ℕ) (count cylinder head : ℕ) → DecodedMap s octets lent lent' (Ok (tells count cylinder head))
+pub told : (s : Setup) (octets lent lent' : List ℕ) (count cylinder head : ℕ) → DecodedMap s octets lent lent' (Ok (map_told count cylinder head))
     → Told s octets lent' count cylinder head
 told s octets lent lent' count cylinder head d =
     let o = decode_offence s octets lent in
     let defects = defects_of s octets in
-    let (free, map) = value_told o (map_of s octets) (tells count cylinder head) d.answer in
+    let (free, map) = value_told o (map_of s octets) (map_told count cylinder head) d.answer in
     let (within, others) = none_head _ _ free in
     let many : count ≡ length defects = ap (λ (m : MapRead). m.count) map in
     let written : lent' ≡ written_over lent (list_octets defects) = d.slice ∙ rw free in

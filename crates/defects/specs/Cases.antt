@@ -5,7 +5,7 @@ use Rattle.parts.specs.declared.setup.Setup.{Setup}
 use Rattle.defects.specs.Crc.{crc_of}
 use Rattle.defects.specs.Place.{place_of, place_refusal}
 use Rattle.defects.specs.Offence.{Found}
-use Rattle.defects.specs.Decoding.{tells, decoded_in, defects_of}
+use Rattle.defects.specs.Decoding.{map_told, decoded_in, defects_of}
 use Rattle.defects.specs.Encoding.{Value, map_octets, encode_refusal}
 use Rattle.defects.specs.declared.defect.Defect.{Defect}
 use Rattle.defects.specs.declared.decoding.MapRead.{MapRead}
@@ -36,7 +36,7 @@ abbrev pub decoded : Setup → List ℕ → Result MapRead Found
 decoded s octets = decoded_in s octets (replicate 96 0xFF)
 
 abbrev pub map : ℕ → ℕ → ℕ → Result MapRead Found
-map count cylinder head = Ok (tells count cylinder head)
+map count cylinder head = Ok (map_told count cylinder head)
 
 abbrev pub refused : ℕ → ℕ → Result MapRead Found
 refused n offset = Err (record { number = n; offset = offset })

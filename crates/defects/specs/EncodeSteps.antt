@@ -72,13 +72,15 @@ finished copy field = let body = set (take (length field - 2) field) 3 copy in b
 
 -- ---- data fields put into their places
 
--- In the octets of a map, and in the sector words: where data field k begins, and that so many of them have its place.
+-- Where data field k begins in the octets of a map; in the sector words `field_start` says it.
 abbrev pub octet_start : Setup → ℕ → ℕ
 octet_start s k = k * field_octets s
 
+-- So many octets have its place.
 pub record HasOctets (s : Setup) (k room : ℕ) : Type 0 where
   pub whole : k * field_octets s + field_octets s ≤ room
 
+-- So many sector words have it.
 pub record HasSectors (s : Setup) (k room : ℕ) : Type 0 where
   pub limits : within_limits s ≡ true
   pub inside : k < data_fields s

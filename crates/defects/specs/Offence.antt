@@ -38,11 +38,12 @@ tests_over test i (suc left) = test i ∷ tests_over test (i + 1) left
 
 -- ---- what a call answers
 
-abbrev pub on_paper : {A : Type 0} → Result A Offence → Result A Found
-on_paper (Ok value) = Ok value
-on_paper (Err offence) = Err (record { number = number offence.refusal; offset = offence.offset })
+-- A refusal by its number.
+abbrev pub found_on_paper : {A : Type 0} → Result A Offence → Result A Found
+found_on_paper (Ok value) = Ok value
+found_on_paper (Err offence) = Err (record { number = number offence.refusal; offset = offence.offset })
 
--- Its offence.
+-- The offence of an answer, if it has one.
 abbrev pub offence_in : {A : Type 0} → Result A Offence → Option Found
 offence_in (Ok value) = no_offence
 offence_in (Err offence) = offence_at (number offence.refusal) offence.offset

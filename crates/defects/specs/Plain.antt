@@ -8,7 +8,7 @@ use Rattle.defects.specs.Field.{front_of, is_last, is_flagged, is_ignored, slots
 use Rattle.defects.specs.Place.{field_octets, data_fields}
 use Rattle.defects.specs.Walk.{is_ended, field_at, walk_at, is_original, defects_before}
 use Rattle.refusals.specs.declared.refusal.Refusal.{Refusal}
-use Rattle.defects.specs.Decoding.{tells, defects_of, DecodedMap}
+use Rattle.defects.specs.Decoding.{map_told, defects_of, DecodedMap}
 use Rattle.defects.specs.Decoded.{WithoutOffence}
 use Rattle.defects.specs.Encoding.{Value, is_unordered, is_encodable, map_octets, map_length, EncodedMap}
 
@@ -42,6 +42,6 @@ pub record EncodeDecode : Type 0 where
   -- The same of the calls: what `decode_map` told, handed to `encode_map` with room enough, is written, and what is written are the octets
   -- that were decoded if and only if those are in the plain spelling.
   pub of_the_calls : (s : Setup) (octets lent lent' before after : List ℕ) (count cylinder head : ℕ) (answer : Result ℕ Refusal)
-      → AllOctets octets → DecodedMap s octets lent lent' (Ok (tells count cylinder head))
+      → AllOctets octets → DecodedMap s octets lent lent' (Ok (map_told count cylinder head))
       → map_length s count ≤ length before → EncodedMap s cylinder head (take (12 * count) lent') before after answer
       → (answer ≡ Ok (map_length s count)) × (take (map_length s count) after ≡ octets ↔ Plain s octets)

@@ -6,7 +6,7 @@ use Rattle.parts.specs.declared.setup.Setup.{Setup}
 use Rattle.defects.specs.Offence.{no_offence, first_of}
 use Rattle.defects.specs.DefectRoundTrip.{Fitting}
 use Rattle.defects.specs.Walk.{map_tests}
-use Rattle.defects.specs.Decoding.{tells, defects_of, map_of, decoded_in}
+use Rattle.defects.specs.Decoding.{map_told, defects_of, map_of, decoded_in}
 use Rattle.defects.specs.Encoding.{Value, map_octets, is_encodable}
 use Rattle.defects.specs.declared.defect.Defect.{Defect}
 use Rattle.defects.specs.declared.decoding.MapRead.{MapRead}
@@ -18,7 +18,7 @@ AllFitting (d ∷ defects) = Fitting d × AllFitting defects
 
 -- What a map of this value tells.
 abbrev pub tells_of : Value → MapRead
-tells_of v = tells (length v.defects) v.cylinder v.head
+tells_of v = map_told (length v.defects) v.cylinder v.head
 
 pub record MapRoundTrip : Type 0 where
   -- What was encoded, decoded with room enough lent, gives the value that was encoded.

@@ -7,7 +7,7 @@ use Rattle.parts.specs.Setup.{within_limits, all_words, sector_start}
 use Rattle.parts.specs.declared.setup.Setup.{Setup}
 use Rattle.refusals.specs.Refusal.{refusal_in}
 use Rattle.refusals.specs.declared.refusal.Refusal.{Refusal}
-use Rattle.defects.specs.Offence.{Test, ◌at◌when◌, Found, first_of, on_paper, offence_or, unless_found}
+use Rattle.defects.specs.Offence.{Test, ◌at◌when◌, Found, first_of, found_on_paper, offence_or, unless_found}
 use Rattle.defects.specs.Defect.{list_octets}
 use Rattle.defects.specs.Place.{field_octets, data_fields, place_of}
 use Rattle.defects.specs.Walk.{field_at, map_tests}
@@ -64,7 +64,7 @@ read_in s sectors lent = offence_or (read_offence s sectors lent) (map_of s (las
 
 -- The promise of `read_map`.
 pub record ReadMap (s : Setup) (sectors before after : List ℕ) (r : Result MapRead Offence) : Type 0 where
-  pub answer : on_paper r ≡ read_in s sectors before
+  pub answer : found_on_paper r ≡ read_in s sectors before
   pub slice : after ≡ unless_found (read_offence s sectors before) before (written_over before (list_octets (defects_of s (last_cylinder s sectors))))
 
 -- ---- a map put there

@@ -17,12 +17,12 @@ abbrev pub is_alone : Source → Bool
 is_alone (Octets octets) = true
 is_alone (Sectors sectors) = false
 
--- Sector words are all there.
+-- What it needs: of sector words all, of octets none.
 abbrev pub HasWords : Setup → Source → Type 0
 HasWords s (Octets octets) = Unit
 HasWords s (Sectors sectors) = all_words s ≤ length sectors.now
 
--- A drive within its limits.
+-- A drive within its limits, whose sector words are all there.
 pub record Readable (s : Setup) (source : Source) : Type 0 where
   pub limits : within_limits s ≡ true
   pub words : HasWords s source

@@ -3,7 +3,7 @@ use Rattle.std.specs.Prelude.{ℕ, ◌+◌, ◌*◌, ◌^◌, ◌≤◌, ◌<◌
 use Rattle.laws.specs.Pick.{pick}
 use Rattle.parts.specs.Setup.{within_limits}
 use Rattle.parts.specs.declared.setup.Setup.{Setup}
-use Rattle.defects.specs.Offence.{Test, ◌at◌when◌, no_offence, first_of, tests_over, on_paper, offence_in, offence_or, unless_found}
+use Rattle.defects.specs.Offence.{Test, ◌at◌when◌, no_offence, first_of, tests_over, found_on_paper, offence_in, offence_or, unless_found}
 use Rattle.laws.specs.Lists.{written_over, written_at}
 use Rattle.defects.specs.Defect.{behind, behind_all, list_octets}
 use Rattle.defects.specs.Field.{is_ignored, defects_in}
@@ -88,7 +88,7 @@ pub record MapJudged (s : Setup) (source : Source) (r : Result Judgement Offence
 
 -- The map decoded, once 9 and 10 are passed.
 pub record MapListed (s : Setup) (source : Source) (before after : List ℕ) (r : Result MapRead Offence) : Type 0 where
-  pub answer : on_paper r ≡ offence_or (first_of (map_tests (is_alone source) s (string_in s source))) (map_of s (string_in s source))
+  pub answer : found_on_paper r ≡ offence_or (first_of (map_tests (is_alone source) s (string_in s source))) (map_of s (string_in s source))
   pub slice : after ≡ unless_found (first_of (map_tests (is_alone source) s (string_in s source))) before (written_over before (list_octets (defects_of s (string_in s source))))
 
 -- Behind the last data field of the cylinder.

@@ -3,7 +3,7 @@ use Rattle.std.specs.Prelude.{ℕ, List, [], ◌∷◌, ◌++◌, Ok, Err, repli
 use Rattle.laws.specs.Octets.{octets_of}
 use Rattle.defects.specs.Defect.{DecodedDefect, EncodedDefect}
 use Rattle.defects.specs.Place.{Placed}
-use Rattle.defects.specs.Decoding.{tells, DecodedMap}
+use Rattle.defects.specs.Decoding.{map_told, DecodedMap}
 use Rattle.defects.specs.Encoding.{EncodedMap}
 use Rattle.defects.specs.Sectors.{stored_fields, ReadMap, WroteMap}
 use Rattle.defects.specs.Cases.{narrow, small, no_defects, one_defect, behind_the_last_cylinder, order_broken, copy_three}
@@ -74,17 +74,17 @@ pub record WrongAnswers : Type 0 where
   pub cylinder_below_taken : Placed small 6 (Ok (record { cylinder = 0; head = 1; sector = 0 })) → ⊥
   -- ---- decode_map
   -- The second set lies below the first, and its bit 3 is clear: 24.
-  pub order_broken_taken_lem : (after : List ℕ) → DecodedMap small order_broken (lent 56) after (Ok (tells 2 1 0)) → ⊥
+  pub order_broken_taken_lem : (after : List ℕ) → DecodedMap small order_broken (lent 56) after (Ok (map_told 2 1 0)) → ⊥
   -- The CRC is that of all octets before it: 26.
-  pub crc_of_one_less_taken_lem : (after : List ℕ) → DecodedMap narrow crc_of_one_less (lent 16) after (Ok (tells 0 1 0)) → ⊥
+  pub crc_of_one_less_taken_lem : (after : List ℕ) → DecodedMap narrow crc_of_one_less (lent 16) after (Ok (map_told 0 1 0)) → ⊥
   -- The drive has cylinders 0 and 1: 23.
-  pub cylinder_behind_the_last_taken_lem : (after : List ℕ) → DecodedMap small behind_the_last_cylinder (lent 28) after (Ok (tells 1 1 0)) → ⊥
+  pub cylinder_behind_the_last_taken_lem : (after : List ℕ) → DecodedMap small behind_the_last_cylinder (lent 28) after (Ok (map_told 1 1 0)) → ⊥
   -- The second copy says 03: the offset is that of its octet 3, in the map's octets.
   pub offset_within_the_data_field : (after : List ℕ) → DecodedMap narrow copy_three (lent 16) after (Err (record { refusal = WrongCopy; offset = 3 })) → ⊥
   -- A refusal leaves the lent octets as they were.
   pub listed_before_refused : DecodedMap small order_broken (lent 56) (octets_of 12 0x000000010000000000070009 ++ lent 44) (Err (record { refusal = OutOfSequence; offset = 98 })) → ⊥
   -- Each set is listed once.
-  pub listed_three_times : (after : List ℕ) → DecodedMap small one_defect (lent 28) after (Ok (tells 3 1 0)) → ⊥
+  pub listed_three_times : (after : List ℕ) → DecodedMap small one_defect (lent 28) after (Ok (map_told 3 1 0)) → ⊥
   -- ---- encode_map
   -- An entry at the address of one before it is out of sequence: bit 3.
   pub bit_forgotten : EncodedMap small 1 0 twice (lent 168) without_its_bit (Ok 168) → ⊥
@@ -92,7 +92,7 @@ pub record WrongAnswers : Type 0 where
   pub two_copies_fit : (after : List ℕ) → EncodedMap narrow 1 0 [] (lent 47) after (Ok 48) → ⊥
   -- ---- read_map
   -- The map starts on the last track of the cylinder.
-  pub first_track_read_lem : (after : List ℕ) → ReadMap narrow on_the_first_track (lent 32) after (Ok (tells 0 1 0)) → ⊥
+  pub first_track_read_lem : (after : List ℕ) → ReadMap narrow on_the_first_track (lent 32) after (Ok (map_told 0 1 0)) → ⊥
   -- What stands behind the map is no offence.
   pub rest_of_the_cylinder_judged_lem : (after : List ℕ) → ReadMap narrow on_the_last_track (lent 32) after (Err (record { refusal = BehindTheEnd; offset = 48 })) → ⊥
   -- ---- write_map

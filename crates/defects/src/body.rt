@@ -31,7 +31,7 @@ pub(crate) struct Run {
     pub count: usize,
 }
 
-// One of the defects is out of sequence; the least address that is higher than all of them.
+// One of the defects is out of sequence; the least address that is higher than all of them. Each of the two counts, whatever the other is.
 #[derive(Clone, Copy)]
 pub(crate) struct Order {
     pub unordered: bool,

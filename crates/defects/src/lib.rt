@@ -1,4 +1,5 @@
-// The maker's defect map: its octets, both ways, and its place on the last cylinder.
+// The maker's defect map: its octets, both ways, and its place on the last cylinder. Functions take the set-up first: its type is of another crate, so
+// they cannot be its methods.
 #![tactic(auto)]
 
 mod body;

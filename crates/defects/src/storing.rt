@@ -61,7 +61,7 @@ fn store(words: &mut [u16], at: usize, octets: &[u8])
     }
 }
 
-// The octets go to `out` from the index `at` on.
+// The octets go to `out` from the index `at` on. `capture` has such a function too, one octet a turn; neither crate stands on the other.
 fn put(out: &mut [u8], at: usize, octets: &[u8])
     requires { (at + length octets.now ≤ length out.old) × (length octets.now % 2 ≡ 0) }
     ensures { out.new ≡ written_at out.old at octets.now }

@@ -31,6 +31,7 @@ pub(crate) struct Progress {
     pub least: u64,
 }
 
+// Copies are octets of the map and no enum: any octet can stand there.
 pub(crate) const IGNORED: u8 = 0xFF;
 
 pub(crate) const LAST_COPY: u8 = 2;

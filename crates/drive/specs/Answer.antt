@@ -8,7 +8,7 @@ use Rattle.parts.specs.declared.setup.Place.{Place}
 use Rattle.drive.specs.declared.answer.Answer.{Answer}
 use Rattle.drive.specs.declared.answer.Answer.TheVariants.{Refused, Done, Status, Opened, Word, LastWord, Response}
 
--- "0 normal, 1 busy, 7 header miscompare, 8 operation exception, C unsolicited exception"
+-- "0 normal"
 abbrev pub normal : ℕ
 normal = octet_of Normal
 

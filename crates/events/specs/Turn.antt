@@ -30,7 +30,7 @@ pub record Telling (telling : Bool) (answer : Answer) (out₀ : List ℕ) (r : �
   pub number : r ≡ quietly telling answer
   pub out : out₁ ≡ pick (is_quiet telling answer) out₀ (written_over out₀ (answer_words answer))
 
--- Words that an answer is read from: the status is absent or one that there is.
+-- Words that an answer is read from: the status is absent, or the octet of a status.
 pub record Told (words : List ℕ) : Type 0 where
   pub long : 13 ≤ length words
   pub status : (slice_index words 1 ≢ 0xFFFF) → is_drive_status (slice_index words 1) ≡ true

@@ -115,7 +115,7 @@ fn put_response(octet0: u8, octet1: u8, octet2: u8, out: &mut [u16])
     out[1] = u8::from(DriveStatus::Normal) as u16;
     out[8] = 1;
     out[9] = state::word(octet0, octet1);
-    out[10] = octet2 as u16 * 256;
+    out[10] = state::word(octet2, 0);
 }
 
 fn put_done(out: &mut [u16])

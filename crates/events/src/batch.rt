@@ -1,5 +1,7 @@
 // Events of a capture's records one after another on the words of a state. Rows 11 and 10 are tested once: no event leads a sound drive out of
-// them. A single event is a batch of one that keeps quiet of its refusal, so that the step is compiled in one place.
+// them. A single event is a batch of one that keeps quiet of its refusal, so that the step is compiled in one place; `telling` is a test, since a
+// closure for what becomes of a refusal would have its contract in four functions. The lent slices go down one by one, as C lends them: of a struct each
+// promise would have to name the fields, and say which of them stay.
 ghost use Rattle.std.specs.Prelude.{◌≡◌, ◌*◌, ◌≤◌, length};
 ghost use Rattle.laws.specs.Lists.{written_over};
 ghost use Rattle.drive.specs.Batch.{event_of};
@@ -67,7 +69,7 @@ fn each(
     Ok(())
 }
 
-// The event of the record at the front of the octets.
+// The event of the record at the front of the octets. `bench` has its own by `capture`, on which this crate does not stand.
 fn event_at(octets: &[u8]) -> Event
     requires { 8 ≤ length octets.now }
     ensures { result ≡ event_of octets.now }

@@ -209,7 +209,7 @@ fn status_word(state: &[u16], port: u8, moved: u16) -> u16
     let pending = state::pending_in(state[at]);
     match moved {
         0 => state::word(pending.octet0(), pending.octet1),
-        1 => pending.octet2 as u16 * 256,
+        1 => state::word(pending.octet2, 0),
         _ => 0,
     }
 }

@@ -1,4 +1,7 @@
 // What each kind does that leaves the lent words: its own tests, then its work.
+// `Fit` stays a premise and is no type's invariant: between two writes of one event the words need not be those of a sound state, and that they are
+// behind it is proved once, in `drive` (`stays_sound`). So does `port ≤ 1`: the definitions take an event's port as the octet that it is, and of a type
+// of two ports each promise would have to say the number.
 ghost use Rattle.std.specs.Prelude.{◌≤◌};
 ghost use Rattle.parts.specs.Kind.{word_of, place_of};
 ghost use Rattle.parts.specs.declared.kind.Kind.TheVariants as kind;

@@ -178,5 +178,5 @@ pub(crate) fn pending_word(pending: Pending) -> u16
 pub(crate) fn word(high: u8, low: u8) -> u16
     ensures { result ≡ high * 256 + low }
 {
-    u16::from_be_bytes([high, low])
+    high as u16 * 256 + low as u16
 }

@@ -1,7 +1,7 @@
 -- The first row that holds is the one that is given: both directions, for every table and every number.
 -- Assumes nothing.
-use Prim.Native.Nat.{ℕ, zero, suc, ◌≤◌}
-use mathlib.Core.Path.{◌≡◌, refl, ap, subst, ◌∙◌}
+use Prim.Native.Nat.{ℕ, suc, ◌≤◌}
+use mathlib.Core.Path.{◌≡◌, refl, subst}
 use mathlib.Core.Bool.{Bool, true, false, ◌&&◌}
 use mathlib.Core.List.{List, [], ◌∷◌}
 use mathlib.Core.Logic.{◌↔◌}
@@ -10,7 +10,7 @@ use borrow.Author.Tests.{ltb-true, leb-true}
 use lib.Dec.{ltb, leb}
 use Rattle.laws.specs.Pick.{pick}
 use Rattle.laws.proofs.Tests.{and_l, and_r}
-use Rattle.laws.specs.Rows.{Row, first, Given, here, later, unless_refused, Paper, refused_with, tells, refused_or}
+use Rattle.laws.specs.Rows.{Row, first, Given, here, later}
 
 at_head : (n : ℕ) (row : Row) (rows : List Row) (test : Bool) → row.holds ≡ test → pick test row.number (first rows) ≡ n
     → (first rows ≡ n → Given n rows) → Given n (row ∷ rows)
@@ -30,23 +30,6 @@ first_of_lem (later h g) = rw h (first_of_lem g)
 pub first_is_exact : (n : ℕ) (rows : List Row) → first rows ≡ suc n ↔ Given (suc n) rows
 first_is_exact n rows = (given_of n rows, first_of_lem)
 
--- the number that a call reports is its refusal, if a refused call reports its number and an accepted one 0
-pub reported : {A : Type 0} (report : A → ℕ) (refused : ℕ → A) → ((n : ℕ) → report (refused n) ≡ n)
-    → (refusal : ℕ) (accepted : A) → report accepted ≡ 0 → report (unless_refused refusal (refused refusal) accepted) ≡ refusal
-reported report refused told zero accepted e = e
-reported report refused told (suc n) accepted e = told (suc n)
-
--- how code that computed a refusal meets `unless_refused`: not 0, and it told it; 0, and it did the rest
-pub refused_as : {A : Type 0} (n refusal : ℕ) (told : ℕ → A) (new : A) → n ≡ refusal → (n ≡ 0 → ⊥) → told n ≡ unless_refused refusal (told refusal) new
-refused_as n refusal told new e h = rw (← e) (at n h)
-  where
-    at : (n : ℕ) → (n ≡ 0 → ⊥) → told n ≡ unless_refused n (told n) new
-    at zero h = absurd (h refl)
-    at (suc n) h = refl
-
-pub accepted_as : {A : Type 0} (n refusal : ℕ) (old new x : A) → n ≡ refusal → n ≡ 0 → x ≡ new → x ≡ unless_refused refusal old new
-accepted_as n refusal old new x e z p = rw (← e, z) p
-
 -- no row is given: the first one does not hold, and none of the rest is given
 pub row_off : (test : Bool) (n rest : ℕ) → pick test (suc n) rest ≡ 0 → test ≡ false
 unfolding pick
@@ -58,7 +41,7 @@ unfolding pick
 rows_rest true n rest e = absurd (omega arith)
 rows_rest false n rest e = e
 
--- ---- an answer that is refused by the row that is given, or else is the accepted one
+-- ---- tables whose rows are all numbered, and what none of them holds of
 
 -- every row's number is one that is given: 0 stands for none
 abbrev pub numbered : List Row → Bool
@@ -82,39 +65,6 @@ all_passed (row ∷ rows) n e = at_head row.holds refl e (all_passed rows (and_r
     at_head : (test : Bool) → row.holds ≡ test → pick test row.number (first rows) ≡ 0 → (first rows ≡ 0 → Passed rows) → Passed (row ∷ rows)
     at_head true h e below = absurd (let p = ltb-true 0 row.number (and_l (ltb 0 row.number) (numbered rows) n) in omega arith)
     at_head false h e below = (h, below e)
-
--- an answer that is no refusal is the accepted one, and every test was passed
-pub accepted : {A : Type 0} (rows : List Row) (refused : ℕ → A) (answer new : A) → numbered rows ≡ true → ((n : ℕ) → answer ≡ refused n → ◌≡◌ {A = ℕ} 0 1)
-    → answer ≡ unless_refused (first rows) (refused (first rows)) new → (answer ≡ new) × Passed rows
-accepted {A} rows refused answer new n other e = by_refusal (first rows) refl e
-  where
-    by_refusal : (refusal : ℕ) → first rows ≡ refusal → answer ≡ unless_refused refusal (refused refusal) new → (answer ≡ new) × Passed rows
-    by_refusal zero f e = (e, all_passed rows n f)
-    by_refusal (suc refusal) f e = absurd (let p = other (suc refusal) e in omega arith)
-
--- an answer that is not the accepted one changes nothing
-pub declined : {A B : Type 0} (rows : List Row) (refused : ℕ → A) (answer new : A) (old' new' : B) → (answer ≡ new → ◌≡◌ {A = ℕ} 0 1)
-    → answer ≡ unless_refused (first rows) (refused (first rows)) new → unless_refused (first rows) old' new' ≡ old'
-declined {A} {B} rows refused answer new old' new' other e = by_refusal (first rows) e
-  where
-    by_refusal : (refusal : ℕ) → answer ≡ unless_refused refusal (refused refusal) new → unless_refused refusal old' new' ≡ old'
-    by_refusal zero e = absurd (let p = other e in omega arith)
-    by_refusal (suc refusal) e = refl
-
--- the number that an answer reports is given exactly as the table says, if a refusal reports its number and the accepted answer 0
-pub exactly : {A : Type 0} (report : A → ℕ) (refused : ℕ → A) (new answer : A) (rows : List Row) → ((n : ℕ) → report (refused n) ≡ n) → report new ≡ 0
-    → answer ≡ unless_refused (first rows) (refused (first rows)) new → (n : ℕ) → report answer ≡ suc n ↔ Given (suc n) rows
-exactly report refused new answer rows told z e n = rw (e, reported report refused told (first rows) new z) (first_is_exact n rows)
-
--- an answer on paper: a refusal tells its number, and the accepted answer the value, once every test was passed
-pub seen_on_paper : {A B : Type 0} (paper : A → Paper B) (refused : ℕ → A) (new answer : A) (value : B) (rows : List Row) → numbered rows ≡ true
-    → ((n : ℕ) → paper (refused n) ≡ refused_with n) → (Passed rows → paper new ≡ tells value)
-    → answer ≡ unless_refused (first rows) (refused (first rows)) new → paper answer ≡ refused_or rows value
-seen_on_paper {A} {B} paper refused new answer value rows n told accepted e = ap paper e ∙ by_refusal (first rows) refl
-  where
-    by_refusal : (refusal : ℕ) → first rows ≡ refusal → paper (unless_refused refusal (refused refusal) new) ≡ unless_refused refusal (refused_with refusal) (tells value)
-    by_refusal zero f = accepted (all_passed rows n f)
-    by_refusal (suc refusal) f = told (suc refusal)
 
 -- what holds of every row's number holds of the number that is given
 abbrev pub EachNumber : (ℕ → Type 0) → List Row → Type 0

@@ -97,13 +97,14 @@ step_rows f new = 11 when not (is_reached f) ∷ 8 when ltb 31 new ∷ []
 unfoldable pub step_of : Follower → ℕ → Followed
 step_of f new = unless_refused (first (step_rows f new)) (refused (named (first (step_rows f new))) f) (pick f.lost (while_lost new) (moved f new))
 
--- What is said: while lost as above; else whose move the table has, and "undefined" for a controller's move that lacks its history.
+-- Of a move: whose the table has it, and "undefined" for a controller's that lacks its history.
 abbrev pub said_of : Move → Bool → Answer
 said_of Move.Same lacks = Same
 said_of Move.Controllers lacks = pick lacks Undefined Controllers
 said_of Move.Drives lacks = Drives
 said_of Move.Undefined lacks = Undefined
 
+-- What is said: while lost as above, else of the move.
 unfoldable pub said : Follower → ℕ → Answer
 said f new = pick f.lost (pick (eqb new 0) Idle Lost) (said_of (said_by (entry_of f.setting new)) (lacks_history f new))
 

@@ -52,7 +52,7 @@ pub record MoveSaid (old new : ℕ) (r : Result Move Refusal) : Type 0 where
   pub answer : on_paper r ≡ refused_or (move_rows old new) (said_by (entry_of old new))
 
 -- The table: "It is proved equal to the list, once over all pairs" and "same (32 pairs), controller's (14), drive's (7), undefined (971)". Said of
--- `moves_table`, which is built from the list. The code's constant is this list of 1,024 numbers, as `entry`, which alone reads it, proves.
+-- `moves_table`, which is built from the list. The code's static is this list of 1,024 numbers, as `entry`, which alone reads it, proves.
 pub record TableIsTheList : Type 0 where
   pub entry : (old new : ℕ) → old < 32 → new < 32 → get_or moves_table (32 * old + new) 0 ≡ entry_of old new
   pub same : count_of 0 moves_table ≡ 32

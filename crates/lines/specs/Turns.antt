@@ -40,7 +40,7 @@ controller_takes f new = takes Controllers (is_controllers f new) f new
 abbrev pub drive_takes : Follower → ℕ → Followed
 drive_takes f new = takes Drives (is_drives f new) f new
 
--- The same by the side.
+-- `controller_takes` and `drive_takes` by the side whose turn it is.
 abbrev pub whose : Side → Answer
 whose Side.Controller = Controllers
 whose Side.Drive = Drives

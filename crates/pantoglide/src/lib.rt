@@ -1,4 +1,5 @@
-// The drive, the line follower, captures and the defect map for C and Rust: numbers and lent slices alone. `include/pantoglide.h` is the header.
+// The drive, the line follower, captures and the defect map for C and Rust: numbers and lent slices alone. `include/pantoglide.h` is the header, and the
+// arguments are its own, one for one: seven numbers for a set-up, an octet for an answer.
 #![tactic(auto)]
 
 mod capture_calls;

@@ -95,6 +95,7 @@ fn response_words(code: u16) -> u16
 pub fn function_of(word: u16) -> Function
     ensures { FunctionSaid word result }
 {
+    // By the octets of `to_be_bytes` (tried) the proof did not close.
     if word / 256 != word % 256 {
         return Function::NotListed;
     }

@@ -33,7 +33,7 @@ number NoTrailer = 12
 number WrongMark = 13
 -- "trailer distance no multiple of 8, or more than the length less 8"
 number WrongDistance = 14
--- A defect map: the last cylinder has no further data field.
+-- Those of a defect map, by the rules of docs/DEFECTS.md.
 number NoDataField = 16
 number NotWhole = 17
 number WrongCount = 18
@@ -59,7 +59,7 @@ by_number =
     ∷ OutsideTheDrive ∷ OutOfSequence ∷ NotPadded ∷ WrongCrc ∷ UnlikeCopy0 ∷ BehindTheEnd
     ∷ []
 
--- The refusal with a number.
+-- The refusal with a number; of a number that no refusal has, `Malformed`.
 abbrev pub named : ℕ → Refusal
 named n = get_or by_number n Malformed
 

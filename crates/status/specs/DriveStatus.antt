@@ -36,7 +36,7 @@ status_of octet =
     (pick (eqb octet (octet_of OperationException)) OperationException
     UnsolicitedException)))
 
--- What an octet is refused with: the promise of the conversion of an octet is the refusal, or the status that has it.
+-- 8: "a drive status octet other than 00, 01, 07, 08, 0C". The promise of `try_from` is these rows, or `status_of`.
 abbrev pub octet_rows : ℕ → List Row
 octet_rows octet = 8 when not (is_drive_status octet) ∷ []
 

@@ -1,5 +1,6 @@
 -- `status_word` meets its contract.
 -- Assumes nothing.
+use Rattle.std.proofs.Common.{◌≡◌, ◌*◌, arith}
 use Rattle.events.proofs.Changes.{pending_at}
 use Rattle.events.proofs.Exchanges.{zeros_later}
 use Rattle.events.proofs.command.status_word.Goals as goal
@@ -10,7 +11,8 @@ returns-in-0 c =
 
 pub returns-in-1 : goal.returns-in-1
 returns-in-1 c =
-    rw (c.in-1.is, c.pending_in-pending.ensures, pending_at _ _ c.requires.1)
+    let second : c.word-in-1.result ≡ c.pending_in-pending.result.octet2 * 256 = omega (arith, c.word-in-1.ensures) in
+    rw (c.in-1.is, second, c.pending_in-pending.ensures, pending_at _ _ c.requires.1)
 
 pub returns-in_default : goal.returns-in_default
 returns-in_default c =
