@@ -1,4 +1,4 @@
-// The answer as 13 words, at the front of a lent slice.
+// The answer as 13 words, at the front of a lent slice, which C lends: the answers of a batch stand one behind the other in it.
 ghost use Rattle.std.specs.Prelude.{◌≡◌, true, ◌/◌, ◌%◌, ◌≤◌, length};
 ghost use Rattle.laws.specs.Lists.{written_over};
 ghost use Rattle.drive.specs.AnswerWords.{answer_words, accepted_in, answer_in};

@@ -1,4 +1,4 @@
-// The 21 words of the state: read into a drive, and written from one.
+// The 21 words of the state: read into a drive, and written from one. A slice and no array: C lends it, it may be longer, and the words behind stay.
 ghost use Rattle.std.specs.Prelude.{◌≡◌, ◌+◌, ◌*◌, ◌≤◌, length};
 ghost use Rattle.laws.specs.Lists.{written_over};
 ghost use Rattle.events.specs.State.{hold_word, hold_of, pending_word, pending_in, selected_in, drive_in, state_words, moved_to};
