@@ -67,7 +67,7 @@ pub(crate) fn put_part(text: &mut Text, records: &[u8], from: u32, limit: u32)
     }
 }
 
-// The events before the part are run without telling. The slices are those that the calls of `events` take, as C lends them.
+// The events before the part are run without telling. The slices are lent one by one, as the calls of `events` take them.
 fn run_part(
     records: &[u8],
     from: usize,

@@ -50,7 +50,7 @@ fn trailer_for(distance: u32) -> [u8; TRAILER_LENGTH]
     [d0, d1, d2, d3, m0, m1, m2, m3]
 }
 
-// The octets go to `out` from the index `at` on. Octet by octet: with `copy_from_slice` the archive calls memmove, and it has to call nothing.
+// The octets go to `out` from the index `at` on, as in `defects`, which does not stand on this crate. Octet by octet: with `copy_from_slice` the archive calls memmove, and it has to call nothing.
 fn put(out: &mut [u8], at: usize, octets: &[u8])
     requires { at + length octets.now ≤ length out.old }
     ensures { out.new ≡ written_at out.old at octets.now }

@@ -69,19 +69,9 @@ fn powers_up() -> bool {
         address: 6,
     };
     match drive::power_up(setup, &[0u16; 180], &[0u16; 3]) {
-        Ok(drive) => has_numbers(drive.setup) & is_granted(drive),
+        Ok(drive) => (drive.setup == setup) & is_granted(drive),
         Err(_) => false,
     }
-}
-
-fn has_numbers(setup: Setup) -> bool {
-    (setup.cylinders == 3)
-        & (setup.heads == 4)
-        & (setup.sectors == 5)
-        & (setup.header == 0)
-        & (setup.field1 == 1)
-        & (setup.field2 == 2)
-        & (setup.address == 6)
 }
 
 // Refused with 10 where the sector and staging words are changed over.

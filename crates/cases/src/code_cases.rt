@@ -5,7 +5,7 @@ use crate::row::Answer::{Opened, Refused, Status};
 use crate::row::Row;
 use crate::tally::Tally;
 
-// Two octets for a code, 16 codes in a line: C for a command or R for a response and its words, or the bit of octet 2.
+// Two letters for each code in turn, as the reading has them: C for a command or R for a response and its words, or the bit of octet 2.
 const CODES: [[u8; 2]; 128] = [
     *b"-7", *b"C1", *b"-5", *b"-5", *b"C2", *b"C1", *b"C1", *b"C4", *b"-7", *b"-7", *b"-7", *b"-7",
     *b"-7", *b"-7", *b"-7", *b"-7", *b"-7", *b"-7", *b"-7", *b"-7", *b"-7", *b"-7", *b"-7", *b"-7",
@@ -51,11 +51,9 @@ pub(crate) fn run(tally: Tally) -> Tally {
 // ---- codes
 
 fn are_codes() -> bool {
-    let mut same = true;
-    for (code, &[kind, number]) in (0..128).zip(&CODES) {
-        same = same & is_code(code, kind, number);
-    }
-    same
+    (0..128)
+        .zip(&CODES)
+        .all(|(code, &[kind, number])| is_code(code, kind, number))
 }
 
 // The words and the position are told. Afterwards words pass one way or, where nothing opened, neither way.
@@ -76,11 +74,10 @@ fn is_code(code: u8, kind: u8, number: u8) -> bool {
 
 // Control 0 is no transfer, so these are from 1 on.
 fn are_handed() -> bool {
-    let mut same = true;
-    for (code, &[kind, number]) in (0..128).zip(&CODES).skip(1) {
-        same = same & is_handed(code, kind, number);
-    }
-    same
+    (0..128)
+        .zip(&CODES)
+        .skip(1)
+        .all(|(code, &[kind, number])| is_handed(code, kind, number))
 }
 
 // With all its words moved it is refused, and so is one without words; with one to come it can end.
@@ -102,22 +99,16 @@ fn is_handed(code: u16, kind: u8, number: u8) -> bool {
 // ---- functions
 
 fn are_functions() -> bool {
-    let mut same = true;
-    for (code, &function) in (0u8..=255).zip(&FUNCTIONS) {
-        for hold in 0..3 {
-            same = same & is_function([code, code], function, hold);
-        }
-    }
-    same
+    (0u8..=255).zip(&FUNCTIONS).all(|(code, &function)| (0..3).all(|hold| is_function(
+        [code, code],
+        function,
+        hold,
+    )))
 }
 
 // The second octet is what the first lacks of 255.
 fn are_torn() -> bool {
-    let mut same = true;
-    for code in 0u8..=255 {
-        same = same & is_function([code, 255 - code], b'6', 1);
-    }
-    same
+    (0u8..=255).all(|code| is_function([code, 255 - code], b'6', 1))
 }
 
 fn is_function(octets: [u8; 2], function: u8, hold: u16) -> bool {

@@ -5,9 +5,6 @@ use crate::row::{Answer, Sent};
 // What stands in the answer's words before.
 const UNTOUCHED: u16 = 0x5A5A;
 
-// No status, no words to come, no cylinder, head or sector.
-const ABSENT: u16 = 0xFFFF;
-
 // Accepted, with no status, no words to come, no place, no word and no response.
 const NOTHING: [u16; 13] = [
     0, 0xFFFF, 0xFFFF, 0xFFFF, 0xFFFF, 0xFFFF, 0, 0, 0, 0, 0, 0, 0,

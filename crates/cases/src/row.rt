@@ -50,7 +50,7 @@ pub(crate) enum Row {
 #[derive(Clone, Copy)]
 pub(crate) enum Answer {
     Done,
-    // The number: those of a refusal are the callers' own, and a case says which.
+    // Document 01's own number, and no name that the code under test turns into one.
     Refused(u16),
     // The drive status octet.
     Status(u16),

@@ -26,7 +26,7 @@ pub(crate) enum Answer {
     Undefined,
     Lost,
     Idle,
-    // The number of the refusal.
+    // Document 01's own number.
     Refused(u8),
 }
 

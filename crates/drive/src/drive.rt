@@ -14,6 +14,7 @@ pub struct Drive {
     pub place: Place,
     pub target: u16,
     pub transfer: Transfer,
+    // Two fields and no array: `row11`, `posted_on` and the laws name both.
     pub pending0: Pending,
     pub pending1: Pending,
 }

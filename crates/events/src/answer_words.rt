@@ -16,7 +16,7 @@ use status::DriveStatus;
 // How many words an answer has.
 pub const ANSWER_WORDS: usize = 13;
 
-// In the place of a part that the answer does not have.
+// In the place of a part that the answer does not have, as the header tells C: a word and no Option.
 pub const ABSENT: u16 = 0xFFFF;
 
 // The words of the answer. A refusal that is not to tell writes nothing, and is handed back. Inlined: an answer that is handed to a call is packed

@@ -69,7 +69,8 @@ fn each(
     Ok(())
 }
 
-// The event of the record at the front of the octets. `bench` has its own by `capture`, on which this crate does not stand.
+// The event of the record at the front of the octets. `bench` has its own by `capture::decode_record`, which reads the tick too and tests a length
+// that is known here.
 fn event_at(octets: &[u8]) -> Event
     requires { 8 ≤ length octets.now }
     ensures { result ≡ event_of octets.now }

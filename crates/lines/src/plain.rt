@@ -142,6 +142,7 @@ fn is_controllers(follower: Follower, new: u8) -> bool
     if follower.lost {
         return false;
     }
+    // By number, as the quote lists them.
     let history = follower.history;
     match follower.setting {
         0 => (new == 4) | (new == 1) | (new == 16),

@@ -13,7 +13,7 @@ pub(crate) fn entry(old: u8, new: u8) -> Move
 }
 
 // An entry says of its pair: 0 same, 1 controller's, 2 drive's, 3 undefined. The listed moves are named beside theirs.
-// Numbers, as `TableIsTheList` counts them in `moves_table`.
+// Numbers, since document 01 asks for a table of small numbers.
 static MOVES: [u8; 1024] = [
     // from setting 0
     0, 1, // 0→1

@@ -5,7 +5,7 @@ ghost use Rattle.pantoglide.specs.Line.{setting_in, follower_in, follower_octet,
 use lines::Follower;
 use refusals::Refusal;
 
-// A setting that no trace reaches.
+// A setting that no trace reaches. A number and no Option: bit 7 of C's octet stands for no follower.
 const NO_SETTING: u8 = 32;
 
 const HISTORY: u8 = 32;
@@ -25,7 +25,7 @@ pub fn pg_line(follower: &mut [u8], setting: u8) -> u8
     followed.octet()
 }
 
-// The follower and its octet: functions, since `From` would have to stand in `lines`, which knows nothing of octets for C.
+// The follower and its octet: functions, since `From` would have to stand in `lines`, which knows nothing of the follower's octet.
 #[tactic(auto, unfolding(crate::specs::Line::follower_in))]
 pub(crate) fn follower_in(octet: u8) -> Follower
     ensures { result ≡ follower_in octet }

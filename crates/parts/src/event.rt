@@ -3,6 +3,7 @@ ghost use Rattle.std.specs.Prelude.{◌≡◌};
 ghost use Rattle.parts.specs.Kind.{none_after1, none_after2, none_at_all, word_of};
 ghost use Rattle.parts.specs.Tests.{is_misaddressed, changes_mode};
 
+// Four fields and no array: the definitions name each.
 #[derive(Clone, Copy, Debug, PartialEq, Eq)]
 pub struct Event {
     pub port: u8,

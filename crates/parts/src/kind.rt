@@ -23,6 +23,7 @@ pub enum Work {
     ReadStatus,
 }
 
+// No `TryFrom`: `kind_of` gives every number a kind.
 impl From<u8> for Kind {
     ghost from_gives = { λ number kind. kind ≡ kind_of number };
 

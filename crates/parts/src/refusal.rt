@@ -6,7 +6,7 @@ ghost use Rattle.parts.specs.Tests.{inside_rows, select_rows};
 
 use refusals::Refusal;
 
-// Kinds 2 to 9: 8, then 2, then 7.
+// Kinds 2 to 9: 8, then 2, then 7. Here and below the tests are handed in one by one, as the definitions of the rows take them.
 pub fn inside_refusal(formed: bool, selected: bool, untimely: bool) -> Result<(), Refusal>
     ensures { refusal_in result ≡ first (inside_rows formed selected untimely) }
 {

@@ -10,7 +10,7 @@ pub struct Parameters {
     pub word2: u16,
 }
 
-// Control 0 with no words moved is none.
+// Control 0 with no words moved is none. A number and no Option: row 11 judges any word that is handed in for a control.
 #[derive(Clone, Copy, Debug, PartialEq, Eq)]
 pub struct Transfer {
     pub control: u16,

@@ -29,7 +29,7 @@ pub fn replay_input(rt: &(impl Input + Print + Eprint), octets: &mut [u8], text:
     count
 }
 
-// The same of a part, whose arguments are lent as their digits. Where they are no two numbers, nothing is read: who forgot them is told at once.
+// The same of a part (the two have four lines in common, and differ in what is read before and reported after), whose arguments are lent as their digits. Where they are no two numbers, nothing is read: who forgot them is told at once.
 pub fn part_input(
     rt: &(impl Input + Print + Eprint),
     from: &[u8],
