@@ -20,9 +20,9 @@
  * The most stack that a call takes, in octets, its return address included and its arguments not:
  *
  *     pg_power_up 48          pg_event 296          pg_run 248        pg_replay 312
- *     pg_capture 8            pg_make_capture 56
+ *     pg_capture 56           pg_make_capture 64
  *     pg_line 8               pg_lines 56           pg_lines_plain 864
- *     pg_decode_map 5400      pg_encode_map 3000    pg_read_map 5400  pg_write_map 3016
+ *     pg_decode_map 4568      pg_encode_map 2304    pg_read_map 4584  pg_write_map 2320
  *     pg_decode_defect 8      pg_encode_defect 16   pg_map_place 8
  *
  * c/stack.c, c/line_stack.c and c/map_stack.c measured it: on a stack filled with a pattern, how
