@@ -1,7 +1,4 @@
 // The set-up that the arguments give, if it is one.
-ghost use Rattle.std.specs.Prelude.{◌≡◌, leb};
-ghost use Rattle.laws.specs.Pick.{pick};
-
 use parts::Setup;
 use std::rt::Env;
 
@@ -17,26 +14,20 @@ pub(crate) fn read_arguments(env: &impl Env) -> Option<Setup> {
         return None;
     }
     let setup = Setup {
-        cylinders: argument(env, 1),
-        heads: argument(env, 2),
-        sectors: argument(env, 3),
+        cylinders: argument(env, 1)?,
+        heads: argument(env, 2)?,
+        sectors: argument(env, 3)?,
         header: 0,
-        field1: argument(env, 4),
+        field1: argument(env, 4)?,
         field2: 0,
         address: 0,
     };
     setup.within_limits().then_some(setup)
 }
 
-// 0, which is outside the limits of each, where the argument is no number or no word holds it. One that is longer than its room is read as none.
-fn argument(env: &impl Env, index: usize) -> u16 {
+// The argument, if it is a number that a word holds. One that is longer than its room is none.
+fn argument(env: &impl Env, index: usize) -> Option<u16> {
     let mut digits = [0u8; MOST_DIGITS];
-    let length = env.arg(index, &mut digits).unwrap_or(0);
-    numbers::number_of(&digits[..length]).map_or(0, word_of)
-}
-
-fn word_of(number: u32) -> u16
-    ensures { result ≡ pick (leb number 65535) number 0 }
-{
-    u16::try_from(number).unwrap_or(0)
+    let length = env.arg(index, &mut digits).ok()?;
+    u16::try_from(numbers::number_of(&digits[..length])?).ok()
 }

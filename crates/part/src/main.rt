@@ -8,8 +8,6 @@
 // or one line alone: `bad arguments`, `too long`, or `refused N`.
 #![tactic(auto)]
 
-ghost use Rattle.std.specs.Prelude.{◌≤◌, length};
-
 use std::rt::Env;
 
 // FROM and LIMIT.
@@ -20,23 +18,22 @@ fn main(rt: HostRuntime) {
     let mut limit = [0u8; numbers::MOST_DIGITS];
     let mut octets = [0u8; reading::INPUT_LENGTH];
     let mut text = [0u8; bench::LONGEST_REPORT];
-    let from_length = argument(&rt, 1, &mut from);
-    let limit_length = argument(&rt, 2, &mut limit);
     reading::part_input(
         &rt,
-        &from[..from_length],
-        &limit[..limit_length],
+        argument(&rt, 1, &mut from),
+        argument(&rt, 2, &mut limit),
         &mut octets,
         &mut text,
     );
 }
 
-// How long the argument is, 0 where there are not two: no digits are no number. One that is longer than its room is read as none, too.
-fn argument(env: &impl Env, index: usize, digits: &mut [u8]) -> usize
-    ensures { result ≤ length digits.new }
-{
+// The digits of the argument, none where there are not two. One that is longer than its room is read as none, too.
+fn argument<'a>(env: &impl Env, index: usize, digits: &'a mut [u8]) -> &'a [u8] {
     if !reading::has_arguments(env, ARGUMENT_COUNT) {
-        return 0;
+        return &[];
     }
-    env.arg(index, digits).unwrap_or(0)
+    match env.arg(index, digits) {
+        Ok(length) => &digits[..length],
+        Err(_) => &[],
+    }
 }
