@@ -4,9 +4,9 @@ use Prim.Native.Nat.{ℕ, ◌/◌}
 use mathlib.Core.Path.{◌≡◌, refl, sym, ap, ◌∙◌}
 use mathlib.Core.List.{List}
 use lib.ListN.{length}
-use Rattle.std.specs.Prelude.{Ok, Err}
+use Rattle.std.specs.Prelude.{⊤, Result, Ok, Err}
 use Rattle.laws.specs.Rows.{unless_refused}
-use Rattle.refusals.specs.Refusal.{number}
+use Rattle.refusals.specs.Refusal.{number, refusal_in}
 use Rattle.refusals.specs.declared.refusal.Refusal.{Refusal}
 use Rattle.refusals.proofs.OnPaper.{value_given, refusal_given, left_as_it_was}
 use Rattle.parts.specs.declared.setup.Setup.{Setup}
@@ -41,15 +41,10 @@ defect_not_told {octets} {refusal} h e =
     let given = refusal_given (defect_rows octets) refusal (defect_at 0 octets) h.answer in
     record { refusal = e ∙ sym given; cylinder = kept refusal _ _ e; head = kept refusal _ _ e; offset = kept refusal _ _ e; length = kept refusal _ _ e }
 
-pub defect_made : {cylinder head offset length : ℕ} {before after : List ℕ}
-    → EncodedDefect (record { cylinder = cylinder; head = head; offset = offset; length = length }) before after (Ok tt)
-    → DefectMade cylinder head offset length before 0 after
-defect_made h = record { refusal = h.answer; octets = rw (sym h.answer) at h.slice }
-
-pub defect_not_made : {cylinder head offset length n : ℕ} {refusal : Refusal} {before after : List ℕ}
-    → EncodedDefect (record { cylinder = cylinder; head = head; offset = offset; length = length }) before after (Err refusal) → n ≡ number refusal
+pub defect_made : {cylinder head offset length n : ℕ} {before after : List ℕ} {r : Result ⊤ Refusal}
+    → EncodedDefect (record { cylinder = cylinder; head = head; offset = offset; length = length }) before after r → n ≡ refusal_in r
     → DefectMade cylinder head offset length before n after
-defect_not_made h e = record { refusal = e ∙ h.answer; octets = rw (e ∙ h.answer) h.slice }
+defect_made h e = record { refusal = e ∙ h.answer; octets = rw (e ∙ h.answer) h.slice }
 
 pub place_told : {s : Setup} {k : ℕ} {p : Place} {cylinder₀ head₀ sector₀ : ℕ} → Placed s k (Ok p)
     → PlaceTold s k cylinder₀ head₀ sector₀ 0 p.cylinder p.head p.sector
@@ -75,13 +70,9 @@ map_not_made {s} {cylinder} {head} {refusal = refusal} {defects} {before} h e =
     let given = refusal_given (encode_rows s cylinder head defects (length before)) refusal (map_length s (length defects / 12)) h.answer in
     record { refusal = e ∙ sym given; out = rw (e ∙ sym given) h.slice; size = kept refusal _ _ e }
 
-pub map_put : {s : Setup} {cylinder head : ℕ} {defects before after : List ℕ} → WroteMap s cylinder head defects before after (Ok tt)
-    → MapPut s cylinder head defects before 0 after
-map_put h = record { refusal = h.answer; sectors = rw (sym h.answer) at h.sectors }
-
-pub map_not_put : {s : Setup} {cylinder head n : ℕ} {refusal : Refusal} {defects before after : List ℕ} → WroteMap s cylinder head defects before after (Err refusal)
-    → n ≡ number refusal → MapPut s cylinder head defects before n after
-map_not_put h e = record { refusal = e ∙ h.answer; sectors = rw (e ∙ h.answer) h.sectors }
+pub map_put : {s : Setup} {cylinder head n : ℕ} {defects before after : List ℕ} {r : Result ⊤ Refusal} → WroteMap s cylinder head defects before after r
+    → n ≡ refusal_in r → MapPut s cylinder head defects before n after
+map_put h e = record { refusal = e ∙ h.answer; sectors = rw (e ∙ h.answer) h.sectors }
 
 -- ---- calls that report an offence
 

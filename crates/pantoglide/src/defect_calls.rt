@@ -5,6 +5,8 @@ ghost use Rattle.pantoglide.specs.Defects.{DefectTold, DefectMade, PlaceTold};
 use defects::Defect;
 use parts::Setup;
 
+use crate::told::told;
+
 // 0 and the four numbers of the defect; or the refusal and nothing changed.
 pub fn pg_decode_defect(
     octets: &[u8],
@@ -37,10 +39,7 @@ pub fn pg_encode_defect(cylinder: u32, head: u16, offset: u32, length: u16, octe
         offset,
         length,
     };
-    match defects::encode_defect(defect, octets) {
-        Ok(()) => 0,
-        Err(refusal) => u8::from(refusal),
-    }
+    told(defects::encode_defect(defect, octets))
 }
 
 // 0 and the place of a data field of the map, counted from 0; or the refusal and nothing changed.

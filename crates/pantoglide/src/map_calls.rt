@@ -4,6 +4,8 @@ ghost use Rattle.pantoglide.specs.Defects.{MapTold, MapMade, MapReadOff, MapPut}
 
 use parts::Setup;
 
+use crate::told::told;
+
 // 0, the defects at the front of `defects`, how many they are and the storage track; or the first offence and where it lies.
 pub fn pg_decode_map(
     cylinders: u16,
@@ -146,8 +148,5 @@ pub fn pg_write_map(
         field2,
         address,
     };
-    match defects::write_map(setup, storage_cylinder, storage_head, defects, sector_words) {
-        Ok(()) => 0,
-        Err(refusal) => u8::from(refusal),
-    }
+    told(defects::write_map(setup, storage_cylinder, storage_head, defects, sector_words))
 }
