@@ -5,23 +5,25 @@ use mathlib.Core.Path.{◌≡◌, refl, sym, ap, ◌∙◌}
 use mathlib.Core.List.{List}
 use lib.ListN.{length}
 use Rattle.std.specs.Prelude.{⊤, Result, Ok, Err}
+use Rattle.std.proofs.Math.Option.{Option}
 use Rattle.laws.specs.Rows.{unless_refused}
+use Rattle.laws.specs.Lists.{written_over}
 use Rattle.refusals.specs.Refusal.{number, refusal_in}
 use Rattle.refusals.specs.declared.refusal.Refusal.{Refusal}
 use Rattle.refusals.proofs.OnPaper.{value_given, refusal_given, left_as_it_was}
 use Rattle.parts.specs.declared.setup.Setup.{Setup}
 use Rattle.parts.specs.declared.setup.Place.{Place}
-use Rattle.defects.specs.Offence.{number_in, offset_in}
-use Rattle.defects.specs.Defect.{defect_at, defect_rows, DecodedDefect, EncodedDefect}
+use Rattle.defects.specs.Offence.{Found, number_in, offset_in, found_on_paper, offence_or, unless_found}
+use Rattle.defects.specs.Defect.{defect_at, defect_rows, list_octets, DecodedDefect, EncodedDefect}
 use Rattle.defects.specs.Place.{place_of, place_rows, Placed}
-use Rattle.defects.specs.Decoding.{decode_offence, map_of, DecodedMap}
+use Rattle.defects.specs.Decoding.{defects_of, map_of}
 use Rattle.defects.specs.Encoding.{map_length, encode_rows, EncodedMap}
-use Rattle.defects.specs.Sectors.{last_cylinder, read_offence, ReadMap, WroteMap}
+use Rattle.defects.specs.Sectors.{WroteMap}
 use Rattle.defects.specs.declared.defect.Defect.{Defect}
 use Rattle.defects.specs.declared.decoding.MapRead.{MapRead}
 use Rattle.defects.specs.declared.offence.Offence.{Offence}
 use Rattle.defects.proofs.Answers.{offence_told, value_told}
-use Rattle.pantoglide.specs.Defects.{DefectTold, DefectMade, PlaceTold, MapTold, MapMade, MapReadOff, MapPut}
+use Rattle.pantoglide.specs.Defects.{DefectTold, DefectMade, PlaceTold, MapAnswered, MapMade, MapPut}
 
 -- what is lent stays as it was
 kept : {A : Type 0} (refusal : Refusal) {n : ℕ} (old new : A) → n ≡ number refusal → old ≡ unless_refused n old new
@@ -76,38 +78,21 @@ map_put h e = record { refusal = e ∙ h.answer; sectors = rw (e ∙ h.answer) h
 
 -- ---- calls that report an offence
 
-pub map_told : {s : Setup} {octets before after : List ℕ} {map : MapRead} {count₀ cylinder₀ head₀ offset₀ : ℕ} → DecodedMap s octets before after (Ok map)
-    → MapTold s octets before count₀ cylinder₀ head₀ offset₀ 0 after map.count map.storage_cylinder map.storage_head offset₀
-map_told {s} {octets} {before} {map = map} h =
-    let (none, same) = value_told (decode_offence s octets before) (map_of s octets) map h.answer in
-    record { refusal = sym (ap number_in none); defects = rw none at h.slice; count = rw same; cylinder = rw same; head = rw same; offset = refl }
+pub map_told : {s : Setup} {octets before after : List ℕ} {offence : Option Found} {map : MapRead} {count₀ cylinder₀ head₀ offset₀ : ℕ}
+    → found_on_paper (Ok map) ≡ offence_or offence (map_of s octets) → after ≡ unless_found offence before (written_over before (list_octets (defects_of s octets)))
+    → MapAnswered s octets offence before count₀ cylinder₀ head₀ offset₀ 0 after map.count map.storage_cylinder map.storage_head offset₀
+map_told {s} {octets} {offence = offence} {map} answer slice =
+    let (none, same) = value_told offence (map_of s octets) map answer in
+    record { refusal = sym (ap number_in none); defects = rw none at slice; count = rw same; cylinder = rw same; head = rw same; offset = refl }
 
-pub map_not_told : {s : Setup} {octets before after : List ℕ} {offence : Offence} {n count₀ cylinder₀ head₀ offset₀ : ℕ} → DecodedMap s octets before after (Err offence)
-    → n ≡ number offence.refusal → MapTold s octets before count₀ cylinder₀ head₀ offset₀ n after count₀ cylinder₀ head₀ offence.offset
-map_not_told {s} {octets} {before} {offence = offence} h e =
-    let told = offence_told (decode_offence s octets before) (map_of s octets) (Err offence) h.answer in
+pub map_not_told : {s : Setup} {octets before after : List ℕ} {first : Option Found} (offence : Offence) {n count₀ cylinder₀ head₀ offset₀ : ℕ}
+    → found_on_paper (Err offence) ≡ offence_or first (map_of s octets) → after ≡ unless_found first before (written_over before (list_octets (defects_of s octets)))
+    → n ≡ number offence.refusal → MapAnswered s octets first before count₀ cylinder₀ head₀ offset₀ n after count₀ cylinder₀ head₀ offence.offset
+map_not_told {s} {octets} {first = first} offence answer slice e =
+    let told = offence_told first (map_of s octets) (Err offence) answer in
     record {
       refusal = e ∙ ap number_in told;
-      defects = rw (← told) at h.slice ∙ kept offence.refusal _ _ e;
-      count = kept offence.refusal _ _ e;
-      cylinder = kept offence.refusal _ _ e;
-      head = kept offence.refusal _ _ e;
-      offset = ap offset_in told ∙ kept offence.refusal _ _ e;
-    }
-
-pub map_read_off : {s : Setup} {sectors before after : List ℕ} {map : MapRead} {count₀ cylinder₀ head₀ offset₀ : ℕ} → ReadMap s sectors before after (Ok map)
-    → MapReadOff s sectors before count₀ cylinder₀ head₀ offset₀ 0 after map.count map.storage_cylinder map.storage_head offset₀
-map_read_off {s} {sectors} {before} {map = map} h =
-    let (none, same) = value_told (read_offence s sectors before) (map_of s (last_cylinder s sectors)) map h.answer in
-    record { refusal = sym (ap number_in none); defects = rw none at h.slice; count = rw same; cylinder = rw same; head = rw same; offset = refl }
-
-pub map_not_read_off : {s : Setup} {sectors before after : List ℕ} {offence : Offence} {n count₀ cylinder₀ head₀ offset₀ : ℕ} → ReadMap s sectors before after (Err offence)
-    → n ≡ number offence.refusal → MapReadOff s sectors before count₀ cylinder₀ head₀ offset₀ n after count₀ cylinder₀ head₀ offence.offset
-map_not_read_off {s} {sectors} {before} {offence = offence} h e =
-    let told = offence_told (read_offence s sectors before) (map_of s (last_cylinder s sectors)) (Err offence) h.answer in
-    record {
-      refusal = e ∙ ap number_in told;
-      defects = rw (← told) at h.slice ∙ kept offence.refusal _ _ e;
+      defects = rw (← told) at slice ∙ kept offence.refusal _ _ e;
       count = kept offence.refusal _ _ e;
       cylinder = kept offence.refusal _ _ e;
       head = kept offence.refusal _ _ e;

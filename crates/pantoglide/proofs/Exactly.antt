@@ -72,6 +72,6 @@ exactly_when =
       pg_map_place_exactly = λ {s} {k} w n. rw w.refusal (first_is_exact n (place_rows s k));
       pg_decode_map_exactly = λ {s} {octets} {defects₀} w n offset. offence_is_exact (decode_tests s octets defects₀) _ _ _ w.refusal w.offset n offset;
       pg_encode_map_exactly = λ {s} {cylinder} {head} {defects} {out₀} w n. rw w.refusal (first_is_exact n (map.encode_rows s cylinder head defects (length out₀)));
-      pg_read_map_exactly = λ {s} {sectors} {defects₀} w n offset. offence_is_exact (read_tests s sectors defects₀) _ _ _ w.refusal w.offset n offset;
+      pg_read_map_exactly = λ {s} sectors {defects₀} w n offset. offence_is_exact (read_tests s sectors defects₀) _ _ _ w.refusal w.offset n offset;
       pg_write_map_exactly = λ {s} {cylinder} {head} {defects} {sectors₀} w n. rw w.refusal (first_is_exact n (write_rows s cylinder head defects sectors₀));
     }

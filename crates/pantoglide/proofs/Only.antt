@@ -5,9 +5,11 @@ use Prim.Native.Nat.{ℕ}
 use mathlib.Core.Path.{◌≡◌}
 use mathlib.Core.List.{List}
 use Rattle.laws.proofs.Only.{answer_only}
+use Rattle.std.proofs.Math.Option.{Option}
 use Rattle.pantoglide.specs.Capture.{CaptureFound, CaptureMade}
 use Rattle.parts.specs.declared.setup.Setup.{Setup}
-use Rattle.pantoglide.specs.Defects.{DefectTold, DefectMade, PlaceTold, MapTold, MapMade, MapReadOff, MapPut}
+use Rattle.defects.specs.Offence.{Found}
+use Rattle.pantoglide.specs.Defects.{DefectTold, DefectMade, PlaceTold, MapAnswered, MapTold, MapMade, MapReadOff, MapPut}
 use Rattle.lines.specs.Reading.{Read}
 use Rattle.lines.specs.declared.follower.Follower.{Follower}
 use Rattle.pantoglide.specs.Line.{LineFollowed}
@@ -78,12 +80,12 @@ pg_map_place_only h k =
     let e = answer_only h.refusal k.refusal in
     (e, answer_only (rw e at h.cylinder) k.cylinder, answer_only (rw e at h.head) k.head, answer_only (rw e at h.sector) k.sector)
 
-pub pg_decode_map_only : {s : Setup} {octets defects₀ : List ℕ} {count₀ cylinder₀ head₀ offset₀ r r' : ℕ} {defects₁ defects₂ : List ℕ}
+map_only : {s : Setup} {octets : List ℕ} {offence : Option Found} {defects₀ : List ℕ} {count₀ cylinder₀ head₀ offset₀ r r' : ℕ} {defects₁ defects₂ : List ℕ}
     {count₁ cylinder₁ head₁ offset₁ count₂ cylinder₂ head₂ offset₂ : ℕ}
-    → MapTold s octets defects₀ count₀ cylinder₀ head₀ offset₀ r defects₁ count₁ cylinder₁ head₁ offset₁
-    → MapTold s octets defects₀ count₀ cylinder₀ head₀ offset₀ r' defects₂ count₂ cylinder₂ head₂ offset₂
+    → MapAnswered s octets offence defects₀ count₀ cylinder₀ head₀ offset₀ r defects₁ count₁ cylinder₁ head₁ offset₁
+    → MapAnswered s octets offence defects₀ count₀ cylinder₀ head₀ offset₀ r' defects₂ count₂ cylinder₂ head₂ offset₂
     → (r ≡ r') × (defects₁ ≡ defects₂) × (count₁ ≡ count₂) × (cylinder₁ ≡ cylinder₂) × (head₁ ≡ head₂) × (offset₁ ≡ offset₂)
-pg_decode_map_only h k =
+map_only h k =
     let e = answer_only h.refusal k.refusal in (
       e,
       answer_only (rw e at h.defects) k.defects,
@@ -92,6 +94,13 @@ pg_decode_map_only h k =
       answer_only (rw e at h.head) k.head,
       answer_only (rw e at h.offset) k.offset,
     )
+
+pub pg_decode_map_only : {s : Setup} {octets defects₀ : List ℕ} {count₀ cylinder₀ head₀ offset₀ r r' : ℕ} {defects₁ defects₂ : List ℕ}
+    {count₁ cylinder₁ head₁ offset₁ count₂ cylinder₂ head₂ offset₂ : ℕ}
+    → MapTold s octets defects₀ count₀ cylinder₀ head₀ offset₀ r defects₁ count₁ cylinder₁ head₁ offset₁
+    → MapTold s octets defects₀ count₀ cylinder₀ head₀ offset₀ r' defects₂ count₂ cylinder₂ head₂ offset₂
+    → (r ≡ r') × (defects₁ ≡ defects₂) × (count₁ ≡ count₂) × (cylinder₁ ≡ cylinder₂) × (head₁ ≡ head₂) × (offset₁ ≡ offset₂)
+pg_decode_map_only h k = map_only h k
 
 pub pg_encode_map_only : {s : Setup} {cylinder head : ℕ} {defects out₀ : List ℕ} {size₀ r r' : ℕ} {out₁ out₂ : List ℕ} {size₁ size₂ : ℕ}
     → MapMade s cylinder head defects out₀ size₀ r out₁ size₁ → MapMade s cylinder head defects out₀ size₀ r' out₂ size₂
@@ -100,20 +109,12 @@ pg_encode_map_only h k =
     let e = answer_only h.refusal k.refusal in
     (e, answer_only (rw e at h.out) k.out, answer_only (rw e at h.size) k.size)
 
-pub pg_read_map_only : {s : Setup} {sectors defects₀ : List ℕ} {count₀ cylinder₀ head₀ offset₀ r r' : ℕ} {defects₁ defects₂ : List ℕ}
+pub pg_read_map_only : {s : Setup} (sectors : List ℕ) {defects₀ : List ℕ} {count₀ cylinder₀ head₀ offset₀ r r' : ℕ} {defects₁ defects₂ : List ℕ}
     {count₁ cylinder₁ head₁ offset₁ count₂ cylinder₂ head₂ offset₂ : ℕ}
     → MapReadOff s sectors defects₀ count₀ cylinder₀ head₀ offset₀ r defects₁ count₁ cylinder₁ head₁ offset₁
     → MapReadOff s sectors defects₀ count₀ cylinder₀ head₀ offset₀ r' defects₂ count₂ cylinder₂ head₂ offset₂
     → (r ≡ r') × (defects₁ ≡ defects₂) × (count₁ ≡ count₂) × (cylinder₁ ≡ cylinder₂) × (head₁ ≡ head₂) × (offset₁ ≡ offset₂)
-pg_read_map_only h k =
-    let e = answer_only h.refusal k.refusal in (
-      e,
-      answer_only (rw e at h.defects) k.defects,
-      answer_only (rw e at h.count) k.count,
-      answer_only (rw e at h.cylinder) k.cylinder,
-      answer_only (rw e at h.head) k.head,
-      answer_only (rw e at h.offset) k.offset,
-    )
+pg_read_map_only sectors h k = map_only h k
 
 pub pg_write_map_only : {s : Setup} {cylinder head : ℕ} {defects sectors₀ : List ℕ} {r r' : ℕ} {sectors₁ sectors₂ : List ℕ}
     → MapPut s cylinder head defects sectors₀ r sectors₁ → MapPut s cylinder head defects sectors₀ r' sectors₂ → (r ≡ r') × (sectors₁ ≡ sectors₂)

@@ -46,7 +46,7 @@ pub record Exactly : Type 0 where
       → (n offset : ℕ) → (r ≡ suc n) × (offset₁ ≡ offset) ↔ GivenAt (suc n) offset (decode_tests s octets defects₀)
   pub pg_encode_map_exactly : {s : Setup} {cylinder head : ℕ} {defects out₀ : List ℕ} {size₀ r : ℕ} {out₁ : List ℕ} {size₁ : ℕ}
       → MapMade s cylinder head defects out₀ size₀ r out₁ size₁ → (n : ℕ) → r ≡ suc n ↔ Given (suc n) (map.encode_rows s cylinder head defects (length out₀))
-  pub pg_read_map_exactly : {s : Setup} {sectors defects₀ : List ℕ} {count₀ cylinder₀ head₀ offset₀ r : ℕ} {defects₁ : List ℕ} {count₁ cylinder₁ head₁ offset₁ : ℕ}
+  pub pg_read_map_exactly : {s : Setup} (sectors : List ℕ) {defects₀ : List ℕ} {count₀ cylinder₀ head₀ offset₀ r : ℕ} {defects₁ : List ℕ} {count₁ cylinder₁ head₁ offset₁ : ℕ}
       → MapReadOff s sectors defects₀ count₀ cylinder₀ head₀ offset₀ r defects₁ count₁ cylinder₁ head₁ offset₁
       → (n offset : ℕ) → (r ≡ suc n) × (offset₁ ≡ offset) ↔ GivenAt (suc n) offset (read_tests s sectors defects₀)
   pub pg_write_map_exactly : {s : Setup} {cylinder head : ℕ} {defects sectors₀ : List ℕ} {r : ℕ} {sectors₁ : List ℕ}

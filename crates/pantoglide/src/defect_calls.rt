@@ -2,10 +2,9 @@
 ghost use Rattle.drive.specs.Power.{setup_of};
 ghost use Rattle.pantoglide.specs.Defects.{DefectTold, DefectMade, PlaceTold};
 
+use crate::told::told;
 use defects::Defect;
 use parts::Setup;
-
-use crate::told::told;
 
 // 0 and the four numbers of the defect; or the refusal and nothing changed.
 pub fn pg_decode_defect(

@@ -2,9 +2,8 @@
 ghost use Rattle.drive.specs.Power.{setup_of};
 ghost use Rattle.pantoglide.specs.Defects.{MapTold, MapMade, MapReadOff, MapPut};
 
-use parts::Setup;
-
 use crate::told::told;
+use parts::Setup;
 
 // 0, the defects at the front of `defects`, how many they are and the storage track; or the first offence and where it lies.
 pub fn pg_decode_map(

@@ -1,10 +1,10 @@
 -- `pantoglide::map_calls::pg_read_map` meets its contract: what the map tells, or its first offence.
 -- Assumes nothing.
-use Rattle.pantoglide.proofs.Defects.{map_read_off, map_not_read_off}
+use Rattle.pantoglide.proofs.Defects.{map_told, map_not_told}
 use Rattle.pantoglide.proofs.map_calls.pg_read_map.Goals as goal
 
 pub returns-in-Ok : goal.returns-in-Ok
-returns-in-Ok c = map_read_off c.in-Ok.ensures
+returns-in-Ok c = map_told c.in-Ok.ensures.answer c.in-Ok.ensures.slice
 
 pub returns-in-Err : goal.returns-in-Err
-returns-in-Err c = map_not_read_off c.in-Err.ensures c.from.ensures
+returns-in-Err c = map_not_told _ c.in-Err.ensures.answer c.in-Err.ensures.slice c.from.ensures
