@@ -1,4 +1,7 @@
 // The set-up that the arguments give, if it is one.
+ghost use Rattle.std.specs.Prelude.{◌≡◌, leb, Some, None};
+ghost use Rattle.laws.specs.Pick.{pick};
+
 use parts::Setup;
 use std::rt::Env;
 
@@ -10,7 +13,9 @@ const MOST_DIGITS: usize = 5;
 
 // A map has nothing to do with the header, field 2 and the drive's address: any within their limits do.
 pub(crate) fn read_arguments(env: &impl Env) -> Option<Setup> {
-    if !reading::has_arguments(env, ARGUMENT_COUNT) {
+    let last = env.arg(ARGUMENT_COUNT, &mut []);
+    let behind = env.arg(ARGUMENT_COUNT + 1, &mut []);
+    if !reading::has_arguments(last, behind) {
         return None;
     }
     let setup = Setup {
@@ -29,5 +34,12 @@ pub(crate) fn read_arguments(env: &impl Env) -> Option<Setup> {
 fn argument(env: &impl Env, index: usize) -> Option<u16> {
     let mut digits = [0u8; MOST_DIGITS];
     let length = env.arg(index, &mut digits).ok()?;
-    u16::try_from(numbers::number_of(&digits[..length])?).ok()
+    word_of(numbers::number_of(&digits[..length])?)
+}
+
+#[tactic(auto, unfolding(laws::specs::Pick::pick))]
+fn word_of(number: u32) -> Option<u16>
+    ensures { result ≡ pick (leb number 65535) (Some number) None }
+{
+    u16::try_from(number).ok()
 }

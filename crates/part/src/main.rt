@@ -8,6 +8,8 @@
 // or one line alone: `bad arguments`, `too long`, or `refused N`.
 #![tactic(auto)]
 
+ghost use Rattle.std.specs.Prelude.{◌≤◌, length};
+
 use std::rt::Env;
 
 // FROM and LIMIT.
@@ -28,8 +30,12 @@ fn main(rt: HostRuntime) {
 }
 
 // The digits of the argument, none where there are not two. One that is longer than its room is read as none, too.
-fn argument<'a>(env: &impl Env, index: usize, digits: &'a mut [u8]) -> &'a [u8] {
-    if !reading::has_arguments(env, ARGUMENT_COUNT) {
+fn argument<'a>(env: &impl Env, index: usize, digits: &'a mut [u8]) -> &'a [u8]
+    ensures { length result.now ≤ length digits.old }
+{
+    let last = env.arg(ARGUMENT_COUNT, &mut []);
+    let behind = env.arg(ARGUMENT_COUNT + 1, &mut []);
+    if !reading::has_arguments(last, behind) {
         return &[];
     }
     match env.arg(index, digits) {

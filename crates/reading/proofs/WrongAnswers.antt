@@ -1,6 +1,7 @@
--- The wrong answers of `replay_input` and `part_input` break their promises.
+-- The wrong answers of the calls of `reading` break their promises.
 -- Assumes nothing.
-use mathlib.Core.Path.{refl, ap}
+use Rattle.std.proofs.Common.{true≢false, length}
+use mathlib.Core.Path.{refl, ap, sym}
 use mathlib.Core.List.{List}
 use Prim.Native.Nat.{ℕ}
 use native.Mathlib.Omega.{arith}
@@ -19,4 +20,9 @@ wrong_answers =
       count_beyond_the_slice = λ h. omega (arith, h.few);
       bad_arguments_not_told = λ h. told_apart 0 0x62 refl (ap (λ (text : List ℕ). get_or text 0 0) h.told.slice);
       part_not_told = λ h. told_apart 0 0x72 refl (ap (λ (text : List ℕ). get_or text 0 0) h.told.slice);
+      one_more_overlooked = λ h. true≢false h;
+      long_one_overlooked = λ h. true≢false (sym h);
+      counted_beyond_the_room = λ h. omega (arith, h.few);
+      another_octet_read = λ h. told_apart 7 9 refl (ap (λ (octets : List ℕ). get_or octets 0 0) h.read);
+      octet_dropped = λ h. omega (arith, ap length h.read);
     }

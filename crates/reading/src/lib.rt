@@ -1,17 +1,17 @@
 // What the programs do with their arguments, and with standard input and output.
 #![tactic(auto)]
 
-ghost use Rattle.std.specs.Prelude.{◌≤◌, ◌<◌, IfOk, length};
+ghost use Rattle.std.specs.Prelude.{◌≡◌, ◌≤◌, ◌<◌, IfOk, length};
 ghost use Rattle.numbers.specs.Number.{number_in};
 ghost use Rattle.bench.specs.Report.{report_of, part_report_of};
 ghost use Rattle.bench.specs.declared.report.Wanted.TheVariants.{All};
-ghost use Rattle.reading.specs.Input.{InputReplayed};
+ghost use Rattle.reading.specs.Arguments.{is_given, has_arguments};
+ghost use Rattle.reading.specs.Input.{InputReplayed, ReadFull};
 
 use refusals::Refusal;
 use std::env::FillError;
 use std::io;
 use std::io::Read;
-use std::rt::Env;
 
 // The longest capture has 65,536 octets. One more is read, so that a longer one shows: if no more were read than may be there, the front of a capture
 // that is too long would be replayed as if it were whole.
@@ -52,18 +52,22 @@ pub fn part_input(
     count
 }
 
-// Are there so many arguments behind the program's name? No contract says what they are.
-pub fn has_arguments(env: &impl Env, count: usize) -> bool {
-    is_given(env, count) && !is_given(env, count.saturating_add(1))
+// Are there just so many arguments? By what reading the last of them gives, and the one behind it.
+pub fn has_arguments(last: Result<usize, FillError>, behind: Result<usize, FillError>) -> bool
+    ensures { result ≡ has_arguments last behind }
+{
+    is_given(last) & !is_given(behind)
 }
 
-fn is_given(env: &impl Env, index: usize) -> bool {
-    !matches!(env.arg(index, &mut []), Err(FillError::NotPresent))
+fn is_given(read: Result<usize, FillError>) -> bool
+    ensures { result ≡ is_given read }
+{
+    !matches!(read, Err(FillError::NotPresent))
 }
 
 // Reads until the octets are full, or the input ends or a read fails. Behind the octets that were asked for, one more read tells an end from a failure.
-pub fn read_full(input: &mut impl Read, octets: &mut [u8]) -> usize
-    ensures { result ≤ length octets.new }
+pub fn read_full<R: Read>(input: &mut R, octets: &mut [u8]) -> usize
+    ensures { ReadFull (R.remaining input.old) (R.remaining input.new) octets.new result }
 {
     // By `read`: after an early end `read_exact` does not tell how many octets there were.
     let mut count = 0;
