@@ -5,7 +5,7 @@ use mathlib.Core.Path.{refl, ap}
 use mathlib.Core.Bool.{true≢false, false≢true}
 use Rattle.laws.specs.Pick.{pick}
 use Rattle.laws.proofs.Differ.{differ}
-use Rattle.parts.specs.Setup.{within_limits, is_place, is_target, following, all_words, lacks_room}
+use Rattle.parts.specs.Setup.{within_limits, sector_number, sector_start, is_place, is_target, following, all_words, lacks_room}
 use Rattle.parts.specs.Command.{code_of, parameter_words}
 use Rattle.parts.specs.Control.{control_of, header_passes, data_words, words_to_come}
 use Rattle.parts.specs.Holding.{is_busy, released}
@@ -19,7 +19,7 @@ abbrev owner_in : Holding → ℕ
 owner_in h = h.owner
 
 pub wrong_answers : WrongAnswers
-unfolding pick within_limits all_words lacks_room is_place is_target following control_of code_of header_passes data_words parameter_words words_to_come is_busy released with_bit noticed faulted octet0
+unfolding pick within_limits sector_number sector_start all_words lacks_room is_place is_target following control_of code_of header_passes data_words parameter_words words_to_come is_busy released with_bit noticed faulted octet0
 wrong_answers =
     record {
       read_for_d0 = λ h. false≢true h.on_paper;
@@ -89,6 +89,8 @@ wrong_answers =
       room_denied = true≢false;
       sector_without_header = differ refl;
       sector_of_field1 = differ refl;
+      start_of_the_track = differ refl;
+      cylinder_of_one_head = differ refl;
       cylinder_after_the_last = true≢false;
       last_place_refused = false≢true;
       no_target_refused = false≢true;

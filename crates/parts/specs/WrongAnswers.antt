@@ -1,7 +1,7 @@
 -- Wrong answers, two for each call: what a careless programmer would get, and no promise allows.
-use Rattle.std.specs.Prelude.{ℕ, ◌≡◌, true, false}
+use Rattle.std.specs.Prelude.{ℕ, ◌%◌, ◌^◌, ◌≡◌, true, false}
 use Rattle.laws.specs.Rows.{first}
-use Rattle.parts.specs.Setup.{within_limits, sector_words, lacks_room, is_place, no_target, is_target, following}
+use Rattle.parts.specs.Setup.{within_limits, sector_words, sector_start, lacks_room, is_place, no_target, is_target, following}
 use Rattle.parts.specs.Control.{ControlSaid, control_of, is_data, is_write, is_read, names_field1, names_field2, verifies_header, moves_header, is_at_target, part, header_passes, words_to_come}
 use Rattle.parts.specs.Command.{parameter_words, FunctionSaid}
 use Rattle.parts.specs.Holding.{nobody, held, free, is_owned_by_other, is_busy, Granted, NotHeld, Released}
@@ -198,6 +198,11 @@ pub record WrongAnswers : Type 0 where
   pub sector_without_header : 3 ≡ sector_words bench → ⊥
   -- Field 1 is not all.
   pub sector_of_field1 : 2 ≡ sector_words bench → ⊥
+  -- ---- Setup::sector_start
+  -- The last sector of the bench drive is the twelfth, of four words, and the first one of its track the tenth.
+  pub start_of_the_track : 36 ≡ sector_start bench (at 1 1 2) % 2 ^ 64 → ⊥
+  -- Before the second cylinder stand two heads of three sectors, and not one.
+  pub cylinder_of_one_head : 12 ≡ sector_start bench (at 1 0 0) % 2 ^ 64 → ⊥
   -- ---- Setup::is_place
   -- Of 2 cylinders the last is 1.
   pub cylinder_after_the_last : true ≡ is_place bench (at 2 0 0) → ⊥
