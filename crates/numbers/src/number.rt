@@ -1,6 +1,6 @@
 // A number as decimal digits spell it.
 ghost use Rattle.std.specs.Prelude.{◌≡◌};
-ghost use Rattle.numbers.specs.Number.{number_in};
+ghost use Rattle.numbers.specs.Number.{is_digit, number_in};
 
 pub const MOST_DIGITS: usize = 10;
 
@@ -13,7 +13,7 @@ pub fn number_of(digits: &[u8]) -> Option<u32>
     }
     let mut number: u32 = 0;
     for &digit in digits {
-        if !digit.is_ascii_digit() {
+        if !is_digit(digit) {
             return None;
         }
         number = number
@@ -21,4 +21,10 @@ pub fn number_of(digits: &[u8]) -> Option<u32>
             .checked_add(u32::from(digit - b'0'))?;
     }
     Some(number)
+}
+
+fn is_digit(octet: u8) -> bool
+    ensures { result ≡ is_digit octet }
+{
+    matches!(octet, b'0'..=b'9')
 }

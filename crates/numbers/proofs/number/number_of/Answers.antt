@@ -67,27 +67,27 @@ loop-digit-init c =
     let some = eqb-false _ 0 (sym c.is_empty.ensures ∙ c.if-is_empty.false) in
     record { some = omega arith; few = omega arith; small = omega arith; left = refl }
 
-pub returns-then-not-is_ascii_digit : goal.returns-then-not-is_ascii_digit
-returns-then-not-is_ascii_digit c =
-    stopped c.loop-digit.invariant c.loop-digit-test.true (sym c.is_ascii_digit.ensures.value ∙ c.if-not-is_ascii_digit.true)
+pub returns-then-not-is_digit : goal.returns-then-not-is_digit
+returns-then-not-is_digit c =
+    stopped c.loop-digit.invariant c.loop-digit-test.true (sym c.is_digit.ensures ∙ c.if-not-is_digit.true)
 
 pub returns-in_err-checked_mul : goal.returns-in_err-checked_mul
 returns-in_err-checked_mul c =
     let large : c.loop-digit.number * 10 < 4294967296 → ⊥ = c.in_err-checked_mul.ensures in
-    c.from_residual.ensures ∙ overflown c.loop-digit.invariant c.loop-digit-test.true (sym c.is_ascii_digit.ensures.value ∙ c.if-not-is_ascii_digit.false) (omega arith)
+    c.from_residual.ensures ∙ overflown c.loop-digit.invariant c.loop-digit-test.true (sym c.is_digit.ensures ∙ c.if-not-is_digit.false) (omega arith)
 
 pub returns-in_err-number : goal.returns-in_err-number
 returns-in_err-number c =
     let large : c.in_ok-checked_mul.field-0 + c.from.result < 4294967296 → ⊥ = c.in_err-number.ensures in
     let product : c.in_ok-checked_mul.field-0 ≡ c.loop-digit.number * 10 = c.in_ok-checked_mul.ensures.1 in
     c.from_residual-in_err-number.ensures
-    ∙ overflown c.loop-digit.invariant c.loop-digit-test.true (sym c.is_ascii_digit.ensures.value ∙ c.if-not-is_ascii_digit.false) (omega arith)
+    ∙ overflown c.loop-digit.invariant c.loop-digit-test.true (sym c.is_digit.ensures ∙ c.if-not-is_digit.false) (omega arith)
 
 pub loop-digit-preserved : goal.loop-digit-preserved
 loop-digit-preserved c =
     let product = c.in_ok-checked_mul.ensures in
     let sum = c.in_ok-number.ensures in
-    next c.loop-digit.invariant c.loop-digit-test.true (omega arith) (omega arith) (sym c.is_ascii_digit.ensures.value ∙ c.if-not-is_ascii_digit.false)
+    next c.loop-digit.invariant c.loop-digit-test.true (omega arith) (omega arith) (sym c.is_digit.ensures ∙ c.if-not-is_digit.false)
 
 pub returns : goal.returns
 returns c = ended c.loop-digit.invariant (omega arith)
