@@ -41,8 +41,10 @@ pub(crate) fn send(state: &mut [u16], port: u8, word: u16) -> Answer
         return send_only(state, port, t.control, word);
     }
     if moved + 1 == words {
+        // Read anew: with its parameters read above, every word of a command pays for them.
+        let ended = state::transfer_in(&state[..]);
         place::close(state);
-        return Answer::Status(obey(state, port, t, word));
+        return Answer::Status(obey(state, port, ended, word));
     }
     let at = layout::PARAMETER_0 + moved as usize;
     state[at] = word;

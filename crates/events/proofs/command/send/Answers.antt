@@ -31,7 +31,7 @@ pub returns-then-moved-words : goal.returns-then-moved-words
 unfolding parameter_sent
 returns-then-moved-words c =
     did_first _ _ _ _ (sym (eq-eqb _ _ (rw c.transfer_in-t.ensures at (c.if-moved-words.true ∙ c.parameter_words-words.ensures) ∙ sym (code_words _ _ c.requires.2)))) refl
-    (did_closed (λ (d : Drive). obeyed (drive_in c.args.state.now).transfer d c.args.port c.args.word) c.requires.0 c.close.ensures (rw c.transfer_in-t.ensures at c.obey.ensures))
+    (did_closed (λ (d : Drive). obeyed (drive_in c.args.state.now).transfer d c.args.port c.args.word) c.requires.0 c.close.ensures (rw c.transfer_in-ended.ensures at c.obey.ensures))
 
 pub bounds-state-at : goal.bounds-state-at
 bounds-state-at c =
