@@ -1,7 +1,7 @@
 -- The follower states that `is_reached` names: their settings are below 32; no step leaves them; each has a trace.
 -- Assumes nothing.
 use Prim.Native.Nat.{ℕ, ◌<◌}
-use mathlib.Core.Path.{◌≡◌, refl}
+use mathlib.Core.Path.{◌≡◌, refl, ap, ◌∙◌}
 use mathlib.Core.Bool.{Bool, true, false, not, false≢true}
 use mathlib.Core.List.{List, [], ◌∷◌, ◌++◌}
 use native.Mathlib.Omega.{arith}
@@ -73,6 +73,14 @@ pub trace_refused_lem : (f : Follower) (trace : List ℕ) → is_reached f ≡ f
 unfolding after
 trace_refused_lem f [] e = refl
 trace_refused_lem f (new ∷ trace) e = rw (unreached_refused f new e) (trace_refused_lem f trace e)
+
+-- so a follower is one of them behind a trace if it was one before
+pub reached_throughout : (f : Follower) (trace : List ℕ) → is_reached (after f trace) ≡ is_reached f
+reached_throughout f trace = by_test (is_reached f) refl
+  where
+    by_test : (reached : Bool) → is_reached f ≡ reached → is_reached (after f trace) ≡ reached
+    by_test true e = trace_stays f trace e
+    by_test false e = ap is_reached (trace_refused_lem f trace e) ∙ e
 
 pub idle_reached : is_reached idle ≡ true
 unfolding is_reached pick

@@ -1,6 +1,6 @@
 // The follower of one port's lines, by value: a step for each setting that is seen.
 ghost use Rattle.std.specs.Prelude.{◌<◌, ◌≡◌};
-ghost use Rattle.lines.specs.Follower.{told, lacks_history, refused, remembers, undefined_at, while_lost, moved, Started, Stepped, ReachedSaid};
+ghost use Rattle.lines.specs.Follower.{told, is_reached, lacks_history, refused, remembers, undefined_at, while_lost, moved, Started, Stepped, ReachedSaid};
 ghost use Rattle.lines.specs.Reading.{octet_said, OctetSaid};
 
 use crate::moves::Move;
@@ -71,7 +71,16 @@ impl Follower {
     pub fn step(self, setting: u8) -> Followed
         ensures { Stepped self setting result }
     {
-        if !self.is_reached() {
+        self.step_known(self.is_reached(), setting)
+    }
+
+    // The same, where it is known whether a trace leads here: no step leads into those states or out of them, so that a trace asks once.
+    #[inline(always)]
+    pub(crate) fn step_known(self, reached: bool, setting: u8) -> Followed
+        requires { reached ≡ is_reached self }
+        ensures { Stepped self setting result }
+    {
+        if !reached {
             return self.refused(Refusal::UnsoundState);
         }
         if line::LAST_SETTING < setting {

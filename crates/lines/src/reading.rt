@@ -12,10 +12,11 @@ pub fn follow(follower: Follower, trace: &[u8], answers: &mut [u8]) -> Result<Fo
     if answers.len() < trace.len() {
         return Err(Refusal::SliceTooShort);
     }
+    let reached = follower.is_reached();
     let mut last = follower;
     // By index: of what is written under `iter_mut().zip(..)` a proof knows nothing afterwards (tried).
     for (i, setting) in trace.iter().enumerate() {
-        let followed = last.step(*setting);
+        let followed = last.step_known(reached, *setting);
         answers[i] = followed.octet();
         last = followed.follower;
     }
