@@ -19,8 +19,8 @@
  *
  * The most stack that a call takes, in octets, its return address included and its arguments not:
  *
- *     pg_power_up 48          pg_event 296          pg_run 248        pg_replay 312
- *     pg_capture 56           pg_make_capture 64
+ *     pg_power_up 48          pg_event 312          pg_run 264        pg_replay 328
+ *     pg_capture 8            pg_make_capture 64
  *     pg_line 8               pg_lines 56           pg_lines_plain 864
  *     pg_decode_map 4568      pg_encode_map 2304    pg_read_map 4584  pg_write_map 2320
  *     pg_decode_defect 8      pg_encode_defect 16   pg_map_place 8
