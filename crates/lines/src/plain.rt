@@ -32,7 +32,7 @@ pub fn read_plainly(
 }
 
 // One setting, by what the turns go by: what `Follower::step` does by the table. Written out: by `takes` (tried) it is up to 1.7 times
-// the instructions, and no more within 1.15 of plain Rust.
+// the instructions, and at workload f no more within 1.15 of plain Rust.
 pub fn step_plainly(follower: Follower, setting: u8) -> Followed
     ensures { Stepped follower setting result }
 {

@@ -33,8 +33,7 @@ impl Event {
         (self.a0 == 0) & (self.a1 == 0) & (self.a2 == 0) & (self.a3 == 0)
     }
 
-    // A word of two octets, high first. By `from_be_bytes` (tried) a word to the host or from it takes two instructions more in `pg_run`, which misses
-    // its bar of 1.15 then.
+    // A word of two octets, high first. By `from_be_bytes` (tried) a word to the host or from it takes two instructions more in `pg_run`.
     pub fn word(self) -> u16
         ensures { result ≡ word_of self }
     {
